@@ -1,0 +1,12 @@
+-- The laws of the crate's definitions, and what its functions' proofs share.
+pub mod Tests
+pub mod Fields
+pub mod Whole
+pub mod Cut
+pub mod Steps
+pub mod Nearest
+pub mod Casts
+pub mod Order
+pub mod Laws
+pub mod Examples
+pub mod Finite

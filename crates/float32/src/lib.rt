@@ -1,0 +1,219 @@
+// Rust's methods on `f32`, as functions. Each is total, and its contract says its result by a
+// definition of `specs/Meaning.antt`.
+ghost use mathlib.Core.Path.{_≡_};
+ghost use lib.IntN.{pos};
+ghost use lib.Ieee as Ieee;
+ghost use lib.Ieee.{binary32};
+ghost use lib.Ieee.Scale.{finite};
+ghost use Rattle.float32.specs.Meaning.{truncOf, floorOf, ceilOf, roundOf, absOf, signumOf, copysignOf, minOf, maxOf, clampOf};
+
+// x without its sign.
+pub fn abs(x: f32) -> f32
+    ensures { λ r. ⌜ r ≡ absOf x ⌝ }
+{
+    if x != x {
+        x
+    } else {
+        f32::from_bits(f32::to_bits(x) % 0x8000_0000)
+    }
+}
+
+// The smaller of two.
+pub fn min(a: f32, b: f32) -> f32
+    ensures { λ r. ⌜ r ≡ minOf a b ⌝ }
+{
+    if b < a {
+        b
+    } else if a != a {
+        b
+    } else {
+        a
+    }
+}
+
+// The larger of two.
+pub fn max(a: f32, b: f32) -> f32
+    ensures { λ r. ⌜ r ≡ maxOf a b ⌝ }
+{
+    if a < b {
+        b
+    } else if a != a {
+        b
+    } else {
+        a
+    }
+}
+
+// x brought within lo ..= hi.
+pub fn clamp(x: f32, lo: f32, hi: f32) -> f32
+    ensures { λ r. ⌜ r ≡ clampOf x lo hi ⌝ }
+{
+    if lo <= hi {
+        if x < lo {
+            lo
+        } else if hi < x {
+            hi
+        } else {
+            x
+        }
+    } else {
+        x
+    }
+}
+
+// 1 with the sign of x.
+pub fn signum(x: f32) -> f32
+    ensures { λ r. ⌜ r ≡ signumOf x ⌝ }
+{
+    if x != x {
+        x
+    } else if f32::to_bits(x) < 0x8000_0000 {
+        1.0
+    } else {
+        -1.0
+    }
+}
+
+// The size of `magnitude` with the sign of `sign`, of which a NaN counts as plus.
+pub fn copysign(magnitude: f32, sign: f32) -> f32
+    ensures { λ r. ⌜ r ≡ copysignOf magnitude sign ⌝ }
+{
+    let a = abs(magnitude);
+    if sign != sign {
+        a
+    } else if f32::to_bits(sign) < 0x8000_0000 {
+        a
+    } else {
+        -a
+    }
+}
+
+// x without its fraction. With the exponent's field e from 127 to 149, x is 1 or more in size, and
+// the lowest 150 - e digits of its bit pattern are the fraction. Below 127 all but the sign goes.
+pub fn trunc(x: f32) -> f32
+    ensures { λ r. ⌜ r ≡ truncOf x ⌝ }
+{
+    if x != x {
+        return x;
+    }
+    let b: u32 = f32::to_bits(x);
+    let e: u32 = (b >> 23) % 256;
+    if e < 150 {
+        let k: u32 = if e < 127 { 31 } else { 150 - e };
+        f32::from_bits(b - b % (1u32 << k))
+    } else {
+        x
+    }
+}
+
+// The largest whole number that is at most x.
+pub fn floor(x: f32) -> f32
+    ensures { λ r. ⌜ r ≡ floorOf x ⌝ }
+{
+    let t = trunc(x);
+    if x < t { t - 1.0 } else { t }
+}
+
+// The smallest whole number that is at least x.
+pub fn ceil(x: f32) -> f32
+    ensures { λ r. ⌜ r ≡ ceilOf x ⌝ }
+{
+    let t = trunc(x);
+    if t < x { t + 1.0 } else { t }
+}
+
+// The whole number nearest to x, halves away from zero. What is left of x without its whole part is
+// exact. -0 is what leaves each number as it is, a zero's sign too.
+pub fn round(x: f32) -> f32
+    ensures { λ r. ⌜ r ≡ roundOf x ⌝ }
+{
+    let t = trunc(x);
+    let rest = x - t;
+    let step = if 0.5 <= rest {
+        1.0
+    } else if rest <= -0.5 {
+        -1.0
+    } else {
+        -0.0
+    };
+    t + step
+}
+
+// x `as u32`: cut toward zero, brought to the nearest end of the range, and 0 for a NaN. A pattern
+// below that of 2^31 is that of a number from 0 up: its 24 digits times 2^(e - 150). Where e is below
+// 127 that is below 1, and the shift by 31 leaves nothing.
+pub fn to_u32(x: f32) -> u32
+    ensures { λ r. ⌜ r ≡ Ieee.toUnsigned 32 x ⌝ }
+{
+    if x != x {
+        return 0;
+    }
+    let b: u32 = f32::to_bits(x);
+    let digits: u32 = b % 0x80_0000 + 0x80_0000;
+    if b < 0x4f00_0000 {
+        let e: u32 = b >> 23;
+        let k: u32 = if e < 127 { 31 } else { 157 - e };
+        (digits * 128) >> k
+    } else if b < 0x4f80_0000 {
+        digits * 256
+    } else if b < 0x8000_0000 {
+        4294967295
+    } else {
+        0
+    }
+}
+
+// x `as i32`: cut toward zero, brought to the nearest end of the range, and 0 for a NaN.
+pub fn to_i32(x: f32) -> i32
+    ensures { λ r. ⌜ r ≡ Ieee.toSigned 31 x ⌝ }
+{
+    if x != x {
+        return 0;
+    }
+    let b: u32 = f32::to_bits(x);
+    let e: u32 = (b >> 23) % 256;
+    if e < 158 {
+        let k: u32 = if e < 127 { 31 } else { 157 - e };
+        let n: u32 = ((b % 0x80_0000 + 0x80_0000) * 128) >> k;
+        if b < 0x8000_0000 {
+            n as i32
+        } else {
+            0 - (n as i32)
+        }
+    } else if b < 0x8000_0000 {
+        2147483647
+    } else {
+        -2147483648
+    }
+}
+
+// n `as f32`: the nearest `f32`, the even one of two that are as near. Up to 2^24 n is one.
+pub fn of_u32(n: u32) -> f32
+    ensures { λ r. ⌜ r ≡ Ieee.ofInt binary32 (pos n) ⌝ }
+{
+    if n <= 16777216 {
+        n as f32
+    } else {
+        std::num::nearest_u32_to_f32(n)
+    }
+}
+
+// n `as f32`: the nearest `f32`, the even one of two that are as near. Up to 2^24 either way n is
+// one.
+pub fn of_i32(n: i32) -> f32
+    ensures { λ r. ⌜ r ≡ Ieee.ofInt binary32 n ⌝ }
+{
+    if n <= 16777216 {
+        if -16777216 <= n {
+            return n as f32;
+        }
+    }
+    std::num::nearest_i32_to_f32(n)
+}
+
+// Whether x is a number and no infinity. Of an infinity less itself nothing is left to compare.
+pub fn is_finite(x: f32) -> bool
+    ensures { λ r. ⌜ r ≡ finite x ⌝ }
+{
+    x - x == 0.0
+}

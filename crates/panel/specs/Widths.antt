@@ -1,0 +1,18 @@
+-- How wide the records lent are. Definitions only.
+use Prim.Native.Nat.{ℕ}
+
+-- words to a path: box x0, y0, x1, y1 in tiles, then its first tile
+abbrev pub pathWords : ℕ
+pathWords = 5
+
+-- floats to a line: p0.x, p0.y, p1.x, p1.y
+abbrev pub lineFloats : ℕ
+lineFloats = 4
+
+-- words to a reference: line number, then slice number times 65,536 plus step number
+abbrev pub refWords : ℕ
+refWords = 2
+
+-- floats to a segment: point0.x, point0.y, point1.x, point1.y, y_edge
+abbrev pub segmentFloats : ℕ
+segmentFloats = 5

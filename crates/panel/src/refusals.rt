@@ -1,0 +1,50 @@
+// The refusal numbers, each named once in code; specs/Refusals.antt names them for the contracts.
+pub const DONE: u32 = 0;
+
+// 1: lengths that are no whole records, paired slices that differ, a range that is none
+pub const NOT_WHOLE: u32 = 1;
+
+// 2: too many paths, tiles or screen tiles
+pub const TOO_MANY: u32 = 2;
+
+// 3: a box edge over the limit, or edges the wrong way round
+pub const BAD_BOX: u32 = 3;
+
+// 4: a path's tiles before the end of those of the path before it, or past the tiles lent
+pub const BAD_RANGE: u32 = 4;
+
+// 5: a line number over the limit, when counting
+pub const LINE_NUMBER: u32 = 5;
+
+// 6: a coordinate not finite, or too large
+pub const COORDINATE: u32 = 6;
+
+// 7: no such path; in a reference, no such line or one that the walk skips
+pub const NO_SUCH: u32 = 7;
+
+// 8: a step number or a tile's count over its limit
+pub const COUNT_OVER: u32 = 8;
+
+// 9: no room
+pub const NO_ROOM: u32 = 9;
+
+// 10: a step that is no number, or outside its path's box
+pub const OUTSIDE: u32 = 10;
+
+// 11: a backdrop or a running sum leaves i32
+pub const SUM_OVER: u32 = 11;
+
+// 12: a segment end outside its tile
+pub const CROOKED: u32 = 12;
+
+// 13: words or segments past the end of those lent
+pub const PAST_END: u32 = 13;
+
+// 14: an unknown command
+pub const UNKNOWN: u32 = 14;
+
+// 15: too many commands
+pub const TOO_LONG: u32 = 15;
+
+// 16: a screen too narrow, or too few pixels
+pub const BAD_SCREEN: u32 = 16;

@@ -1,0 +1,4 @@
+-- Points, spans and the constants of util.rs. Definitions only.
+pub mod Constants
+pub mod Vec
+pub mod Span
