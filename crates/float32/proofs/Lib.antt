@@ -10,3 +10,5 @@ pub mod Order
 pub mod Laws
 pub mod Examples
 pub mod Finite
+pub mod Ints
+pub mod MinMax

@@ -1,11 +1,14 @@
-// Rust's methods on `f32`, as functions. Each is total, and its contract says its result by a
-// definition of `specs/Meaning.antt`.
+// Rust's methods and casts of `f32`, as functions (docs/RULES.md, "Float meanings"). Each is total and
+// has no `requires`. Its contract says its result by a definition of specs/Meaning.antt, or by the
+// cast that lib.Ieee has.
 ghost use mathlib.Core.Path.{_≡_};
-ghost use lib.IntN.{pos};
+ghost use Prim.Native.Nat.{_^_, _≤_};
+ghost use lib.IntN.{pos, natAbs};
 ghost use lib.Ieee as Ieee;
 ghost use lib.Ieee.{binary32};
 ghost use lib.Ieee.Scale.{finite};
 ghost use Rattle.float32.specs.Meaning.{truncOf, floorOf, ceilOf, roundOf, absOf, signumOf, copysignOf, minOf, maxOf, clampOf};
+ghost use Rattle.float32.specs.Inner.{lostOf};
 
 // x without its sign.
 pub fn abs(x: f32) -> f32
@@ -187,28 +190,60 @@ pub fn to_i32(x: f32) -> i32
     }
 }
 
+// How many of n's lowest binary digits an `f32`, which keeps 24, has no room for. The powers are
+// tried one by one.
+fn lost(n: u32) -> u32
+    ensures { λ r. ⌜ r ≡ lostOf n ⌝ }
+{
+    let mut k: u32 = 0;
+    while 0x100_0000 <= n >> k {
+        k += 1;
+    }
+    k
+}
+
+// n rounded once: to the nearest number of units of 2^k, the even one of two that are as near. The
+// number kept has its leading digit at 2^23, where the exponent's field begins, and adds one to that
+// field; one of 2^24 adds one more.
+fn rounded(n: u32, k: u32) -> f32
+    requires { ⌜ (2 ^ 24 ≤ n) × (k ≡ lostOf n) ⌝ }
+    ensures { λ r. ⌜ r ≡ Ieee.ofInt binary32 (pos n) ⌝ }
+{
+    let unit: u32 = 1u32 << k;
+    let q: u32 = n >> k;
+    let rest: u32 = n % unit;
+    let kept: u32 = if unit < rest * 2 + q % 2 { q + 1 } else { q };
+    f32::from_bits((149 + k) * 0x80_0000 + kept)
+}
+
 // n `as f32`: the nearest `f32`, the even one of two that are as near. Up to 2^24 n is one.
 pub fn of_u32(n: u32) -> f32
     ensures { λ r. ⌜ r ≡ Ieee.ofInt binary32 (pos n) ⌝ }
 {
-    if n <= 16777216 {
+    if n <= 0x100_0000 {
         n as f32
     } else {
-        std::num::nearest_u32_to_f32(n)
+        rounded(n, lost(n))
     }
 }
 
-// n `as f32`: the nearest `f32`, the even one of two that are as near. Up to 2^24 either way n is
-// one.
+// The size of n. That of the lowest is no `i32`, so one is added first, and once more after the cast.
+fn size_of(n: i32) -> u32
+    ensures { λ r. ⌜ r ≡ natAbs n ⌝ }
+{
+    if n < 0 {
+        (0 - (n + 1)) as u32 + 1
+    } else {
+        n as u32
+    }
+}
+
+// n `as f32`, of a number with a sign: its size's, and the sign.
 pub fn of_i32(n: i32) -> f32
     ensures { λ r. ⌜ r ≡ Ieee.ofInt binary32 n ⌝ }
 {
-    if n <= 16777216 {
-        if -16777216 <= n {
-            return n as f32;
-        }
-    }
-    std::num::nearest_i32_to_f32(n)
+    let size = of_u32(size_of(n));
+    if n < 0 { -size } else { size }
 }
 
 // Whether x is a number and no infinity. Of an infinity less itself nothing is left to compare.

@@ -3,3 +3,6 @@ pub mod Limits
 pub mod Refusals
 pub mod Widths
 pub mod Kinds
+pub mod Checks
+pub mod Paths
+pub mod Slots

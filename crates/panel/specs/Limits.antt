@@ -1,4 +1,5 @@
 -- The limits of docs/RULES.md, each named once for the contracts. Definitions only.
+use mathlib.Core.List.{List, [], _∷_}
 use Prim.Native.Nat.{ℕ}
 use lib.Ieee.{Float, binary32, ofBits}
 
@@ -29,6 +30,22 @@ mostSlots = 16777216
 abbrev pub mostCommands : ℕ
 mostCommands = 4096
 
--- 16,384, the size of a coordinate
+-- the size of a coordinate, as a whole number and as the float that code compares with
+abbrev pub coordWhole : ℕ
+coordWhole = 16384
+
 abbrev pub coordMost : Float
 coordMost = ofBits binary32 0x4680_0000
+
+-- all of them, the coordinate's apart
+abbrev pub limits : List ℕ
+limits =
+    mostPaths
+    ∷ mostTiles
+    ∷ edgeMost
+    ∷ mostLines
+    ∷ mostSteps
+    ∷ mostCount
+    ∷ mostSlots
+    ∷ mostCommands
+    ∷ []

@@ -1,4 +1,5 @@
 -- The refusal numbers of docs/RULES.md, each named once for the contracts. Definitions only.
+use mathlib.Core.List.{List, [], _∷_}
 use Prim.Native.Nat.{ℕ}
 
 abbrev pub doneNo : ℕ
@@ -51,3 +52,25 @@ tooLong = 15
 
 abbrev pub badScreen : ℕ
 badScreen = 16
+
+-- all of them, in order
+abbrev pub refusalNumbers : List ℕ
+refusalNumbers =
+    doneNo
+    ∷ notWhole
+    ∷ tooMany
+    ∷ badBox
+    ∷ badRange
+    ∷ lineNumber
+    ∷ coordinate
+    ∷ noSuch
+    ∷ countOver
+    ∷ noRoom
+    ∷ outside
+    ∷ sumOver
+    ∷ crooked
+    ∷ pastEnd
+    ∷ unknown
+    ∷ tooLong
+    ∷ badScreen
+    ∷ []

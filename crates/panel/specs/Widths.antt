@@ -1,4 +1,5 @@
--- How wide the records lent are. Definitions only.
+-- How wide the records lent are, and where a path's words stand. Definitions only.
+use mathlib.Core.List.{List, [], _∷_}
 use Prim.Native.Nat.{ℕ}
 
 -- words to a path: box x0, y0, x1, y1 in tiles, then its first tile
@@ -16,3 +17,33 @@ refWords = 2
 -- floats to a segment: point0.x, point0.y, point1.x, point1.y, y_edge
 abbrev pub segmentFloats : ℕ
 segmentFloats = 5
+
+-- the places of a path's words
+abbrev pub placeX0 : ℕ
+placeX0 = 0
+
+abbrev pub placeY0 : ℕ
+placeY0 = 1
+
+abbrev pub placeX1 : ℕ
+placeX1 = 2
+
+abbrev pub placeY1 : ℕ
+placeY1 = 3
+
+abbrev pub placeFirst : ℕ
+placeFirst = 4
+
+-- all of them
+abbrev pub widths : List ℕ
+widths =
+    pathWords
+    ∷ lineFloats
+    ∷ refWords
+    ∷ segmentFloats
+    ∷ placeX0
+    ∷ placeY0
+    ∷ placeX1
+    ∷ placeY1
+    ∷ placeFirst
+    ∷ []

@@ -1,7 +1,8 @@
 // The kinds of number, and what goes by value between the stages.
 ghost use mathlib.Core.Path.{_≡_};
 ghost use Prim.Native.Nat.{_+_, _<_, _^_};
-ghost use Rattle.panel.specs.Kinds.{steppedOf};
+ghost use Rattle.panel.specs.Kinds.{steppedOf, numberOf, itemOf};
+use super::refusals::DONE;
 
 // A line's number, a tile's and a slot's: three kinds that can't be mixed.
 pub struct LineNo(pub u32);
@@ -42,6 +43,26 @@ impl Running {
 pub enum Answer {
     Done,
     Refused(u32, u32),
+}
+
+// An answer's number: 0, or the refusal's.
+pub fn number(a: Answer) -> u32
+    ensures { λ r. ⌜ r ≡ numberOf a ⌝ }
+{
+    match a {
+        Answer::Done => DONE,
+        Answer::Refused(n, _) => n,
+    }
+}
+
+// The item's number of a refusal, and 0 where nothing is refused.
+pub fn item(a: Answer) -> u32
+    ensures { λ r. ⌜ r ≡ itemOf a ⌝ }
+{
+    match a {
+        Answer::Done => 0,
+        Answer::Refused(_, i) => i,
+    }
 }
 
 // What a check finds: nothing against it, or the number of the refusal.

@@ -1,7 +1,7 @@
 // The limits, each named once in code. specs/Limits.antt names them for the contracts, and the
-// functions below say that the two agree.
+// functions at the end say that the two agree. docs/RULES.md, "When the panel says no".
 ghost use mathlib.Core.Path.{_≡_};
-ghost use Rattle.panel.specs.Limits.{mostPaths, mostTiles, edgeMost, mostLines, mostSteps, mostCount, mostSlots, mostCommands, coordMost};
+ghost use Rattle.panel.specs.Limits.{limits, coordMost};
 
 // Paths, tiles (and screen tiles), a box edge in tiles.
 pub const MOST_PATHS: u32 = 4096;
@@ -26,3 +26,25 @@ pub const MOST_COMMANDS: u32 = 4096;
 
 // A coordinate's size.
 pub const COORD_MOST: f32 = 16384.0;
+
+// All of them, the coordinate's apart.
+pub fn all() -> [u32; 8]
+    ensures { λ r. ⌜ r ≡ limits ⌝ }
+{
+    [
+        MOST_PATHS,
+        MOST_TILES,
+        EDGE_MOST,
+        MOST_LINES,
+        MOST_STEPS,
+        MOST_COUNT,
+        MOST_SLOTS,
+        MOST_COMMANDS,
+    ]
+}
+
+pub fn coord_most() -> f32
+    ensures { λ r. ⌜ r ≡ coordMost ⌝ }
+{
+    COORD_MOST
+}

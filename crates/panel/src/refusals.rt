@@ -1,4 +1,8 @@
-// The refusal numbers, each named once in code; specs/Refusals.antt names them for the contracts.
+// The refusal numbers, each named once in code. specs/Refusals.antt names them for the contracts,
+// and the function at the end says that the two agree. docs/RULES.md, "When the panel says no".
+ghost use mathlib.Core.Path.{_≡_};
+ghost use Rattle.panel.specs.Refusals.{refusalNumbers};
+
 pub const DONE: u32 = 0;
 
 // 1: lengths that are no whole records, paired slices that differ, a range that is none
@@ -48,3 +52,28 @@ pub const TOO_LONG: u32 = 15;
 
 // 16: a screen too narrow, or too few pixels
 pub const BAD_SCREEN: u32 = 16;
+
+// All of them, in order.
+pub fn all() -> [u32; 17]
+    ensures { λ r. ⌜ r ≡ refusalNumbers ⌝ }
+{
+    [
+        DONE,
+        NOT_WHOLE,
+        TOO_MANY,
+        BAD_BOX,
+        BAD_RANGE,
+        LINE_NUMBER,
+        COORDINATE,
+        NO_SUCH,
+        COUNT_OVER,
+        NO_ROOM,
+        OUTSIDE,
+        SUM_OVER,
+        CROOKED,
+        PAST_END,
+        UNKNOWN,
+        TOO_LONG,
+        BAD_SCREEN,
+    ]
+}

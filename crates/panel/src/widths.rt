@@ -1,5 +1,9 @@
-// The widths of the records lent, and the places of a path's words, each named once in code;
-// specs/Widths.antt names them for the contracts.
+// The widths of the records lent, and the places of a path's words, each named once in code.
+// specs/Widths.antt names them for the contracts, and the function at the end says that the two
+// agree. docs/RULES.md, "How the records are lent".
+ghost use mathlib.Core.Path.{_≡_};
+ghost use Rattle.panel.specs.Widths.{widths};
+
 pub const PATH_WORDS: usize = 5;
 
 pub const LINE_FLOATS: usize = 4;
@@ -7,3 +11,31 @@ pub const LINE_FLOATS: usize = 4;
 pub const REF_WORDS: usize = 2;
 
 pub const SEGMENT_FLOATS: usize = 5;
+
+// A path's words: its box's left, top, right and bottom edge, and its first tile.
+pub const PATH_X0: usize = 0;
+
+pub const PATH_Y0: usize = 1;
+
+pub const PATH_X1: usize = 2;
+
+pub const PATH_Y1: usize = 3;
+
+pub const PATH_FIRST: usize = 4;
+
+// All of them.
+pub fn all() -> [usize; 9]
+    ensures { λ r. ⌜ r ≡ widths ⌝ }
+{
+    [
+        PATH_WORDS,
+        LINE_FLOATS,
+        REF_WORDS,
+        SEGMENT_FLOATS,
+        PATH_X0,
+        PATH_Y0,
+        PATH_X1,
+        PATH_Y1,
+        PATH_FIRST,
+    ]
+}

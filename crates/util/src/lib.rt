@@ -5,7 +5,7 @@ ghost use Rattle.util.specs.Vec.{newOf, addOf, subOf, scaleOf};
 ghost use Rattle.util.specs.Span.{spanOf};
 ghost use Rattle.util.specs.Constants.{oneMinusUlp, robustEpsilon, tileScale, tileSide};
 
-// The largest float below 1: util.rs, line 219.
+// The largest float below 1: util.rs, line 220.
 pub const ONE_MINUS_ULP: f32 = 0.99999994;
 
 // What a is moved by where the last step would miss its column: util.rs, line 228.
@@ -17,6 +17,38 @@ pub const TILE_SIDE: f32 = 16.0;
 pub const TILE_PIXELS: u32 = 16;
 
 pub const TILE_SCALE: f32 = 0.0625;
+
+// The constants are those of specs/Constants.antt, bit for bit: that is proved of a function for each.
+pub fn one_minus_ulp() -> f32
+    ensures { λ r. ⌜ r ≡ oneMinusUlp ⌝ }
+{
+    ONE_MINUS_ULP
+}
+
+pub fn robust_epsilon() -> f32
+    ensures { λ r. ⌜ r ≡ robustEpsilon ⌝ }
+{
+    ROBUST_EPSILON
+}
+
+pub fn tile_side() -> f32
+    ensures { λ r. ⌜ r ≡ tileSide ⌝ }
+{
+    TILE_SIDE
+}
+
+pub fn tile_scale() -> f32
+    ensures { λ r. ⌜ r ≡ tileScale ⌝ }
+{
+    TILE_SCALE
+}
+
+// The same number whole and as a float.
+pub fn tile_pixels() -> f32
+    ensures { λ r. ⌜ r ≡ tileSide ⌝ }
+{
+    TILE_PIXELS as f32
+}
 
 // A point, or a way from one point to another.
 pub struct Vec2 {
@@ -59,7 +91,7 @@ impl Vec2 {
     }
 }
 
-// How many whole tiles the way from a to b touches, at least one: util.rs, line 190.
+// How many whole tiles the way from a to b touches, at least one: util.rs, line 196.
 pub fn span(a: f32, b: f32) -> u32
     ensures { λ r. ⌜ r ≡ spanOf a b ⌝ }
 {

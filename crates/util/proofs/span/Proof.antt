@@ -1,4 +1,4 @@
--- `walk::span` meets its contract. Assumes nothing.
+-- `util::span` meets its contract. Assumes nothing.
 use Rattle.util.specs.Span.{spanOf}
 use Rattle.util.proofs.span.Statement.{statement}
 use Rattle.util.proofs.span.Tie as tie

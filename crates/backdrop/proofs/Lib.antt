@@ -1,0 +1,4 @@
+pub mod RowLaws
+pub mod CalmLaws
+pub mod PathSums
+pub mod CellLaws

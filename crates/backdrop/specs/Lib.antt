@@ -1,0 +1,2 @@
+pub mod Backdrop
+pub mod Calm

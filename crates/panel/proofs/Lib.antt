@@ -1,0 +1,4 @@
+pub mod LimitLaws
+pub mod CheckLaws
+pub mod PathLaws
+pub mod KindLaws
