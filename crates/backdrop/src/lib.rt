@@ -11,7 +11,7 @@ use panel::kinds::Answer;
 use panel::refusals::SUM_OVER;
 use panel::widths::PATH_WORDS;
 
-pub mod rows;
+mod rows;
 
 // The paths, n of them and checked, in order, up to the first whose sums leave i32.
 fn sum_paths(paths: &[u32], n: u32, backdrops: &mut [i32]) -> Answer

@@ -21,7 +21,7 @@ fn in_i32(x: i64) -> bool
     (LEAST <= x) & (x <= MOST)
 }
 
-// Backdrops between these can't bring a row's sums out of i32: so wide is no box.
+// No box is so wide that backdrops between these could bring a row's sums out of i32.
 const CALM_LEAST: i32 = -262144;
 
 const CALM_MOST: i32 = 262144;

@@ -1,5 +1,5 @@
 // Hand-out: the first slot of each tile, from the counts. docs/RULES.md, "The walk of a line" and
-// refusals 1, 2 and 9. The Rust leaves this to its renderer.
+// refusals 1, 2 and 9. Added: it is in none of the files ported.
 ghost use mathlib.Core.Path.{_≡_};
 ghost use Prim.Native.Nat.{_≤_};
 ghost use lib.ListN.{length};

@@ -1,5 +1,6 @@
 // What all stages share: limits, refusal numbers, record widths, the three kinds of number, the
-// running numbers and the answers. docs/RULES.md, "Records", "Limits" and "Refusals".
+// running numbers, the answers, and the checks of the paths lent. docs/RULES.md, "How the records
+// are lent" and "When the panel says no".
 pub mod checks;
 pub mod kinds;
 pub mod limits;

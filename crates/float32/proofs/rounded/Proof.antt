@@ -15,8 +15,6 @@ use Rattle.float32.proofs.Fields.{no-nan-bits}
 use Rattle.float32.proofs.Ints.{bits, lost-few, quotient-lt, units-more, units-same, nearest-is, int-no-nan}
 use Rattle.float32.proofs.rounded.Statement.{statement}
 use Rattle.float32.proofs.rounded.Tie as tie
-use Rattle.float32.proofs.rounded.Reads as reads
-use Rattle.float32.proofs.rounded.Lts as lts
 
 module _ (n k : ℕ) (large : 2 ^ 24 ≤ n) (is : k ≡ lostOf n) (fit : n < 2 ^ 32) where
   few : k ≤ 8

@@ -1,0 +1,6 @@
+pub mod Laws
+pub mod Turn
+pub mod Even
+pub mod Bounds
+pub mod Traces
+pub mod Vertical

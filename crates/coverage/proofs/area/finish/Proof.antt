@@ -1,0 +1,29 @@
+-- `coverage::area::finish` meets its contract. Assumes nothing.
+use Rattle.coverage.specs.Coverage.{finishOf}
+use borrow.Author.Needs.{needs}
+use Rattle.coverage.proofs.area.finish.Statement.{statement}
+use Rattle.coverage.proofs.area.finish.Tie as tie
+
+round-requires : tie.Need-round-requires
+round-requires c κs = search needs
+
+abs-requires : tie.Need-abs-requires
+abs-requires c κs = search needs
+
+abs-requires-2 : tie.Need-abs-requires-2
+abs-requires-2 c κs = search needs
+
+min-requires : tie.Need-min-requires
+min-requires c κs = search needs
+
+returns : tie.Need-returns
+unfolding finishOf
+returns c = rw (c .before .before .if1 .taken, c .abs .ensures, c .before .round .ensures)
+
+returns-2 : tie.Need-returns-2
+unfolding finishOf
+returns-2 c = rw (c .before .before .if1 .left, c .min .ensures, c .before .abs2 .ensures)
+
+pub finish-spec : {M : Type 1} → statement M
+finish-spec =
+    tie.close (tie.spec round-requires abs-requires abs-requires-2 min-requires returns returns-2)

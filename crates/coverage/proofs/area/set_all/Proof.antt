@@ -1,0 +1,61 @@
+-- `coverage::area::set_all` meets its contract. The invariant: the pixels below i are done. Assumes nothing.
+use mathlib.Core.Path.{_≡_, refl, ap, sym, _∙_}
+use mathlib.Core.List.{List}
+use Prim.Native.Nat.{ℕ, _+_, _-_, _*_, _%_, _≤_, _<_}
+use lib.ListN.{length, getD, set}
+use denote.Ref.{now}
+use lib.Ieee.{Float, nan, binary32, add}
+use Rattle.coverage.specs.Tile.{tileSize}
+use Rattle.coverage.proofs.Turn.{Done, begun, turned, ended}
+use native.Mathlib.Omega.{arith}
+use borrow.Author.Needs.{needs}
+use Rattle.coverage.proofs.area.set_all.Statement.{statement}
+use Rattle.coverage.proofs.area.set_all.Tie as tie
+
+abbrev Inv-loop : tie.InvT-loop
+Inv-loop area₀ v i₀ area i = (i ≤ tileSize) × Done (λ k x. v) 0 i area₀ area
+
+abbrev μ-loop : tie.MeasureT-loop
+μ-loop area₀ v i₀ area i = tileSize - i
+
+loop-holds : tie.Need-loop-holds Inv-loop μ-loop
+loop-holds c = (search needs, begun (λ k x. _) nan _)
+
+mul-area : tie.Need-mul-area Inv-loop μ-loop
+mul-area c = search needs
+
+slice-write-area : tie.Need-slice-write-area Inv-loop μ-loop
+slice-write-area c = search needs
+
+add-i : tie.Need-add-i Inv-loop μ-loop
+add-i c = search needs
+
+loop-less : tie.Need-loop-less Inv-loop μ-loop
+loop-less c = search needs
+
+loop-again : tie.Need-loop-again Inv-loop μ-loop
+loop-again c =
+    let s = c .before .before in
+    let l = c .before .loop in
+    (search needs, turned (λ k x. s .args .v) nan 0 (l .i) _ (l .area) _ (search needs) (l .inv .1) refl)
+
+same-length : tie.Need-same-length Inv-loop μ-loop
+same-length c = c .before .loop .inv .1 .0
+
+returns : tie.Need-returns Inv-loop μ-loop
+returns c = ended (λ k x. c .before .before .args .v) nan tileSize (c .before .loop .i) _ _ (c .before .loop .inv .1) (c .before .before .pre) (omega arith)
+
+pub set-all-spec : {M : Type 1} → statement M
+set-all-spec =
+    tie.close
+    (tie.spec
+    Inv-loop
+    μ-loop
+    loop-holds
+    mul-area
+    slice-write-area
+    add-i
+    loop-less
+    loop-again
+    same-length
+    returns)

@@ -1,0 +1,18 @@
+-- `coverage::row::reach_of` meets its contract. Assumes nothing.
+use Rattle.coverage.specs.Row.{reachOf}
+use borrow.Author.Needs.{needs}
+use Rattle.coverage.proofs.row.reach_of.Statement.{statement}
+use Rattle.coverage.proofs.row.reach_of.Tie as tie
+
+min-requires : tie.Need-min-requires
+min-requires c κs = search needs
+
+max-requires : tie.Need-max-requires
+max-requires c κs = search needs
+
+returns : tie.Need-returns
+unfolding reachOf
+returns c = cc
+
+pub reach-of-spec : {M : Type 1} → statement M
+reach-of-spec = tie.close (tie.spec min-requires max-requires returns)

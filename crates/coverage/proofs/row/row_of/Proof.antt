@@ -1,0 +1,26 @@
+-- `coverage::row::row_of` meets its contract. Assumes nothing.
+use Rattle.coverage.specs.Row.{rowOf}
+use Rattle.coverage.proofs.Laws.{small}
+use borrow.Author.Needs.{needs}
+use Rattle.coverage.proofs.row.row_of.Statement.{statement}
+use Rattle.coverage.proofs.row.row_of.Tie as tie
+
+int-to-float-top : tie.Need-int-to-float-top
+int-to-float-top c = small _ (search needs)
+
+clamp-requires : tie.Need-clamp-requires
+clamp-requires c κs = search needs
+
+clamp-requires-2 : tie.Need-clamp-requires-2
+clamp-requires-2 c κs = search needs
+
+clamp-requires-3 : tie.Need-clamp-requires-3
+clamp-requires-3 c κs = search needs
+
+returns : tie.Need-returns
+unfolding rowOf
+returns c = cc
+
+pub row-of-spec : {M : Type 1} → statement M
+row-of-spec =
+    tie.close (tie.spec int-to-float-top clamp-requires clamp-requires-2 clamp-requires-3 returns)

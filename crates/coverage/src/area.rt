@@ -1,0 +1,145 @@
+// The areas of a tile's pixels, row by row, segment by segment, and what they end as: fine.rs, lines
+// 51 to 109.
+use crate::row::Reach;
+use crate::row::Way;
+use crate::row::added;
+use crate::row::reach_of;
+use crate::row::row_of;
+use crate::row::way_of;
+use crate::segment::segment_at;
+use crate::tile::TILE_HEIGHT;
+use crate::tile::TILE_SIZE;
+use crate::tile::TILE_WIDTH;
+use float32::abs;
+use float32::min;
+use float32::of_i32;
+use float32::round;
+ghost use mathlib.Core.Path.{_≡_};
+ghost use Prim.Native.Nat.{_+_, _*_, _≤_, _<_};
+ghost use lib.ListN.{length};
+ghost use lib.Ieee.{binary32, add};
+ghost use Rattle.lists.specs.Grid.{mapi, within};
+ghost use Rattle.panel.specs.Widths.{segmentFloats};
+ghost use Rattle.coverage.specs.Tile.{tileWidth, tileHeight, tileSize, rowStart, rowEnd};
+ghost use Rattle.coverage.specs.Row.{slanted, edged, stepWay};
+ghost use Rattle.coverage.specs.Coverage.{areaAfter, finishOf, coverageOf};
+
+// Row yi, where the segment goes through it.
+pub fn add_slant(area: &mut [f32], p: Reach, edge: f32, dy: f32, yi: usize)
+    requires { ⌜ (yi < tileHeight) × (length (now area) ≡ tileSize) ⌝ }
+    ensures { λ _. ⌜ now (area .exit) ≡ mapi (within (rowStart yi) (rowEnd yi) (slanted p edge dy)) (now (area .entry)) ⌝ }
+{
+    let base = TILE_WIDTH * yi;
+    let mut i = 0usize;
+    while i < TILE_WIDTH {
+        let at = base + i;
+        area[at] = area[at] + added(p, edge, dy, i);
+        i += 1;
+    }
+}
+
+// Row yi, where only y_edge counts.
+pub fn add_edge(area: &mut [f32], edge: f32, yi: usize)
+    requires { ⌜ (yi < tileHeight) × (length (now area) ≡ tileSize) ⌝ }
+    ensures { λ _. ⌜ now (area .exit) ≡ mapi (within (rowStart yi) (rowEnd yi) (edged edge)) (now (area .entry)) ⌝ }
+{
+    let base = TILE_WIDTH * yi;
+    let mut i = 0usize;
+    while i < TILE_WIDTH {
+        let at = base + i;
+        area[at] = area[at] + edge;
+        i += 1;
+    }
+}
+
+// Row yi of a segment.
+pub fn add_row(area: &mut [f32], w: Way, yt: f32, yi: usize)
+    requires { ⌜ (yi < tileHeight) × (length (now area) ≡ tileSize) ⌝ }
+    ensures { λ _. ⌜ now (area .exit) ≡ mapi (within (rowStart yi) (rowEnd yi) (stepWay w yt)) (now (area .entry)) ⌝ }
+{
+    let r = row_of(w, yt, yi);
+    let dy = r.dy;
+    let edge = r.edge;
+    if dy != 0.0 {
+        add_slant(area, reach_of(w, r), edge, dy, yi)
+    } else if edge != 0.0 {
+        add_edge(area, edge, yi)
+    }
+}
+
+// All rows of a segment.
+pub fn add_segment(area: &mut [f32], w: Way, yt: f32)
+    requires { ⌜ length (now area) ≡ tileSize ⌝ }
+    ensures { λ _. ⌜ now (area .exit) ≡ mapi (stepWay w yt) (now (area .entry)) ⌝ }
+{
+    let mut yi = 0usize;
+    while yi < TILE_HEIGHT {
+        add_row(area, w, yt, yi);
+        yi += 1;
+    }
+}
+
+// The n segments from the first on, in order.
+pub fn add_segments(area: &mut [f32], segments: &[f32], first: usize, n: usize, xt: f32, yt: f32)
+    requires { ⌜ (length (now area) ≡ tileSize) × (segmentFloats * (first + n) ≤ length (now segments)) ⌝ }
+    ensures { λ _. ⌜ now (area .exit) ≡ mapi (areaAfter (now (segments .entry)) first xt yt n) (now (area .entry)) ⌝ }
+{
+    let mut j = 0usize;
+    while j < n {
+        add_segment(area, way_of(segment_at(segments, first + j), xt), yt);
+        j += 1;
+    }
+}
+
+// One value at each pixel.
+pub fn set_all(area: &mut [f32], v: f32)
+    requires { ⌜ length (now area) ≡ tileSize ⌝ }
+    ensures { λ _. ⌜ now (area .exit) ≡ mapi (λ k x. v) (now (area .entry)) ⌝ }
+{
+    let mut i = 0usize;
+    while i < TILE_SIZE {
+        area[i] = v;
+        i += 1;
+    }
+}
+
+// The coverage that a summed area stands for.
+pub fn finish(eo: bool, a: f32) -> f32
+    ensures { λ r. ⌜ r ≡ finishOf eo a ⌝ }
+{
+    if eo {
+        abs(a - 2.0 * round(0.5 * a))
+    } else {
+        min(abs(a), 1.0)
+    }
+}
+
+pub fn finish_all(area: &mut [f32], eo: bool)
+    requires { ⌜ length (now area) ≡ tileSize ⌝ }
+    ensures { λ _. ⌜ now (area .exit) ≡ mapi (λ k x. finishOf eo x) (now (area .entry)) ⌝ }
+{
+    let mut i = 0usize;
+    while i < TILE_SIZE {
+        area[i] = finish(eo, area[i]);
+        i += 1;
+    }
+}
+
+// The coverage of a tile's pixels.
+pub fn fill_path(
+    area: &mut [f32],
+    segments: &[f32],
+    first: usize,
+    n: usize,
+    eo: bool,
+    backdrop: i32,
+    xt: f32,
+    yt: f32,
+)
+    requires { ⌜ (length (now area) ≡ tileSize) × (segmentFloats * (first + n) ≤ length (now segments)) ⌝ }
+    ensures { λ _. ⌜ now (area .exit) ≡ coverageOf (now (segments .entry)) first n eo backdrop xt yt ⌝ }
+{
+    set_all(area, of_i32(backdrop));
+    add_segments(area, segments, first, n, xt, yt);
+    finish_all(area, eo);
+}

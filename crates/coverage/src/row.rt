@@ -1,0 +1,101 @@
+// What a segment does to one row of pixels, and to one pixel of it: fine.rs, lines 60 to 90. The
+// divisions and signs that are the same in every row stand before the rows.
+use crate::segment::Segment;
+use crate::tile::TILE_HEIGHT;
+use crate::tile::TILE_WIDTH;
+use float32::clamp;
+use float32::max;
+use float32::min;
+use float32::signum;
+ghost use mathlib.Core.Path.{_≡_};
+ghost use Prim.Native.Nat.{_<_};
+ghost use Rattle.coverage.specs.Tile.{tileWidth, tileHeight};
+ghost use Rattle.coverage.specs.Row.{wayOf, rowOf, reachOf, addedOf};
+
+// What every row has of a segment: where it starts, beside the tile's left side and down the screen,
+// how far it goes, 1 over its height, the sign of its width, and its y_edge.
+pub struct Way {
+    pub x: f32,
+    pub y: f32,
+    pub dx: f32,
+    pub dy: f32,
+    pub recip: f32,
+    pub sign: f32,
+    pub edge: f32,
+}
+
+// A row's share of a segment: how far below the row's top the segment starts, that and its end
+// brought within the row, the height between the two, and what y_edge adds.
+pub struct Row {
+    pub y: f32,
+    pub y0: f32,
+    pub y1: f32,
+    pub dy: f32,
+    pub edge: f32,
+}
+
+// How far the part within a row reaches to the left and to the right.
+pub struct Reach {
+    pub left: f32,
+    pub right: f32,
+}
+
+pub fn way_of(s: Segment, xt: f32) -> Way
+    ensures { λ r. ⌜ r ≡ wayOf s xt ⌝ }
+{
+    let dx = s.p1.x - s.p0.x;
+    let dy = s.p1.y - s.p0.y;
+    let sign = signum(dx);
+    Way {
+        x: s.p0.x - xt,
+        y: s.p0.y,
+        dx,
+        dy,
+        recip: 1.0 / dy,
+        sign,
+        edge: s.edge,
+    }
+}
+
+pub fn row_of(w: Way, yt: f32, yi: usize) -> Row
+    requires { ⌜ yi < tileHeight ⌝ }
+    ensures { λ r. ⌜ r ≡ rowOf w yt yi ⌝ }
+{
+    let top = yt + (yi as f32);
+    let y = w.y - top;
+    let y0 = clamp(y, 0.0, 1.0);
+    let y1 = clamp(y + w.dy, 0.0, 1.0);
+    let edge = w.sign * clamp(top - w.edge + 1.0, 0.0, 1.0);
+    Row {
+        y,
+        y0,
+        y1,
+        dy: y0 - y1,
+        edge,
+    }
+}
+
+pub fn reach_of(w: Way, r: Row) -> Reach
+    ensures { λ p. ⌜ p ≡ reachOf w r ⌝ }
+{
+    let x0 = w.x + (r.y0 - r.y) * w.recip * w.dx;
+    let x1 = w.x + (r.y1 - r.y) * w.recip * w.dx;
+    let left = min(x0, x1);
+    let right = max(x0, x1);
+    Reach { left, right }
+}
+
+// What a row's slanted part adds at column i.
+pub fn added(p: Reach, edge: f32, dy: f32, i: usize) -> f32
+    requires { ⌜ i < tileWidth ⌝ }
+    ensures { λ r. ⌜ r ≡ addedOf p edge dy i ⌝ }
+{
+    let i_f = i as f32;
+    let xmin = min(p.left - i_f, 1.0) - 1.0e-6;
+    let xmax = p.right - i_f;
+    let b = min(xmax, 1.0);
+    let c = max(b, 0.0);
+    let d = max(xmin, 0.0);
+    let a = (b + 0.5 * (d * d - c * c) - xmin) / (xmax - xmin);
+    edge + a * dy
+}

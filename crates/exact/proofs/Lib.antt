@@ -1,0 +1,15 @@
+-- Laws of whole floats.
+--     Signs     integers by two natural numbers, for `omega`
+--     Exact     sums, products and casts of whole floats
+--     Compare   their order
+--     Limits    the limits stay far under 2 ^ 24: the one place where they come in
+--     Bounds    from the check of a coordinate to a line's first numbers and its spans
+--     Start     the first column by the first point alone
+--     Less      a whole number as a float, less one
+pub mod Signs
+pub mod Exact
+pub mod Compare
+pub mod Limits
+pub mod Bounds
+pub mod Start
+pub mod Less

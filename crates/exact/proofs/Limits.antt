@@ -1,0 +1,22 @@
+-- The one law by which the limits of docs/RULES.md come into the laws of floats: each stays far under 2 ^ 24, up to which an `f32` holds every whole number.
+-- Where a limit moves, this is what has to hold again. Assumes nothing.
+use mathlib.Core.Path.{_≡_, refl}
+use mathlib.Core.Bool.{false}
+use Prim.Native.Nat.{ℕ, _*_, _^_, _≤_}
+use lib.Dec.{lit≤}
+use lib.Ieee.{binary32, ofBits, round}
+use Rattle.float32.specs.Meaning.{whole}
+use Rattle.panel.specs.Limits.{coordMost, edgeMost, mostSteps}
+use Rattle.exact.specs.Reach.{coordTiles}
+
+-- the coordinate's limit is a whole number of tiles, of 16 each, and it, the box edges' and the steps' are at most 2 ^ 20
+pub record Far : Type 0 where
+  pub coord : coordMost ≡ whole false (coordTiles * 16)
+  pub some : 1 ≤ coordTiles
+  pub tiles : coordTiles ≤ 2 ^ 20
+  pub edge : edgeMost ≤ 2 ^ 20
+  pub steps : mostSteps ≤ 2 ^ 20
+
+pub far : Far
+unfolding coordTiles ofBits round
+far = record { coord = refl; some = lit≤ tt; tiles = lit≤ tt; edge = lit≤ tt; steps = lit≤ tt }

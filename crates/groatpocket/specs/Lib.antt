@@ -1,0 +1,3 @@
+-- What a caller in C or Rust sees of a call. Definitions only.
+pub mod Seen
+pub mod Calls

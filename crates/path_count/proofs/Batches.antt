@@ -1,0 +1,102 @@
+-- A batch's answer, and a call's.
+-- Assumes nothing.
+use mathlib.Core.Path.{_≡_, refl, sym, ap, _∙_}
+use mathlib.Core.Bool.{true}
+use mathlib.Core.List.{List, [], _∷_}
+use Prim.Native.Nat.{ℕ, _+_, _-_, _*_, _/_, _%_, _<_, _≤_}
+use native.Mathlib.Nat.{add-zero}
+use native.Mathlib.Omega.{arith}
+use lib.ListN.{length}
+use lib.IntN.{ℤ}
+use lib.Ieee.{Float}
+use borrow.Author.Tests.{leb-true, eqb-true}
+use Rattle.lists.specs.Run.{Step, taken, halted, Ran, done, refused, andThen}
+use Rattle.panel.specs.Limits.{mostLines}
+use Rattle.panel.specs.Refusals.{doneNo}
+use Rattle.panel.specs.Widths.{lineFloats, refWords}
+use Rattle.panel.specs.Checks.{firstNo, unless}
+use Rattle.panel.specs.Paths.{pathsAnswer}
+use Rattle.panel.specs.declared.kinds.Running.{Running}
+use Rattle.panel.specs.declared.kinds.Answer.{Answer}
+use Rattle.panel.specs.declared.kinds.Answer.the-variants.{Done as AnswerDone, Refused as AnswerRefused}
+use Rattle.panel.specs.declared.kinds.Verdict.{Verdict}
+use Rattle.panel.specs.declared.kinds.Verdict.the-variants.{Fine, Against}
+use Rattle.panel.proofs.CheckLaws.{all-ok, unless-no, unless-fine}
+use Rattle.walk.specs.Lent.{walkAt}
+use Rattle.walk.specs.declared.lent.Walked.{Walked}
+use Rattle.walk.specs.declared.lent.Walked.the-variants.{Refused as WalkRefused, Skipped, Line}
+use Rattle.acts.specs.Acts.{St, stOf}
+use Rattle.acts.specs.Line.{Refusal, batchOf}
+use Rattle.acts.proofs.Lines.{batch-cut}
+use Rattle.path_count.specs.Count.{lineStep, lineRan, tallyRan, unwalkedOf, batch, Told, toldOf, batchTold, lentChecks, callAnswer, callTold, counted, Lent}
+use Rattle.path_count.specs.declared.kinds.Tallied.{Tallied}
+use Rattle.path_count.proofs.Lines.{line-walked}
+
+-- ---- a line with no walk
+
+abbrev pub NoWalk : Walked → Type 0
+NoWalk (WalkRefused n) = Unit {0}
+NoWalk Skipped = Unit {0}
+NoWalk (Line w b) = ⊥
+
+pub line-unwalked : (nos : List ℕ) (coords : List Float) (paths : List ℕ) (room l k : ℕ) (bs : List ℤ) (cs rs : List ℕ) (made : ℕ) (x : Walked) (t : Tallied)
+    → l < mostLines → walkAt nos coords paths k ≡ x → NoWalk x → t ≡ unwalkedOf x
+    → tallyRan t (stOf bs cs rs) made ≡ lineRan (lineStep nos coords paths room l k (stOf bs cs rs made)) (stOf bs cs rs made)
+line-unwalked nos coords paths room l k bs cs rs made (WalkRefused n) t h e u f =
+    rw (f, line-walked nos coords paths room l k (stOf bs cs rs made) (WalkRefused n) h e)
+line-unwalked nos coords paths room l k bs cs rs made Skipped t h e u f =
+    rw (f, line-walked nos coords paths room l k (stOf bs cs rs made) Skipped h e, add-zero made)
+line-unwalked nos coords paths room l k bs cs rs made (Line w b) t h e u f = absurd u
+
+-- ---- a batch
+
+pub batch-refused : (b a m n : ℕ) (s u : St) (all : Ran St Refusal) → m ≡ n → u ≡ s → refused s (record { no = n; line = a }) ≡ all
+    → toldOf (m ∷ a ∷ a ∷ s .made ∷ []) u ≡ batchTold b all
+batch-refused b a m n s u all p q e = rw (p, q) (ap (batchTold b) e)
+
+pub batch-through : (b a : ℕ) (s : St) (all : Ran St Refusal) → a ≡ b → done s ≡ all → toldOf (doneNo ∷ a ∷ s .made ∷ []) s ≡ batchTold b all
+batch-through b a s all p e = rw p (ap (batchTold b) e)
+
+-- a batch from a to b and then one from b to c is one from a to c, refusals included
+pub batches : (nos : List ℕ) (coords : List Float) (paths : List ℕ) (room a b c : ℕ) (s : St) → a ≤ b → b ≤ c
+    → batch nos coords paths room a c s ≡ andThen (batch nos coords paths room a b s) (batch nos coords paths room b c)
+batches nos coords paths room a b c s h k = batch-cut (λ l. lineStep nos coords paths room l l) a b c s h k
+
+-- ---- a call
+
+-- what the checks of the lengths lent tell where none fails
+pub record Ranged (nn nc nb nt a b : ℕ) : Type 0 where
+  pub paired : nb ≡ nt
+  pub forward : a ≤ b
+  pub numbered : b ≤ nn
+  pub whole : b * lineFloats ≤ nc
+
+pub ranged : (nn nc nb nt nr a b : ℕ) → firstNo (lentChecks nn nc nb nt nr a b) ≡ Fine → Ranged nn nc nb nt a b
+ranged nn nc nb nt nr a b e =
+    let k = all-ok (lentChecks nn nc nb nt nr a b) e in
+    let n : nn ≡ nc / lineFloats = eqb-true _ _ (k .1 .0) in
+    let r : b ≤ nc / lineFloats = leb-true _ _ (k .1 .1 .1 .1 .1 .0) in
+    record { paired = eqb-true _ _ (k .1 .1 .0); forward = leb-true _ _ (k .1 .1 .1 .1 .0); numbered = omega arith; whole = omega arith }
+
+module _ (r : Running) (b : ℕ) (nos : List ℕ) (coords : List Float) (paths : List ℕ) (bs : List ℤ) (cs rs : List ℕ) (v : Verdict)
+    (ev : v ≡ firstNo (lentChecks (length nos) (length coords) (length bs) (length cs) (length rs) (r .lines) b)) where
+  answer-no : (n : ℕ) → v ≡ Against n → callAnswer nos coords paths (r .lines) b (stOf bs cs rs (r .refs)) ≡ AnswerRefused n 0
+  unfolding callAnswer
+  answer-no n e = unless-no _ n 0 _ (sym ev ∙ e)
+
+  answer-fine : v ≡ Fine → callAnswer nos coords paths (r .lines) b (stOf bs cs rs (r .refs)) ≡ pathsAnswer paths (length cs)
+  unfolding callAnswer
+  answer-fine e = unless-fine _ 0 _ (sym ev ∙ e)
+
+  pub call-no : (n : ℕ) → v ≡ Against n → toldOf (n ∷ 0 ∷ r .lines ∷ r .refs ∷ []) (stOf bs cs rs (r .refs)) ≡ counted r b nos coords paths bs cs rs
+  unfolding counted
+  call-no n e = rw (answer-no n e)
+
+  module _ (f : v ≡ Fine) (a : Answer) (ea : a ≡ pathsAnswer paths (length cs)) where
+    pub call-path : (n item : ℕ) → a ≡ AnswerRefused n item → toldOf (n ∷ item ∷ r .lines ∷ r .refs ∷ []) (stOf bs cs rs (r .refs)) ≡ counted r b nos coords paths bs cs rs
+    unfolding counted
+    call-path n item e = rw (answer-fine f ∙ sym ea ∙ e)
+
+    pub call-goes : (t : Told) → a ≡ AnswerDone → t ≡ batchTold b (batch nos coords paths (length rs / refWords) (r .lines) b (stOf bs cs rs (r .refs))) → t ≡ counted r b nos coords paths bs cs rs
+    unfolding counted
+    call-goes t e g = rw (answer-fine f ∙ sym ea ∙ e) g

@@ -1,0 +1,72 @@
+-- Lines of docs/RULES.md, "Traces to try", counted: each is a call over one path, from zeroed references, with what it comes to. By computation.
+use mathlib.Core.Path.{_≡_, refl}
+use mathlib.Core.List.{List, [], _∷_}
+use Prim.Native.Nat.{ℕ}
+use lib.IntN.{ℤ, pos, negsuc}
+use lib.Ieee.{Float, binary32, add, sub, mul, div, neg, le, lt, eq, ne, ofInt, ofBits, toSigned, toUnsigned, isNan}
+use Rattle.float32.specs.Meaning.{floorOf, ceilOf, roundOf, absOf, minOf, maxOf, signed, signOf}
+use Rattle.util.specs.Span.{spanOf}
+use Rattle.panel.specs.Refusals.{doneNo, countOver}
+use Rattle.panel.specs.Kinds.{runningOf}
+use Rattle.panel.specs.Paths.{pathAt, pathsFrom, pathsAnswer}
+use Rattle.walk.specs.Num.{float, cutOf, insideOf, rowOf}
+use Rattle.walk.specs.Setup.{endsOf}
+use Rattle.walk.specs.Page.{lineOf}
+use Rattle.walk.specs.Skip.{flatOf, pastOf}
+use Rattle.walk.specs.Step.{zAt, tileIn, stepOf}
+use Rattle.walk.specs.Lent.{lineAt, walkedOf, walkAt}
+use Rattle.clip.specs.Page.{clippedOf}
+use Rattle.acts.specs.Acts.{rowActs, stepsActs, runActs}
+use Rattle.acts.specs.Line.{planStep, batchOf}
+use Rattle.path_count.specs.Steps.{hitAt}
+use Rattle.path_count.specs.Count.{planOf, lineStep, callAnswer, counted, Told}
+
+-- a box with its first tile, a line's ends, and the counts before; and then what the call tells
+pub record Case : Type 0 where
+  pub box : List ℕ
+  pub ends : List ℕ
+  pub before : List ℕ
+  pub told : Told
+
+abbrev floats : List ℕ → List Float
+floats [] = []
+floats (n ∷ more) = float n ∷ floats more
+
+abbrev none : List ℤ
+none = pos 0 ∷ pos 0 ∷ pos 0 ∷ pos 0 ∷ []
+
+abbrev empty : List ℕ
+empty = 0 ∷ 0 ∷ 0 ∷ 0 ∷ []
+
+abbrev pub ran : Case → Told
+ran c = counted (runningOf 0 0) 1 (0 ∷ []) (floats (c .ends)) (c .box) none (c .before) empty
+
+abbrev two : List ℕ
+two = 0 ∷ 0 ∷ 2 ∷ 2 ∷ 0 ∷ []
+
+abbrev right : List ℕ
+right = 1 ∷ 0 ∷ 3 ∷ 2 ∷ 0 ∷ []
+
+abbrev done : ℕ → List ℕ
+done n = doneNo ∷ 1 ∷ n ∷ []
+
+abbrev pub cases : List Case
+cases =
+    record { box = two; ends = 8 ∷ 8 ∷ 8 ∷ 24 ∷ []; before = empty; told = record { paper = done 2; backs = pos 0 ∷ pos 0 ∷ pos 0 ∷ negsuc 0 ∷ []; counts = 1 ∷ 0 ∷ 1 ∷ 0 ∷ []; refs = 0 ∷ 0 ∷ 0 ∷ 1 ∷ [] } }
+    ∷ record { box = two; ends = 0 ∷ 16 ∷ 32 ∷ 16 ∷ []; before = empty; told = record { paper = done 0; backs = none; counts = empty; refs = empty } }
+    ∷ record { box = two; ends = 5 ∷ 5 ∷ 5 ∷ 5 ∷ []; before = empty; told = record { paper = done 0; backs = none; counts = empty; refs = empty } }
+    ∷ record { box = two; ends = 0 ∷ 8 ∷ 32 ∷ 8 ∷ []; before = empty; told = record { paper = done 2; backs = none; counts = 1 ∷ 1 ∷ 0 ∷ 0 ∷ []; refs = 0 ∷ 0 ∷ 0 ∷ 1 ∷ [] } }
+    ∷ record { box = right; ends = 8 ∷ 8 ∷ 8 ∷ 24 ∷ []; before = empty; told = record { paper = done 0; backs = pos 0 ∷ pos 0 ∷ negsuc 0 ∷ pos 0 ∷ []; counts = empty; refs = empty } }
+    ∷ record { box = right; ends = 8 ∷ 24 ∷ 8 ∷ 8 ∷ []; before = empty; told = record { paper = done 0; backs = pos 0 ∷ pos 0 ∷ pos 1 ∷ pos 0 ∷ []; counts = empty; refs = empty } }
+    ∷ record { box = two; ends = 8 ∷ 8 ∷ 8 ∷ 24 ∷ []; before = 0 ∷ 0 ∷ 65535 ∷ 0 ∷ []; told = record { paper = done 2; backs = pos 0 ∷ pos 0 ∷ pos 0 ∷ negsuc 0 ∷ []; counts = 1 ∷ 0 ∷ 65536 ∷ 0 ∷ []; refs = 0 ∷ 0 ∷ 0 ∷ 0xFFFF_0001 ∷ [] } }
+    ∷ record { box = two; ends = 8 ∷ 8 ∷ 8 ∷ 24 ∷ []; before = 0 ∷ 0 ∷ 65536 ∷ 0 ∷ []; told = record { paper = countOver ∷ 0 ∷ 0 ∷ 0 ∷ []; backs = none; counts = 0 ∷ 0 ∷ 65536 ∷ 0 ∷ []; refs = empty } }
+    ∷ []
+
+abbrev pub Hold : List Case → Type 0
+Hold [] = Unit {0}
+Hold (c ∷ more) = (ran c ≡ c .told) × Hold more
+
+-- each case comes to what it says
+pub all-hold : Hold cases
+unfolding add sub mul div neg le lt eq ne ofInt ofBits toSigned toUnsigned isNan floorOf ceilOf roundOf absOf minOf maxOf signed signOf spanOf pathAt pathsFrom pathsAnswer cutOf insideOf rowOf endsOf lineOf flatOf pastOf zAt tileIn stepOf lineAt walkedOf walkAt clippedOf rowActs stepsActs runActs planStep batchOf hitAt planOf lineStep callAnswer counted
+all-hold = (refl, (refl, (refl, (refl, (refl, (refl, (refl, (refl, tt))))))))

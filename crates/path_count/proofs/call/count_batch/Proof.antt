@@ -1,0 +1,137 @@
+-- `path_count::call::count_batch` meets its contract. The invariant: to count the lines left from here is to count all from the start.
+-- Assumes nothing.
+use mathlib.Core.Path.{_≡_, refl, sym, ap, _∙_, subst, subst₂}
+use Prim.Native.Nat.{ℕ, _+_, _-_, _*_, _/_, _≤_, _<_, _^_}
+use native.Mathlib.Omega.{arith}
+use lib.ListN.{length}
+use borrow.Author.Needs.{needs}
+use Rattle.lists.specs.Run.{Step, taken, halted, done, refused}
+use Rattle.panel.specs.Widths.{refWords}
+use Rattle.panel.specs.declared.kinds.Running.{Running}
+use Rattle.acts.specs.Acts.{St, stOf}
+use Rattle.acts.proofs.Lines.{batch-goes, batch-stops, batch-ends}
+use Rattle.path_count.specs.Count.{lineStep, lineRan, tallyRan, numberOf, batch, Lent}
+use Rattle.path_count.specs.declared.kinds.Tallied.{Tallied}
+use Rattle.path_count.specs.declared.kinds.Tallied.the-variants.{On, Against}
+use Rattle.path_count.proofs.Lines.{ran-taken, ran-halted, line-made}
+use Rattle.path_count.proofs.Batches.{batch-refused, batch-through}
+use Rattle.path_count.proofs.call.count_batch.Statement.{statement}
+use Rattle.path_count.proofs.call.count_batch.Tie as tie
+use Rattle.path_count.proofs.call.count_batch.Reads as reads
+use Rattle.path_count.proofs.call.count_batch.Lts as lts
+use Rattle.panel.proofs.kinds.Running.stepped.Reads as stepped-reads
+use Rattle.path_count.proofs.call.number.Reads as number-reads
+use Rattle.path_count.proofs.line.count_line.Reads as count-line-reads
+
+abbrev Inv-loop : tie.InvT-loop
+Inv-loop end path-nos coords paths backs₀ counts₀ refs₀ s₀ backs counts refs s =
+    (s .lines ≤ end) × (length backs ≡ length backs₀) × (length counts ≡ length counts₀) × (length refs ≡ length refs₀)
+    × (batch path-nos coords paths (length refs₀ / refWords) (s .lines) end (stOf backs counts refs (s .refs))
+    ≡ batch path-nos coords paths (length refs₀ / refWords) (s₀ .lines) end (stOf backs₀ counts₀ refs₀ (s₀ .refs)))
+
+abbrev μ-loop : tie.MeasureT-loop
+μ-loop end path-nos coords paths backs₀ counts₀ refs₀ s₀ backs counts refs s = end - s .lines
+
+loop-holds : tie.Need-loop-holds Inv-loop μ-loop
+loop-holds c = (c .before .before .before .before .before .pre .1, refl, refl, refl, refl)
+
+count-line-requires : tie.Need-count-line-requires Inv-loop μ-loop
+count-line-requires c κs = (
+  subst₂ (Lent (c .before .before .before .before .before .before .before .before .before .before .before .args .paths .now)) (sym (c .before .before .before .before .before .loop .inv .1)) (sym (c .before .before .before .before .before .loop .inv .2)) (c .before .before .before .before .before .before .before .before .before .before .before .pre .0),
+  record { numbered = omega (arith, c .before .before .before .if1 .taken, c .before .before .before .before .before .before .before .before .before .before .before .pre .2); whole = omega (arith, c .before .before .before .if1 .taken, c .before .before .before .before .before .before .before .before .before .before .before .pre .3) },
+)
+
+enum-known-t : tie.Need-enum-known-t Inv-loop μ-loop
+enum-known-t c = search needs
+
+enum-told : tie.Need-enum-told Inv-loop μ-loop
+enum-told c = search needs
+
+number-requires : tie.Need-number-requires Inv-loop μ-loop
+number-requires c κs = search needs
+
+-- what the line's answer says, with the room as it was at the start
+said : (c : tie.After-count-line Inv-loop μ-loop) → tallyRan (c .count-line .result) (stOf (c .count-line .last .1 .1 .1 .1 .1 .1 .0) (c .count-line .last .1 .1 .1 .1 .1 .1 .1 .0) (c .count-line .last .1 .1 .1 .1 .1 .1 .1 .1 .0)) (c .before .before .before .before .before .before .loop .s .refs) ≡ lineRan (lineStep (c .before .before .before .before .before .before .before .before .before .before .before .before .args .path-nos .now) (c .before .before .before .before .before .before .before .before .before .before .before .before .args .coords .now) (c .before .before .before .before .before .before .before .before .before .before .before .before .args .paths .now) (length (c .before .before .before .before .before .before .before .before .before .before .before .before .args .refs .now) / refWords) (c .before .before .before .before .before .before .loop .s .lines) (c .before .before .before .before .before .before .loop .s .lines) (stOf (c .before .before .before .before .before .before .loop .backs) (c .before .before .before .before .before .before .loop .counts) (c .before .before .before .before .before .before .loop .refs) (c .before .before .before .before .before .before .loop .s .refs))) (stOf (c .before .before .before .before .before .before .loop .backs) (c .before .before .before .before .before .before .loop .counts) (c .before .before .before .before .before .before .loop .refs) (c .before .before .before .before .before .before .loop .s .refs))
+said c =
+    c .count-line .ensures
+    ∙ ap (λ (n : ℕ). lineRan (lineStep (c .before .before .before .before .before .before .before .before .before .before .before .before .args .path-nos .now) (c .before .before .before .before .before .before .before .before .before .before .before .before .args .coords .now) (c .before .before .before .before .before .before .before .before .before .before .before .before .args .paths .now) (n / refWords) (c .before .before .before .before .before .before .loop .s .lines) (c .before .before .before .before .before .before .loop .s .lines) (stOf (c .before .before .before .before .before .before .loop .backs) (c .before .before .before .before .before .before .loop .counts) (c .before .before .before .before .before .before .loop .refs) (c .before .before .before .before .before .before .loop .s .refs))) (stOf (c .before .before .before .before .before .before .loop .backs) (c .before .before .before .before .before .before .loop .counts) (c .before .before .before .before .before .before .loop .refs) (c .before .before .before .before .before .before .loop .s .refs))) (c .before .before .before .before .before .before .loop .inv .3)
+
+same-length : tie.Need-same-length Inv-loop μ-loop
+same-length c = c .before .before .before .before .before .before .before .before .count-line .kept .1 .1 .1 .1 .1 .1 .0 ∙ c .before .before .before .before .before .before .before .before .before .before .before .before .before .before .loop .inv .1
+
+same-length-2 : tie.Need-same-length-2 Inv-loop μ-loop
+same-length-2 c = c .before .before .before .before .before .before .before .before .count-line .kept .1 .1 .1 .1 .1 .1 .1 .0 ∙ c .before .before .before .before .before .before .before .before .before .before .before .before .before .before .loop .inv .2
+
+same-length-3 : tie.Need-same-length-3 Inv-loop μ-loop
+same-length-3 c = c .before .before .before .before .before .before .before .before .count-line .kept .1 .1 .1 .1 .1 .1 .1 .1 .0 ∙ c .before .before .before .before .before .before .before .before .before .before .before .before .before .before .loop .inv .3
+
+-- the line is refused: all is as before it
+returns : tie.Need-returns Inv-loop μ-loop
+returns c =
+    let n = c .before .enum-told .given .0 .0 in
+    let e = ran-halted (lineStep (c .before .before .before .before .before .before .before .before .before .before .before .before .before .before .before .before .before .before .before .before .args .path-nos .now) (c .before .before .before .before .before .before .before .before .before .before .before .before .before .before .before .before .before .before .before .before .args .coords .now) (c .before .before .before .before .before .before .before .before .before .before .before .before .before .before .before .before .before .before .before .before .args .paths .now) (length (c .before .before .before .before .before .before .before .before .before .before .before .before .before .before .before .before .before .before .before .before .args .refs .now) / refWords) (c .before .before .before .before .before .before .before .before .before .before .before .before .before .before .loop .s .lines) (c .before .before .before .before .before .before .before .before .before .before .before .before .before .before .loop .s .lines) (stOf (c .before .before .before .before .before .before .before .before .before .before .before .before .before .before .loop .backs) (c .before .before .before .before .before .before .before .before .before .before .before .before .before .before .loop .counts) (c .before .before .before .before .before .before .before .before .before .before .before .before .before .before .loop .refs) (c .before .before .before .before .before .before .before .before .before .before .before .before .before .before .loop .s .refs))) (stOf (c .before .before .before .before .before .before .before .before .before .before .before .before .before .before .loop .backs) (c .before .before .before .before .before .before .before .before .before .before .before .before .before .before .loop .counts) (c .before .before .before .before .before .before .before .before .before .before .before .before .before .before .loop .refs) (c .before .before .before .before .before .before .before .before .before .before .before .before .before .before .loop .s .refs)) _ n
+    (sym (ap (λ (t : Tallied). tallyRan t (stOf (c .before .before .before .before .before .before .before .before .count-line .last .1 .1 .1 .1 .1 .1 .0) (c .before .before .before .before .before .before .before .before .count-line .last .1 .1 .1 .1 .1 .1 .1 .0) (c .before .before .before .before .before .before .before .before .count-line .last .1 .1 .1 .1 .1 .1 .1 .1 .0)) (c .before .before .before .before .before .before .before .before .before .before .before .before .before .before .loop .s .refs)) (c .before .enum-told .given .1)) ∙ said (c .before .before .before .before .before .before .before .before)) in
+    batch-refused _ _ _ n (stOf (c .before .before .before .before .before .before .before .before .before .before .before .before .before .before .loop .backs) (c .before .before .before .before .before .before .before .before .before .before .before .before .before .before .loop .counts) (c .before .before .before .before .before .before .before .before .before .before .before .before .before .before .loop .refs) (c .before .before .before .before .before .before .before .before .before .before .before .before .before .before .loop .s .refs)) _ _ (c .number .ensures ∙ ap numberOf (c .before .enum-told .given .1)) (e .1)
+    (batch-stops (λ l. lineStep (c .before .before .before .before .before .before .before .before .before .before .before .before .before .before .before .before .before .before .before .before .args .path-nos .now) (c .before .before .before .before .before .before .before .before .before .before .before .before .before .before .before .before .before .before .before .before .args .coords .now) (c .before .before .before .before .before .before .before .before .before .before .before .before .before .before .before .before .before .before .before .before .args .paths .now) (length (c .before .before .before .before .before .before .before .before .before .before .before .before .before .before .before .before .before .before .before .before .args .refs .now) / refWords) l l) (c .before .before .before .before .before .before .before .before .before .before .before .before .before .before .loop .s .lines) (c .before .before .before .before .before .before .before .before .before .before .before .before .before .before .before .before .before .before .before .before .args .end) (stOf (c .before .before .before .before .before .before .before .before .before .before .before .before .before .before .loop .backs) (c .before .before .before .before .before .before .before .before .before .before .before .before .before .before .loop .counts) (c .before .before .before .before .before .before .before .before .before .before .before .before .before .before .loop .refs) (c .before .before .before .before .before .before .before .before .before .before .before .before .before .before .loop .s .refs)) (c .before .before .before .before .before .before .before .before .before .before .before .before .if1 .taken) _ (c .before .before .before .before .before .before .before .before .before .before .before .before .before .before .loop .inv .4) n (e .0))
+
+-- the line is taken
+took : (c : tie.After-t Inv-loop μ-loop) → lineStep (c .before .before .before .before .before .before .before .before .before .before .before .before .before .before .before .before .before .before .before .args .path-nos .now) (c .before .before .before .before .before .before .before .before .before .before .before .before .before .before .before .before .before .before .before .args .coords .now) (c .before .before .before .before .before .before .before .before .before .before .before .before .before .before .before .before .before .before .before .args .paths .now) (length (c .before .before .before .before .before .before .before .before .before .before .before .before .before .before .before .before .before .before .before .args .refs .now) / refWords) (c .before .before .before .before .before .before .before .before .before .before .before .before .before .loop .s .lines) (c .before .before .before .before .before .before .before .before .before .before .before .before .before .loop .s .lines) (stOf (c .before .before .before .before .before .before .before .before .before .before .before .before .before .loop .backs) (c .before .before .before .before .before .before .before .before .before .before .before .before .before .loop .counts) (c .before .before .before .before .before .before .before .before .before .before .before .before .before .loop .refs) (c .before .before .before .before .before .before .before .before .before .before .before .before .before .loop .s .refs)) ≡ taken (stOf (c .before .before .before .before .before .before .before .count-line .last .1 .1 .1 .1 .1 .1 .0) (c .before .before .before .before .before .before .before .count-line .last .1 .1 .1 .1 .1 .1 .1 .0) (c .before .before .before .before .before .before .before .count-line .last .1 .1 .1 .1 .1 .1 .1 .1 .0) (c .before .before .before .before .before .before .before .before .before .before .before .before .before .loop .s .refs + c .t .given .0 .0))
+took c =
+    ran-taken (lineStep (c .before .before .before .before .before .before .before .before .before .before .before .before .before .before .before .before .before .before .before .args .path-nos .now) (c .before .before .before .before .before .before .before .before .before .before .before .before .before .before .before .before .before .before .before .args .coords .now) (c .before .before .before .before .before .before .before .before .before .before .before .before .before .before .before .before .before .before .before .args .paths .now) (length (c .before .before .before .before .before .before .before .before .before .before .before .before .before .before .before .before .before .before .before .args .refs .now) / refWords) (c .before .before .before .before .before .before .before .before .before .before .before .before .before .loop .s .lines) (c .before .before .before .before .before .before .before .before .before .before .before .before .before .loop .s .lines) (stOf (c .before .before .before .before .before .before .before .before .before .before .before .before .before .loop .backs) (c .before .before .before .before .before .before .before .before .before .before .before .before .before .loop .counts) (c .before .before .before .before .before .before .before .before .before .before .before .before .before .loop .refs) (c .before .before .before .before .before .before .before .before .before .before .before .before .before .loop .s .refs))) (stOf (c .before .before .before .before .before .before .before .before .before .before .before .before .before .loop .backs) (c .before .before .before .before .before .before .before .before .before .before .before .before .before .loop .counts) (c .before .before .before .before .before .before .before .before .before .before .before .before .before .loop .refs) (c .before .before .before .before .before .before .before .before .before .before .before .before .before .loop .s .refs)) _
+    (sym (ap (λ (t : Tallied). tallyRan t (stOf (c .before .before .before .before .before .before .before .count-line .last .1 .1 .1 .1 .1 .1 .0) (c .before .before .before .before .before .before .before .count-line .last .1 .1 .1 .1 .1 .1 .1 .0) (c .before .before .before .before .before .before .before .count-line .last .1 .1 .1 .1 .1 .1 .1 .1 .0)) (c .before .before .before .before .before .before .before .before .before .before .before .before .before .loop .s .refs)) (c .t .given .1)) ∙ said (c .before .before .before .before .before .before .before))
+
+stepped-requires : tie.Need-stepped-requires Inv-loop μ-loop
+stepped-requires c κs = (
+  omega (arith, c .before .before .before .before .before .before .before .before .before .before .before .before .if1 .taken),
+  line-made (c .before .before .before .before .before .before .before .before .before .before .before .before .before .before .before .before .before .before .before .before .args .path-nos .now) (c .before .before .before .before .before .before .before .before .before .before .before .before .before .before .before .before .before .before .before .before .args .coords .now) (c .before .before .before .before .before .before .before .before .before .before .before .before .before .before .before .before .before .before .before .before .args .paths .now) (length (c .before .before .before .before .before .before .before .before .before .before .before .before .before .before .before .before .before .before .before .before .args .refs .now) / refWords) (c .before .before .before .before .before .before .before .before .before .before .before .before .before .before .loop .s .lines) (c .before .before .before .before .before .before .before .before .before .before .before .before .before .before .loop .s .lines) (stOf (c .before .before .before .before .before .before .before .before .before .before .before .before .before .before .loop .backs) (c .before .before .before .before .before .before .before .before .before .before .before .before .before .before .loop .counts) (c .before .before .before .before .before .before .before .before .before .before .before .before .before .before .loop .refs) (c .before .before .before .before .before .before .before .before .before .before .before .before .before .before .loop .s .refs)) _ (omega (arith, c .before .before .before .before .before .before .before .before .before .before .before .before .before .struct-known .given)) (took (c .before)),
+)
+
+loop-less : tie.Need-loop-less Inv-loop μ-loop
+loop-less c = omega (arith, c .before .before .before .before .before .before .before .before .before .before .before .before .before .if1 .taken, ap (λ (r : Running). r .lines) (c .stepped .ensures))
+
+loop-again : tie.Need-loop-again Inv-loop μ-loop
+loop-again c =
+    rw (c .stepped .ensures) (
+      omega (arith, c .before .before .before .before .before .before .before .before .before .before .before .before .before .if1 .taken),
+      c .before .before .before .before .before .before .before .before .before .count-line .kept .1 .1 .1 .1 .1 .1 .0 ∙ c .before .before .before .before .before .before .before .before .before .before .before .before .before .before .before .loop .inv .1,
+      c .before .before .before .before .before .before .before .before .before .count-line .kept .1 .1 .1 .1 .1 .1 .1 .0 ∙ c .before .before .before .before .before .before .before .before .before .before .before .before .before .before .before .loop .inv .2,
+      c .before .before .before .before .before .before .before .before .before .count-line .kept .1 .1 .1 .1 .1 .1 .1 .1 .0 ∙ c .before .before .before .before .before .before .before .before .before .before .before .before .before .before .before .loop .inv .3,
+      batch-goes (λ l. lineStep (c .before .before .before .before .before .before .before .before .before .before .before .before .before .before .before .before .before .before .before .before .before .args .path-nos .now) (c .before .before .before .before .before .before .before .before .before .before .before .before .before .before .before .before .before .before .before .before .before .args .coords .now) (c .before .before .before .before .before .before .before .before .before .before .before .before .before .before .before .before .before .before .before .before .before .args .paths .now) (length (c .before .before .before .before .before .before .before .before .before .before .before .before .before .before .before .before .before .before .before .before .before .args .refs .now) / refWords) l l) (c .before .before .before .before .before .before .before .before .before .before .before .before .before .before .before .loop .s .lines) (c .before .before .before .before .before .before .before .before .before .before .before .before .before .before .before .before .before .before .before .before .before .args .end) (stOf (c .before .before .before .before .before .before .before .before .before .before .before .before .before .before .before .loop .backs) (c .before .before .before .before .before .before .before .before .before .before .before .before .before .before .before .loop .counts) (c .before .before .before .before .before .before .before .before .before .before .before .before .before .before .before .loop .refs) (c .before .before .before .before .before .before .before .before .before .before .before .before .before .before .before .loop .s .refs)) (c .before .before .before .before .before .before .before .before .before .before .before .before .before .if1 .taken) _ (c .before .before .before .before .before .before .before .before .before .before .before .before .before .before .before .loop .inv .4) _ (took (c .before .before)),
+    )
+
+same-length-4 : tie.Need-same-length-4 Inv-loop μ-loop
+same-length-4 c = c .before .before .loop .inv .1
+
+same-length-5 : tie.Need-same-length-5 Inv-loop μ-loop
+same-length-5 c = c .before .before .loop .inv .2
+
+same-length-6 : tie.Need-same-length-6 Inv-loop μ-loop
+same-length-6 c = c .before .before .loop .inv .3
+
+returns-2 : tie.Need-returns-2 Inv-loop μ-loop
+returns-2 c =
+    batch-through (c .before .before .before .before .before .before .before .before .args .end) (c .before .before .loop .s .lines) (stOf (c .before .before .loop .backs) (c .before .before .loop .counts) (c .before .before .loop .refs) (c .before .before .loop .s .refs)) _ (omega (arith, c .if1 .left, c .before .before .loop .inv .0))
+    (batch-ends (λ l. lineStep (c .before .before .before .before .before .before .before .before .args .path-nos .now) (c .before .before .before .before .before .before .before .before .args .coords .now) (c .before .before .before .before .before .before .before .before .args .paths .now) (length (c .before .before .before .before .before .before .before .before .args .refs .now) / refWords) l l) (c .before .before .loop .s .lines) (c .before .before .before .before .before .before .before .before .args .end) (stOf (c .before .before .loop .backs) (c .before .before .loop .counts) (c .before .before .loop .refs) (c .before .before .loop .s .refs)) _ (c .if1 .left) (c .before .before .loop .inv .4))
+
+pub count-batch-spec : {M : Type 1} → statement M
+count-batch-spec =
+    tie.close
+    (tie.spec
+    Inv-loop
+    μ-loop
+    loop-holds
+    count-line-requires
+    enum-known-t
+    enum-told
+    number-requires
+    same-length
+    same-length-2
+    same-length-3
+    returns
+    stepped-requires
+    loop-less
+    loop-again
+    same-length-4
+    same-length-5
+    same-length-6
+    returns-2)

@@ -1,0 +1,130 @@
+-- `path_count::checks::check_step` meets its contract.
+-- Assumes nothing.
+use mathlib.Core.Path.{_≡_, refl, sym, ap, _∙_}
+use native.Mathlib.Omega.{arith}
+use Prim.Native.Nat.{_+_, _<_}
+use lib.ListN.{length, getD}
+use lib.IntN.{pos}
+use borrow.Author.Needs.{needs}
+use Rattle.panel.specs.declared.kinds.Verdict.{Verdict}
+use Rattle.walk.specs.Step.{stepOf}
+use Rattle.walk.specs.declared.step.Step.the-variants.{Tile}
+use Rattle.acts.specs.Acts.{on, deltaOf}
+use Rattle.acts.proofs.Signs.{told}
+use Rattle.acts.proofs.Laws.{check-off, check-full, check-leaves, check-cross, check-plain}
+use Rattle.path_count.specs.Steps.{hitAt, zOf, seenOf}
+use Rattle.path_count.specs.declared.kinds.Seen.{Seen}
+use Rattle.path_count.specs.declared.kinds.Seen.the-variants.{Passed}
+use Rattle.walk.proofs.Tiles.{step-told, tile-in}
+use Rattle.path_count.proofs.Steps.{hit-off, hit-on, cross-below}
+use Rattle.path_count.proofs.checks.check_step.Statement.{statement}
+use Rattle.path_count.proofs.checks.check_step.Tie as tie
+use Rattle.path_count.proofs.checks.check_step.Reads as reads
+use Rattle.path_count.proofs.checks.check_step.Lts as lts
+use Rattle.acts.proofs.leaves.Reads as leaves-reads
+use Rattle.walk.proofs.step.crosses.Reads as crosses-reads
+use Rattle.walk.proofs.step.step_at.Reads as step-at-reads
+
+step-at-requires : tie.Need-step-at-requires
+step-at-requires c κs = search needs
+
+enum-known-tile : tie.Need-enum-known-tile
+enum-known-tile c = search needs
+
+enum-told : tie.Need-enum-told
+enum-told c = search needs
+
+returns : tie.Need-returns
+returns c =
+    ap (λ (v : Verdict). seenOf v (zOf (c .before .before .before .before .args .pace) (c .before .before .before .before .args .i)))
+    (check-off _ _ _ _ _ (hit-off (c .before .before .before .before .args .pace) (c .before .before .before .before .args .path) (c .before .before .before .before .args .i) (sym (c .before .before .step-at .ensures) ∙ c .enum-told .given .1)))
+
+cast-t : tie.Need-cast-t
+cast-t c = search needs
+
+mul-if1 : tie.Need-mul-if1
+mul-if1 c = search needs
+
+-- the step is on its tile
+fell : (c : tie.After-tile) → stepOf (c .before .before .before .before .args .pace) (c .before .before .before .before .args .path) (c .before .before .before .before .args .i) ≡ Tile (c .tile .given .0 .0) (c .tile .given .0 .1 .0) (c .tile .given .0 .1 .1 .0) (c .tile .given .0 .1 .1 .1 .0)
+fell c = sym (c .before .before .step-at .ensures) ∙ c .tile .given .1
+
+-- which is lent
+below : (c : tie.After-tile) → c .tile .given .0 .0 .0 < length (c .before .before .before .before .args .counts .now)
+below c = omega (arith, tile-in (c .before .before .before .before .args .pace) (c .before .before .before .before .args .path) (c .before .before .before .before .args .i) _ _ _ _ (fell c) .1, c .before .before .before .before .pre .0 .within)
+
+shared-slice-read-if1 : tie.Need-shared-slice-read-if1
+shared-slice-read-if1 c = below (c .before .before .before)
+
+-- before the test of the mark any flag serves
+returns-2 : tie.Need-returns-2
+returns-2 c =
+    ap (λ (v : Verdict). seenOf v (zOf (c .before .before .before .before .before .before .before .before .args .pace) (c .before .before .before .before .before .before .before .before .args .i)))
+    (check-full _ _ _ _ _ _ _ (hit-on (c .before .before .before .before .before .before .before .before .args .pace) (c .before .before .before .before .before .before .before .before .args .path) (c .before .before .before .before .before .before .before .before .args .i) _ _ _ _ (fell (c .before .before .before .before)) (c .before .before .before .before .before .before .before .before .args .last-z) _ (c .before .before .before .before .before .before .before .before .pre .2) refl) (c .if1 .taken))
+
+crosses-requires : tie.Need-crosses-requires
+crosses-requires c κs = step-told (c .before .before .before .before .before .before .before .before .args .pace) (c .before .before .before .before .before .before .before .before .args .path) (c .before .before .before .before .before .before .before .before .args .i) _ _ _ _ (fell (c .before .before .before .before)) .within .col-most
+
+add-leaves : tie.Need-add-leaves
+add-leaves c = search needs
+
+mul-leaves : tie.Need-mul-leaves
+mul-leaves c = search needs
+
+shared-slice-copy-out-leaves : tie.Need-shared-slice-copy-out-leaves
+shared-slice-copy-out-leaves c =
+    omega (
+      arith,
+      cross-below (c .before .before .before .before .before .before .before .before .before .before .args .pace) (c .before .before .before .before .before .before .before .before .before .before .args .path) (c .before .before .before .before .before .before .before .before .before .before .args .i) _ _ _ _ (fell (c .before .before .before .before .before .before)) (c .before .before .before .before .before .before .before .before .before .before .args .last-z) (c .before .crosses .result) (c .before .crosses .ensures) (c .if2 .taken),
+      c .before .before .before .before .before .before .before .before .before .before .pre .0 .within,
+      c .before .before .before .before .before .before .before .before .before .before .pre .0 .paired,
+    )
+
+leaves-requires : tie.Need-leaves-requires
+leaves-requires c κs = search needs
+
+-- where the step falls, and whether it marks
+hit : (c : tie.After-crosses) → hitAt (c .before .before .before .before .before .before .before .before .before .args .pace) (c .before .before .before .before .before .before .before .before .before .args .path) (c .before .before .before .before .before .before .before .before .before .args .i) ≡ on (c .before .before .before .before .before .tile .given .0 .0 .0) (c .crosses .result)
+hit c = hit-on (c .before .before .before .before .before .before .before .before .before .args .pace) (c .before .before .before .before .before .before .before .before .before .args .path) (c .before .before .before .before .before .before .before .before .before .args .i) _ _ _ _ (fell (c .before .before .before .before .before)) (c .before .before .before .before .before .before .before .before .before .args .last-z) (c .crosses .result) (c .before .before .before .before .before .before .before .before .before .pre .2) (c .crosses .ensures)
+
+returns-3 : tie.Need-returns-3
+returns-3 c =
+    ap (λ (v : Verdict). seenOf v (zOf (c .before .before .before .before .before .before .before .before .before .before .before .before .before .args .pace) (c .before .before .before .before .before .before .before .before .before .before .before .before .before .args .i)))
+    (check-leaves _ _ _ _ _ _ _ (hit (c .before .before .before .before)) (c .before .leaves .result) (c .before .before .before .before .before .if1 .left) (c .before .before .before .if2 .taken)
+    (told (getD (c .before .before .before .before .before .before .before .before .before .before .before .before .before .args .backs .now) (c .before .before .before .before .before .before .before .before .before .tile .given .0 .0 .0 + 1) (pos 0)) (deltaOf (c .before .before .before .before .before .before .before .before .before .before .before .before .before .args .up)) (c .before .leaves .result) (c .before .before .leaves-arg .given) (c .before .leaves .ensures))
+    (c .if3 .taken))
+
+returns-4 : tie.Need-returns-4
+returns-4 c =
+    ap Passed (sym (step-told (c .before .before .before .before .before .before .before .before .before .before .before .before .before .args .pace) (c .before .before .before .before .before .before .before .before .before .before .before .before .before .args .path) (c .before .before .before .before .before .before .before .before .before .before .before .before .before .args .i) _ _ _ _ (fell (c .before .before .before .before .before .before .before .before .before)) .is-z))
+    ∙ ap (λ (v : Verdict). seenOf v (zOf (c .before .before .before .before .before .before .before .before .before .before .before .before .before .args .pace) (c .before .before .before .before .before .before .before .before .before .before .before .before .before .args .i)))
+    (check-cross _ _ _ _ _ _ _ (hit (c .before .before .before .before)) (c .before .leaves .result) (c .before .before .before .before .before .if1 .left) (c .before .before .before .if2 .taken)
+    (told (getD (c .before .before .before .before .before .before .before .before .before .before .before .before .before .args .backs .now) (c .before .before .before .before .before .before .before .before .before .tile .given .0 .0 .0 + 1) (pos 0)) (deltaOf (c .before .before .before .before .before .before .before .before .before .before .before .before .before .args .up)) (c .before .leaves .result) (c .before .before .leaves-arg .given) (c .before .leaves .ensures))
+    (c .if3 .left))
+
+returns-5 : tie.Need-returns-5
+returns-5 c =
+    ap Passed (sym (step-told (c .before .before .before .before .before .before .before .before .before .before .args .pace) (c .before .before .before .before .before .before .before .before .before .before .args .path) (c .before .before .before .before .before .before .before .before .before .before .args .i) _ _ _ _ (fell (c .before .before .before .before .before .before)) .is-z))
+    ∙ ap (λ (v : Verdict). seenOf v (zOf (c .before .before .before .before .before .before .before .before .before .before .args .pace) (c .before .before .before .before .before .before .before .before .before .before .args .i)))
+    (check-plain _ _ _ _ _ _ _ (hit (c .before)) (c .before .before .if1 .left) (c .if2 .left))
+
+pub check-step-spec : {M : Type 1} → statement M
+check-step-spec =
+    tie.close
+    (tie.spec
+    step-at-requires
+    enum-known-tile
+    enum-told
+    returns
+    cast-t
+    mul-if1
+    shared-slice-read-if1
+    returns-2
+    crosses-requires
+    add-leaves
+    mul-leaves
+    shared-slice-copy-out-leaves
+    leaves-requires
+    returns-3
+    returns-4
+    returns-5)

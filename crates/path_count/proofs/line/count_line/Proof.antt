@@ -1,0 +1,90 @@
+-- `path_count::line::count_line` meets its contract.
+-- Assumes nothing.
+use mathlib.Core.Path.{_≡_, refl, sym, ap, _∙_}
+use mathlib.Core.Logic.{⊎-elim}
+use mathlib.Core.List.{[], _∷_}
+use Prim.Native.Nat.{ℕ, _/_}
+use native.Mathlib.Omega.{arith}
+use lib.ListN.{length}
+use Rattle.lists.specs.Run.{Step}
+use Rattle.panel.specs.Widths.{refWords}
+use Rattle.walk.specs.Lent.{walkAt}
+use Rattle.walk.specs.declared.lent.Walked.{Walked}
+use Rattle.walk.specs.declared.lent.Walked.the-variants.{Refused as WalkRefused, Skipped, Line}
+use Rattle.walk.proofs.lent.Walked.{the-type}
+use denote.Enum.Declared.{tagOf}
+use types.Run.{OneOf}
+use Rattle.acts.specs.Acts.{St, stOf}
+use Rattle.path_count.specs.Count.{lineRan}
+use Rattle.path_count.proofs.Lines.{on-tiles, walkable, line-over, line-walked}
+use Rattle.path_count.proofs.Batches.{NoWalk, line-unwalked}
+use borrow.Author.Needs.{needs}
+use Rattle.path_count.proofs.line.count_line.Statement.{statement}
+use Rattle.path_count.proofs.line.count_line.Tie as tie
+use Rattle.path_count.proofs.line.count_line.Reads as reads
+use Rattle.path_count.proofs.line.count_line.Lts as lts
+use Rattle.path_count.proofs.line.count_walk.Reads as count-walk-reads
+use Rattle.path_count.proofs.line.unwalked.Reads as unwalked-reads
+use Rattle.walk.proofs.lent.walk_at.Reads as walk-at-reads
+
+returns : tie.Need-returns
+returns c = line-over (c .before .before .before .before .before .before .before .args .path-nos .now) (c .before .before .before .before .before .before .before .args .coords .now) (c .before .before .before .before .before .before .before .args .paths .now) (length (c .before .before .before .before .before .before .before .args .refs .now) / refWords) (c .before .before .before .before .before .before .before .args .line .0) (c .before .before .before .before .before .before .before .args .place) _ (c .if1 .taken)
+
+walk-at-requires : tie.Need-walk-at-requires
+walk-at-requires c κs = search needs
+
+enum-known-walked : tie.Need-enum-known-walked
+enum-known-walked c = search needs
+
+unwalked-requires : tie.Need-unwalked-requires
+unwalked-requires c κs = search needs
+
+-- a value of the first two variants, by its tag, has no walk
+no-walk : (x : Walked) → OneOf (0 ∷ 1 ∷ []) (tagOf the-type x) → NoWalk x
+no-walk (WalkRefused n) k = tt
+no-walk Skipped k = tt
+no-walk (Line w b) k = ⊎-elim (λ e. absurd (omega (arith, e))) (λ e. absurd (omega (arith, e))) k
+
+returns-2 : tie.Need-returns-2
+returns-2 c =
+    line-unwalked (c .before .before .before .before .before .before .before .before .before .before .args .path-nos .now) (c .before .before .before .before .before .before .before .before .before .before .args .coords .now) (c .before .before .before .before .before .before .before .before .before .before .args .paths .now) (length (c .before .before .before .before .before .before .before .before .before .before .args .refs .now) / refWords) (c .before .before .before .before .before .before .before .before .before .before .args .line .0) (c .before .before .before .before .before .before .before .before .before .before .args .place) _ _ _ _ (c .before .before .walk-at .result) (c .unwalked .result) (c .before .before .before .if1 .left) (sym (c .before .before .walk-at .ensures)) (no-walk (c .before .before .walk-at .result) (c .before .match .keys2)) (c .unwalked .ensures)
+
+-- the line has a walk
+line : (c : tie.After-walked) → walkAt (c .before .before .before .before .before .before .before .before .before .before .args .path-nos .now) (c .before .before .before .before .before .before .before .before .before .before .args .coords .now) (c .before .before .before .before .before .before .before .before .before .before .args .paths .now) (c .before .before .before .before .before .before .before .before .before .before .args .place) ≡ Line (c .walked .given .0 .0) (c .walked .given .0 .1 .0)
+line c = sym (c .before .before .walk-at .ensures) ∙ c .walked .given .1
+
+count-walk-requires : tie.Need-count-walk-requires
+count-walk-requires c κs = (
+  on-tiles (c .before .before .before .before .before .before .before .before .before .before .before .before .before .before .args .path-nos .now) (c .before .before .before .before .before .before .before .before .before .before .before .before .before .before .args .coords .now) (c .before .before .before .before .before .before .before .before .before .before .before .before .before .before .args .paths .now) (c .before .before .before .before .before .before .before .before .before .before .before .before .before .before .args .place) _ _ (line (c .before .before .before .before)) _ _ (c .before .before .before .before .before .before .before .before .before .before .before .before .before .before .pre .0),
+  walkable (c .before .before .before .before .before .before .before .before .before .before .before .before .before .before .args .path-nos .now) (c .before .before .before .before .before .before .before .before .before .before .before .before .before .before .args .coords .now) (c .before .before .before .before .before .before .before .before .before .before .before .before .before .before .args .paths .now) (c .before .before .before .before .before .before .before .before .before .before .before .before .before .before .args .place) _ _ (line (c .before .before .before .before)) _ _ (c .before .before .before .before .before .before .before .before .before .before .before .before .before .before .pre .0),
+)
+
+same-length : tie.Need-same-length
+same-length c = search needs
+
+same-length-2 : tie.Need-same-length-2
+same-length-2 c = search needs
+
+same-length-3 : tie.Need-same-length-3
+same-length-3 c = search needs
+
+returns-3 : tie.Need-returns-3
+returns-3 c =
+    c .before .before .before .before .before .count-walk .ensures
+    ∙ ap (λ (o : Step St ℕ). lineRan o (stOf (c .before .before .before .before .before .before .before .before .before .before .before .before .before .before .before .before .before .before .before .before .args .backs .now) (c .before .before .before .before .before .before .before .before .before .before .before .before .before .before .before .before .before .before .before .before .args .counts .now) (c .before .before .before .before .before .before .before .before .before .before .before .before .before .before .before .before .before .before .before .before .args .refs .now) (c .before .before .before .before .before .before .before .before .before .before .before .before .before .before .before .before .before .before .before .before .args .made)))
+    (sym (line-walked (c .before .before .before .before .before .before .before .before .before .before .before .before .before .before .before .before .before .before .before .before .args .path-nos .now) (c .before .before .before .before .before .before .before .before .before .before .before .before .before .before .before .before .before .before .before .before .args .coords .now) (c .before .before .before .before .before .before .before .before .before .before .before .before .before .before .before .before .before .before .before .before .args .paths .now) (length (c .before .before .before .before .before .before .before .before .before .before .before .before .before .before .before .before .before .before .before .before .args .refs .now) / refWords) (c .before .before .before .before .before .before .before .before .before .before .before .before .before .before .before .before .before .before .before .before .args .line .0) (c .before .before .before .before .before .before .before .before .before .before .before .before .before .before .before .before .before .before .before .before .args .place) (stOf (c .before .before .before .before .before .before .before .before .before .before .before .before .before .before .before .before .before .before .before .before .args .backs .now) (c .before .before .before .before .before .before .before .before .before .before .before .before .before .before .before .before .before .before .before .before .args .counts .now) (c .before .before .before .before .before .before .before .before .before .before .before .before .before .before .before .before .before .before .before .before .args .refs .now) (c .before .before .before .before .before .before .before .before .before .before .before .before .before .before .before .before .before .before .before .before .args .made)) _ (c .before .before .before .before .before .before .before .before .before .before .before .before .before .if1 .left) (line (c .before .before .before .before .before .before .before .before .before .before))))
+
+pub count-line-spec : {M : Type 1} → statement M
+count-line-spec =
+    tie.close
+    (tie.spec
+    returns
+    walk-at-requires
+    enum-known-walked
+    unwalked-requires
+    returns-2
+    count-walk-requires
+    same-length
+    same-length-2
+    same-length-3
+    returns-3)

@@ -1,0 +1,120 @@
+-- `path_count::writes::write_step` meets its contract. That the step's run goes through says that it is on a tile, that the tile's count is below the limit, and that its mark stays within i32.
+-- Assumes nothing.
+use mathlib.Core.Path.{_≡_, refl, sym, ap, _∙_}
+use Prim.Native.Nat.{_+_, _<_}
+use native.Mathlib.Omega.{arith}
+use lib.ListN.{length}
+use borrow.Author.Needs.{needs}
+use Rattle.walk.specs.Step.{stepOf}
+use Rattle.walk.specs.declared.step.Step.the-variants.{Tile}
+use Rattle.acts.specs.Acts.{on}
+use Rattle.acts.proofs.Laws.{write-off, write-count, write-bump, write-cross, write-plain}
+use Rattle.path_count.specs.Steps.{hitAt}
+use Rattle.walk.proofs.Tiles.{step-told, tile-in}
+use Rattle.path_count.proofs.Steps.{hit-off, hit-on, cross-below}
+use Rattle.path_count.proofs.writes.write_step.Statement.{statement}
+use Rattle.path_count.proofs.writes.write_step.Tie as tie
+use Rattle.path_count.proofs.writes.write_step.Reads as reads
+use Rattle.path_count.proofs.writes.write_step.Lts as lts
+use Rattle.acts.proofs.mark.Reads as mark-reads
+use Rattle.acts.proofs.visit.Reads as visit-reads
+use Rattle.walk.proofs.step.crosses.Reads as crosses-reads
+use Rattle.walk.proofs.step.step_at.Reads as step-at-reads
+
+step-at-requires : tie.Need-step-at-requires
+step-at-requires c κs = search needs
+
+enum-known-tile : tie.Need-enum-known-tile
+enum-known-tile c = search needs
+
+enum-told : tie.Need-enum-told
+enum-told c = search needs
+
+returns : tie.Need-returns
+returns c =
+    absurd (write-off _ _ _ _ _ _ _ _ (c .before .before .before .before .before .pre .5) (hit-off (c .before .before .before .before .before .args .pace) (c .before .before .before .before .before .args .path) (c .before .before .before .before .before .args .i) (sym (c .before .before .step-at .ensures) ∙ c .enum-told .given .1)))
+
+-- the step is on its tile
+fell : (c : tie.After-tile) → stepOf (c .before .before .before .before .before .args .pace) (c .before .before .before .before .before .args .path) (c .before .before .before .before .before .args .i) ≡ Tile (c .tile .given .0 .0) (c .tile .given .0 .1 .0) (c .tile .given .0 .1 .1 .0) (c .tile .given .0 .1 .1 .1 .0)
+fell c = sym (c .before .before .step-at .ensures) ∙ c .tile .given .1
+
+visit-requires : tie.Need-visit-requires
+visit-requires c κs = (
+  omega (arith, tile-in (c .before .before .before .before .before .before .before .before .args .pace) (c .before .before .before .before .before .before .before .before .args .path) (c .before .before .before .before .before .before .before .before .args .i) _ _ _ _ (fell (c .before .before .before)) .1, c .before .before .before .before .before .before .before .before .pre .0 .within),
+  c .before .before .before .before .before .before .before .before .pre .3,
+  write-count _ _ _ _ _ _ _ _ (c .before .before .before .before .before .before .before .before .pre .5) _ _ (hit-on (c .before .before .before .before .before .before .before .before .args .pace) (c .before .before .before .before .before .before .before .before .args .path) (c .before .before .before .before .before .before .before .before .args .i) _ _ _ _ (fell (c .before .before .before)) (c .before .before .before .before .before .before .before .before .args .last-z) _ (c .before .before .before .before .before .before .before .before .pre .2) refl),
+  c .before .before .before .before .before .before .before .before .pre .1,
+  c .before .before .before .before .before .before .before .before .pre .4,
+)
+
+crosses-requires : tie.Need-crosses-requires
+crosses-requires c κs = step-told (c .before .before .before .before .before .before .before .before .before .before .before .before .before .args .pace) (c .before .before .before .before .before .before .before .before .before .before .before .before .before .args .path) (c .before .before .before .before .before .before .before .before .before .before .before .before .before .args .i) _ _ _ _ (fell (c .before .before .before .before .before .before .before .before)) .within .col-most
+
+cast-mark : tie.Need-cast-mark
+cast-mark c = search needs
+
+add-mark : tie.Need-add-mark
+add-mark c = search needs
+
+-- where the step falls, and whether it marks
+hit : (c : tie.After-crosses) → hitAt (c .before .before .before .before .before .before .before .before .before .before .before .before .before .before .args .pace) (c .before .before .before .before .before .before .before .before .before .before .before .before .before .before .args .path) (c .before .before .before .before .before .before .before .before .before .before .before .before .before .before .args .i) ≡ on (c .before .before .before .before .before .before .before .before .before .tile .given .0 .0 .0) (c .crosses .result)
+hit c = hit-on (c .before .before .before .before .before .before .before .before .before .before .before .before .before .before .args .pace) (c .before .before .before .before .before .before .before .before .before .before .before .before .before .before .args .path) (c .before .before .before .before .before .before .before .before .before .before .before .before .before .before .args .i) _ _ _ _ (fell (c .before .before .before .before .before .before .before .before .before)) (c .before .before .before .before .before .before .before .before .before .before .before .before .before .before .args .last-z) (c .crosses .result) (c .before .before .before .before .before .before .before .before .before .before .before .before .before .before .pre .2) (c .crosses .ensures)
+
+mark-requires : tie.Need-mark-requires
+mark-requires c κs = (
+  omega (
+    arith,
+    cross-below (c .before .before .before .before .before .before .before .before .before .before .before .before .before .before .before .before .before .args .pace) (c .before .before .before .before .before .before .before .before .before .before .before .before .before .before .before .before .before .args .path) (c .before .before .before .before .before .before .before .before .before .before .before .before .before .before .before .before .before .args .i) _ _ _ _ (fell (c .before .before .before .before .before .before .before .before .before .before .before .before)) (c .before .before .before .before .before .before .before .before .before .before .before .before .before .before .before .before .before .args .last-z) (c .before .before .before .crosses .result) (c .before .before .before .crosses .ensures) (c .before .before .if1 .taken),
+    c .before .before .before .before .before .before .before .before .before .before .before .before .before .before .before .before .before .pre .0 .within,
+    c .before .before .before .before .before .before .before .before .before .before .before .before .before .before .before .before .before .pre .0 .paired,
+  ),
+  write-bump _ _ _ _ _ _ _ _ (c .before .before .before .before .before .before .before .before .before .before .before .before .before .before .before .before .before .pre .5) _ _ (hit (c .before .before .before)) (c .before .before .if1 .taken),
+)
+
+same-length : tie.Need-same-length
+same-length c = search needs
+
+same-length-2 : tie.Need-same-length-2
+same-length-2 c = search needs
+
+same-length-3 : tie.Need-same-length-3
+same-length-3 c = search needs
+
+returns-2 : tie.Need-returns-2
+returns-2 c = (
+  write-cross _ _ _ _ _ _ _ _ (c .before .before .before .before .before .before .before .before .before .before .before .before .before .before .before .before .before .before .before .pre .5) _ _ (hit (c .before .before .before .before .before)) _ _ _ (c .before .before .before .before .before .before .before .before .before .before .visit .ensures .0) (c .before .before .before .before .before .before .before .before .before .before .visit .ensures .1) (c .before .before .before .before .if1 .taken) (c .before .mark .ensures),
+  sym (step-told (c .before .before .before .before .before .before .before .before .before .before .before .before .before .before .before .before .before .before .before .args .pace) (c .before .before .before .before .before .before .before .before .before .before .before .before .before .before .before .before .before .before .before .args .path) (c .before .before .before .before .before .before .before .before .before .before .before .before .before .before .before .before .before .before .before .args .i) _ _ _ _ (fell (c .before .before .before .before .before .before .before .before .before .before .before .before .before .before)) .is-z),
+)
+
+same-length-4 : tie.Need-same-length-4
+same-length-4 c = search needs
+
+same-length-5 : tie.Need-same-length-5
+same-length-5 c = search needs
+
+returns-3 : tie.Need-returns-3
+returns-3 c = (
+  write-plain _ _ _ _ _ _ _ _ (c .before .before .before .before .before .before .before .before .before .before .before .before .before .before .before .pre .5) _ _ (hit (c .before)) _ _ _ (c .before .before .before .before .before .before .visit .ensures .0) (c .before .before .before .before .before .before .visit .ensures .1) (c .if1 .left) refl,
+  sym (step-told (c .before .before .before .before .before .before .before .before .before .before .before .before .before .before .before .args .pace) (c .before .before .before .before .before .before .before .before .before .before .before .before .before .before .before .args .path) (c .before .before .before .before .before .before .before .before .before .before .before .before .before .before .before .args .i) _ _ _ _ (fell (c .before .before .before .before .before .before .before .before .before .before)) .is-z),
+)
+
+pub write-step-spec : {M : Type 1} → statement M
+write-step-spec =
+    tie.close
+    (tie.spec
+    step-at-requires
+    enum-known-tile
+    enum-told
+    returns
+    visit-requires
+    crosses-requires
+    cast-mark
+    add-mark
+    mark-requires
+    same-length
+    same-length-2
+    same-length-3
+    returns-2
+    same-length-4
+    same-length-5
+    returns-3)

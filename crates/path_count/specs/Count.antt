@@ -1,0 +1,168 @@
+-- A line's effect, a batch's and a call's: answers and all that is lent. docs/RULES.md, "When the panel says no", counting. Definitions only.
+use mathlib.Core.Path.{_≡_}
+use mathlib.Core.Bool.{Bool, not}
+use mathlib.Core.List.{List, [], _∷_}
+use Prim.Native.Nat.{ℕ, _+_, _-_, _*_, _/_, _%_, _≤_, _<_}
+use lib.Dec.{leb, eqb}
+use lib.ListN.{length}
+use lib.IntN.{ℤ}
+use lib.Ieee.{Float}
+use Rattle.lists.specs.Run.{Step, taken, halted, Ran, done, refused, onStep}
+use Rattle.panel.specs.Limits.{mostLines, mostSteps}
+use Rattle.panel.specs.Refusals.{doneNo, notWhole, lineNumber}
+use Rattle.panel.specs.Widths.{lineFloats, refWords}
+use Rattle.panel.specs.Checks.{Check, check, firstNo, unless}
+use Rattle.panel.specs.Paths.{widthOf, pathsAnswer}
+use Rattle.panel.specs.declared.kinds.Path.{Path}
+use Rattle.panel.specs.declared.kinds.Running.{Running}
+use Rattle.panel.specs.declared.kinds.Answer.{Answer}
+use Rattle.panel.specs.declared.kinds.Answer.the-variants.{Done as AnswerDone, Refused as AnswerRefused}
+use Rattle.walk.specs.Page.{lineOf}
+use Rattle.walk.specs.Lent.{Reached, walkAt}
+use Rattle.walk.specs.declared.setup.Pace.{Pace}
+use Rattle.walk.specs.declared.setup.Walk.{Walk}
+use Rattle.walk.specs.declared.lent.Walked.{Walked}
+use Rattle.walk.specs.declared.lent.Walked.the-variants.{Refused as WalkRefused, Skipped, Line}
+use Rattle.clip.specs.Page.{clippedOf}
+use Rattle.clip.specs.declared.Clip.{Clip}
+use Rattle.util.specs.declared.Vec2.{Vec2}
+use Rattle.acts.specs.Acts.{St, stOf}
+use Rattle.acts.specs.declared.rows.Rows.{Rows}
+use Rattle.acts.specs.Line.{Plan, planStep, haltIf, Refusal, batchOf}
+use Rattle.path_count.specs.Steps.{hitAt}
+use Rattle.path_count.specs.declared.kinds.Tallied.{Tallied}
+use Rattle.path_count.specs.declared.kinds.Tallied.the-variants.{On, Against}
+use Rattle.path_count.specs.declared.kinds.Counted.{Counted}
+use Rattle.path_count.specs.declared.kinds.Counted.the-variants.{Done, Refused}
+
+-- ---- a line
+
+-- the rows that a line passes left of its path's box
+abbrev pub rowsBy : Path → Clip → Rows
+rowsBy b c = record { first = b .first; top = b .y0; width = widthOf b; low = c .ymin; high = c .ymax }
+
+-- a walk at this pace, clipped to its path's box: which acts it has
+abbrev pub planBy : Bool → Pace → Path → Clip → Plan
+planBy up w b c = record { up = up; rows = rowsBy b c; imin = c .imin; imax = c .imax; hit = hitAt w b }
+
+-- an upward line marks with +1
+unfoldable pub planOf : Walk → Path → Plan
+planOf w b = planBy (not (w .e .«is_down»)) (w .pace) b (clippedOf w b)
+
+abbrev pub walkedStep : (room l : ℕ) → Walked → St → Step St ℕ
+walkedStep room l (WalkRefused n) s = halted n
+walkedStep room l Skipped s = taken s
+walkedStep room l (Line w b) s = planStep room l (planOf w b) s
+
+-- the line that stands at place k of those lent, as line number l: 5, then 6, 7 and the skip rules, then its acts
+unfoldable pub lineStep : (nos : List ℕ) (coords : List Float) (paths : List ℕ) (room l k : ℕ) → St → Step St ℕ
+lineStep nos coords paths room l k s = haltIf (leb mostLines l) lineNumber (walkedStep room l (walkAt nos coords paths k) s)
+
+-- what a line leaves, refused or not
+abbrev pub lineRan : Step St ℕ → St → Ran St ℕ
+lineRan o s = onStep o s done
+
+-- the same of an answer in code, with what is lent afterwards: the state in which n references are made is f n
+abbrev pub tallyRan : Tallied → (ℕ → St) → ℕ → Ran St ℕ
+tallyRan (On n) f made = done (f (made + n))
+tallyRan (Against n) f made = refused (f made) n
+
+-- a line with no walk makes no reference
+abbrev pub unwalkedOf : Walked → Tallied
+unwalkedOf (WalkRefused n) = Against n
+unwalkedOf Skipped = On 0
+unwalkedOf (Line w b) = On 0
+
+-- the number of a refusal
+abbrev pub numberOf : Tallied → ℕ
+numberOf (On n) = doneNo
+numberOf (Against n) = n
+
+-- ---- a batch
+
+-- from line a up to line b; a line's number is its place
+abbrev pub batch : (nos : List ℕ) (coords : List Float) (paths : List ℕ) (room a b : ℕ) → St → Ran St Refusal
+batch nos coords paths room a b s = batchOf (λ l. lineStep nos coords paths room l l) a (b - a) s
+
+-- an answer on paper: its number, the item's of a refusal, then lines and references so far
+abbrev pub paperOf : Counted → List ℕ
+paperOf (Done r) = doneNo ∷ r .lines ∷ r .refs ∷ []
+paperOf (Refused n item r) = n ∷ item ∷ r .lines ∷ r .refs ∷ []
+
+-- references so far, as an answer has them
+abbrev pub madeOf : Counted → ℕ
+madeOf (Done r) = r .refs
+madeOf (Refused n item r) = r .refs
+
+-- an answer on paper, with all that was lent as it is afterwards
+pub record Told : Type 0 where
+  pub paper : List ℕ
+  pub backs : List ℤ
+  pub counts : List ℕ
+  pub refs : List ℕ
+
+abbrev pub toldOf : List ℕ → St → Told
+toldOf p s = record { paper = p; backs = s .backs; counts = s .counts; refs = s .refs }
+
+-- a batch up to line b: all its lines, or those before the line refused
+abbrev pub batchTold : ℕ → Ran St Refusal → Told
+batchTold b (done s) = toldOf (doneNo ∷ b ∷ s .made ∷ []) s
+batchTold b (refused s why) = toldOf (why .no ∷ why .line ∷ why .line ∷ s .made ∷ []) s
+
+-- ---- a call
+
+-- the lengths lent: path numbers, coordinates, backdrops, counts, references. Then the batch's range
+abbrev pub lentChecks : (nn nc nb nt nr a b : ℕ) → List Check
+lentChecks nn nc nb nt nr a b =
+    check (eqb (nc % lineFloats) 0) notWhole
+    ∷ check (eqb nn (nc / lineFloats)) notWhole
+    ∷ check (eqb nb nt) notWhole
+    ∷ check (eqb (nr % refWords) 0) notWhole
+    ∷ check (leb a b) notWhole
+    ∷ check (leb b (nc / lineFloats)) notWhole
+    ∷ []
+
+-- 1, 2, then the paths in order for 3 and 4
+unfoldable pub callAnswer : (nos : List ℕ) (coords : List Float) (paths : List ℕ) (a b : ℕ) → St → Answer
+callAnswer nos coords paths a b s =
+    unless (firstNo (lentChecks (length nos) (length coords) (length (s .backs)) (length (s .counts)) (length (s .refs)) a b)) 0
+    (pathsAnswer paths (length (s .counts)))
+
+-- a refusal there changes nothing
+abbrev pub callTold : Answer → Running → St → Told → Told
+callTold AnswerDone r s next = next
+callTold (AnswerRefused n item) r s next = toldOf (n ∷ item ∷ r .lines ∷ r .refs ∷ []) s
+
+-- the call, from the running numbers up to line b
+unfoldable pub counted : Running → ℕ → (nos : List ℕ) (coords : List Float) (paths : List ℕ) → (backs : List ℤ) (counts refs : List ℕ) → Told
+counted r b nos coords paths backs counts refs =
+    let s = stOf backs counts refs (r .refs) in
+    callTold (callAnswer nos coords paths (r .lines) b s) r s (batchTold b (batch nos coords paths (length refs / refWords) (r .lines) b s))
+
+-- ---- what the checks of a call leave to lean on
+
+-- so many backdrops and tiles are lent, and each path that is there lies among them
+pub record Lent (paths : List ℕ) (backs counts : ℕ) : Type 0 where
+  pub paired : backs ≡ counts
+  pub passed : pathsAnswer paths counts ≡ AnswerDone
+
+-- line k is there
+pub record There (k nos coords : ℕ) : Type 0 where
+  pub numbered : k < nos
+  pub whole : k * lineFloats + lineFloats ≤ coords
+
+-- a line's walk over a path whose box has columns: its coordinates were checked
+pub record Walkable (w : Walk) (b : Path) : Type 0 where
+  pub p0 : Vec2
+  pub p1 : Vec2
+  pub reached : Reached p0 p1
+  pub walked : w ≡ lineOf p0 p1
+  pub wide : b .x0 < b .x1
+
+-- what clipping to a box leaves, where no step number is over the limit
+pub record Clipped (b : Path) (c : Clip) : Type 0 where
+  pub wide : b .x0 < b .x1
+  pub top : b .y0 ≤ c .ymin
+  pub bottom : c .ymax ≤ b .y1
+  pub onward : c .imin ≤ c .imax
+  pub last : c .imin < c .imax → c .imax ≤ mostSteps

@@ -1,0 +1,136 @@
+// A batch of lines, and the public call, which asks nothing of its caller.
+ghost use mathlib.Core.Path.{_≡_};
+ghost use Prim.Native.Nat.{_*_, _/_, _≤_};
+ghost use lib.ListN.{length};
+ghost use Rattle.panel.specs.Widths.{refWords, lineFloats};
+ghost use Rattle.panel.specs.Checks.{firstNo};
+ghost use Rattle.acts.specs.Acts.{stOf};
+ghost use Rattle.path_count.specs.Count.{numberOf, batch, paperOf, madeOf, toldOf, batchTold, lentChecks, counted, Lent};
+use super::kinds::Counted;
+use super::kinds::Tallied;
+use super::line::count_line;
+use panel::checks::check_paths;
+use panel::kinds::Answer;
+use panel::kinds::LineNo;
+use panel::kinds::Running;
+use panel::kinds::Verdict;
+use panel::refusals::DONE;
+use panel::refusals::NOT_WHOLE;
+use panel::widths::LINE_FLOATS;
+use panel::widths::REF_WORDS;
+
+// The number of a refusal, which `let .. else` can't bind.
+fn number(t: Tallied) -> u32
+    ensures { λ r. ⌜ r ≡ numberOf t ⌝ }
+{
+    match t {
+        Tallied::On(_) => DONE,
+        Tallied::Against(why) => why,
+    }
+}
+
+// The lines from the lines so far up to the end named. A line's number is its place.
+fn count_batch(
+    running: Running,
+    end: u32,
+    path_nos: &[u32],
+    coords: &[f32],
+    paths: &[u32],
+    backs: &mut [i32],
+    counts: &mut [u32],
+    refs: &mut [u32],
+) -> Counted
+    requires { ⌜ Lent (now paths) (length (now backs)) (length (now counts)) × (running .lines ≤ end)
+        × (end ≤ length (now «path_nos»)) × (end * lineFloats ≤ length (now coords)) ⌝ }
+    ensures { λ r. ⌜ toldOf (paperOf r) (stOf (now (backs .exit)) (now (counts .exit)) (now (refs .exit)) (madeOf r))
+        ≡ batchTold end (batch (now («path_nos» .entry)) (now (coords .entry)) (now (paths .entry)) (length (now (refs .entry)) / refWords) (running .lines) end
+        (stOf (now (backs .entry)) (now (counts .entry)) (now (refs .entry)) (running .refs))) ⌝ }
+{
+    let mut s = running;
+    while s.lines < end {
+        let l = s.lines;
+        let t = count_line(
+            LineNo(l),
+            l,
+            s.refs,
+            path_nos,
+            coords,
+            paths,
+            backs,
+            counts,
+            refs,
+        );
+        let Tallied::On(n) = t else {
+            return Counted::Refused(number(t), l, s);
+        };
+        s = s.stepped(n);
+    }
+    Counted::Done(s)
+}
+
+// Check 1 of the lengths lent, in the order of the parameters, and of the batch's range.
+fn check_lent(nn: usize, nc: usize, nb: usize, nt: usize, nr: usize, a: u32, b: u32) -> Verdict
+    ensures { λ r. ⌜ r ≡ firstNo (lentChecks nn nc nb nt nr a b) ⌝ }
+{
+    if nc % LINE_FLOATS != 0 {
+        return Verdict::Against(NOT_WHOLE);
+    }
+    if nn != nc / LINE_FLOATS {
+        return Verdict::Against(NOT_WHOLE);
+    }
+    if nb != nt {
+        return Verdict::Against(NOT_WHOLE);
+    }
+    if nr % REF_WORDS != 0 {
+        return Verdict::Against(NOT_WHOLE);
+    }
+    if b < a {
+        return Verdict::Against(NOT_WHOLE);
+    }
+    if nc / LINE_FLOATS < b as usize {
+        return Verdict::Against(NOT_WHOLE);
+    }
+    Verdict::Fine
+}
+
+// Counts the lines from the lines so far up to end.
+pub fn count(
+    running: Running,
+    end: u32,
+    path_nos: &[u32],
+    coords: &[f32],
+    paths: &[u32],
+    backdrops: &mut [i32],
+    counts: &mut [u32],
+    refs: &mut [u32],
+) -> Counted
+    ensures { λ r. ⌜ toldOf (paperOf r) (stOf (now (backdrops .exit)) (now (counts .exit)) (now (refs .exit)) (madeOf r))
+        ≡ counted running end (now («path_nos» .entry)) (now (coords .entry)) (now (paths .entry)) (now (backdrops .entry)) (now (counts .entry)) (now (refs .entry)) ⌝ }
+{
+    let v = check_lent(
+        path_nos.len(),
+        coords.len(),
+        backdrops.len(),
+        counts.len(),
+        refs.len(),
+        running.lines,
+        end,
+    );
+    if let Verdict::Against(why) = v {
+        return Counted::Refused(why, 0, running);
+    }
+    let a = check_paths(paths, counts.len());
+    if let Answer::Refused(why, item) = a {
+        return Counted::Refused(why, item, running);
+    }
+    count_batch(
+        running,
+        end,
+        path_nos,
+        coords,
+        paths,
+        backdrops,
+        counts,
+        refs,
+    )
+}

@@ -1,0 +1,21 @@
+// What counting hands from part to part, and what it answers.
+use panel::kinds::Running;
+
+// A step that passes its check, with its z; or the number of its refusal.
+pub enum Seen {
+    Passed(f32),
+    Against(u32),
+}
+
+// A line counted, with the number of its references; or the number of its refusal.
+pub enum Tallied {
+    On(u32),
+    Against(u32),
+}
+
+// A batch: all its lines, or stopped before the line, or at the path, that is refused, with the
+// refusal's number and the item's. Lines and references so far are carried on.
+pub enum Counted {
+    Done(Running),
+    Refused(u32, u32, Running),
+}

@@ -1,0 +1,12 @@
+// path_count.rs: the tiles that lines pass are counted, a reference for each step, backdrops marked.
+// A line is checked first and then written, so that a refused line changes nothing.
+mod call;
+mod checks;
+mod kinds;
+mod line;
+mod writes;
+
+pub use call::count;
+pub use kinds::Counted;
+pub use kinds::Tallied;
+pub use line::count_line;

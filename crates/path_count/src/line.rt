@@ -1,0 +1,175 @@
+// One line: its check, then its writes. docs/RULES.md, counting: 8 for the largest step number, 9, 11
+// for row marks, then the steps.
+ghost use mathlib.Core.Path.{_≡_};
+ghost use mathlib.Core.Bool.{true};
+ghost use Prim.Native.Nat.{_+_, _-_, _*_, _/_, _≤_};
+ghost use lib.ListN.{length};
+ghost use Rattle.lists.specs.Run.{done};
+ghost use Rattle.panel.specs.Limits.{mostSlots};
+ghost use Rattle.panel.specs.Widths.{refWords};
+ghost use Rattle.acts.specs.Acts.{stOf, runActs, checkNo, isDone, deltaOf};
+ghost use Rattle.acts.specs.Line.{planActs, planStep};
+ghost use Rattle.path_count.specs.Steps.{OnTiles};
+ghost use Rattle.path_count.specs.Count.{rowsBy, planBy, planOf, lineRan, tallyRan, unwalkedOf, lineStep, Clipped, Walkable, Lent, There};
+use super::checks::check_steps;
+use super::kinds::Tallied;
+use super::writes::write_steps;
+use acts::Rows;
+use acts::check_rows;
+use acts::write_rows;
+use clip::Clip;
+use clip::clip_to;
+use panel::kinds::LineNo;
+use panel::kinds::Path;
+use panel::kinds::Verdict;
+use panel::limits::MOST_LINES;
+use panel::limits::MOST_SLOTS;
+use panel::limits::MOST_STEPS;
+use panel::refusals::COUNT_OVER;
+use panel::refusals::LINE_NUMBER;
+use panel::refusals::NO_ROOM;
+use panel::widths::REF_WORDS;
+use walk::lent::Walked;
+use walk::lent::walk_at;
+use walk::setup::Pace;
+use walk::setup::Walk;
+
+// The rows that a line passes left of its path's box.
+fn rows_by(path: Path, clip: Clip) -> Rows
+    requires { ⌜ path .x0 ≤ path .x1 ⌝ }
+    ensures { λ r. ⌜ r ≡ rowsBy path clip ⌝ }
+{
+    Rows {
+        first: path.first,
+        top: path.y0,
+        width: path.x1 - path.x0,
+        low: clip.ymin,
+        high: clip.ymax,
+    }
+}
+
+// Row marks, then steps: nothing is written.
+fn check_line(
+    up: bool,
+    pace: Pace,
+    path: Path,
+    clip: Clip,
+    backs: &[i32],
+    counts: &[u32],
+) -> Verdict
+    requires { ⌜ OnTiles path (length (now backs)) (length (now counts)) × Clipped path clip ⌝ }
+    ensures { λ r. ⌜ r ≡ checkNo (deltaOf up) (planActs (planBy up pace path clip)) (now (backs .entry)) (now (counts .entry)) ⌝ }
+{
+    let v = check_rows(rows_by(path, clip), up, backs, counts);
+    let Verdict::Fine = v else {
+        return v;
+    };
+    check_steps(pace, path, up, clip.imin, clip.imax, backs, counts)
+}
+
+// Row marks, then steps, as references made, made + 1, ..
+fn write_line(
+    up: bool,
+    pace: Pace,
+    path: Path,
+    clip: Clip,
+    line: LineNo,
+    made: u32,
+    backs: &mut [i32],
+    counts: &mut [u32],
+    refs: &mut [u32],
+)
+    requires { ⌜ OnTiles path (length (now backs)) (length (now counts)) × Clipped path clip
+        × (refWords * (made + (clip .imax - clip .imin)) ≤ length (now refs)) × (made + (clip .imax - clip .imin) ≤ mostSlots)
+        × (isDone (runActs (deltaOf up) (line .0) (planActs (planBy up pace path clip)) (stOf (now backs) (now counts) (now refs) made)) ≡ true) ⌝ }
+    ensures { λ _. ⌜ done (stOf (now (backs .exit)) (now (counts .exit)) (now (refs .exit)) (made + (clip .imax - clip .imin)))
+        ≡ runActs (deltaOf up) (line .0) (planActs (planBy up pace path clip)) (stOf (now (backs .entry)) (now (counts .entry)) (now (refs .entry)) made) ⌝ }
+{
+    write_rows(rows_by(path, clip), up, backs);
+    write_steps(
+        pace,
+        path,
+        up,
+        line,
+        clip.imin,
+        clip.imax,
+        made,
+        backs,
+        counts,
+        refs,
+    );
+}
+
+// A walk, as line number line, after made references.
+fn count_walk(
+    line: LineNo,
+    made: u32,
+    walk: Walk,
+    path: Path,
+    backs: &mut [i32],
+    counts: &mut [u32],
+    refs: &mut [u32],
+) -> Tallied
+    requires { ⌜ OnTiles path (length (now backs)) (length (now counts)) × Walkable walk path ⌝ }
+    ensures { λ r. ⌜ tallyRan r (stOf (now (backs .exit)) (now (counts .exit)) (now (refs .exit))) made
+        ≡ lineRan (planStep (length (now (refs .entry)) / refWords) (line .0) (planOf walk path) (stOf (now (backs .entry)) (now (counts .entry)) (now (refs .entry)) made))
+        (stOf (now (backs .entry)) (now (counts .entry)) (now (refs .entry)) made) ⌝ }
+{
+    let up = !walk.e.is_down;
+    let pace = walk.pace;
+    let clip = clip_to(walk, path);
+    let imin = clip.imin;
+    let imax = clip.imax;
+    if (imin < imax) & (imax > MOST_STEPS) {
+        return Tallied::Against(COUNT_OVER);
+    }
+    let n = imax - imin;
+    let after = (made as u64) + (n as u64);
+    if (after > (refs.len() / REF_WORDS) as u64) | (after > MOST_SLOTS as u64) {
+        return Tallied::Against(NO_ROOM);
+    }
+    let v = check_line(up, pace, path, clip, backs, counts);
+    if let Verdict::Against(why) = v {
+        return Tallied::Against(why);
+    }
+    write_line(up, pace, path, clip, line, made, backs, counts, refs);
+    Tallied::On(n)
+}
+
+// A line that has no walk.
+fn unwalked(walked: Walked) -> Tallied
+    ensures { λ r. ⌜ r ≡ unwalkedOf walked ⌝ }
+{
+    match walked {
+        Walked::Refused(why) => Tallied::Against(why),
+        Walked::Skipped => Tallied::On(0),
+        Walked::Line(_, _) => Tallied::On(0),
+    }
+}
+
+// The line at a place of those lent, as line number line: the two need not be the same.
+pub fn count_line(
+    line: LineNo,
+    place: u32,
+    made: u32,
+    path_nos: &[u32],
+    coords: &[f32],
+    paths: &[u32],
+    backs: &mut [i32],
+    counts: &mut [u32],
+    refs: &mut [u32],
+) -> Tallied
+    requires { ⌜ Lent (now paths) (length (now backs)) (length (now counts)) × There place (length (now «path_nos»)) (length (now coords)) ⌝ }
+    ensures { λ r. ⌜ tallyRan r (stOf (now (backs .exit)) (now (counts .exit)) (now (refs .exit))) made
+        ≡ lineRan (lineStep (now («path_nos» .entry)) (now (coords .entry)) (now (paths .entry)) (length (now (refs .entry)) / refWords) (line .0) place (stOf (now (backs .entry)) (now (counts .entry)) (now (refs .entry)) made))
+        (stOf (now (backs .entry)) (now (counts .entry)) (now (refs .entry)) made) ⌝ }
+{
+    if line.0 >= MOST_LINES {
+        return Tallied::Against(LINE_NUMBER);
+    }
+    let walked = walk_at(path_nos, coords, paths, place);
+    let Walked::Line(walk, path) = walked else {
+        return unwalked(walked);
+    };
+    count_walk(line, made, walk, path, backs, counts, refs)
+}

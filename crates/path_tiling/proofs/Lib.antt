@@ -1,0 +1,7 @@
+-- What the proofs of the crate's functions share, and the crate's laws.
+pub mod LookLaws
+pub mod PutLaws
+pub mod RangeLaws
+pub mod CallLaws
+pub mod WriteLaws
+pub mod Traces

@@ -1,0 +1,11 @@
+-- `path_tiling::whole` meets its contract. Assumes nothing.
+use Rattle.path_tiling.specs.Tiling.{wholeOf}
+use Rattle.path_tiling.proofs.whole.Statement.{statement}
+use Rattle.path_tiling.proofs.whole.Tie as tie
+
+returns : tie.Need-returns
+unfolding wholeOf
+returns c = cc
+
+pub whole-spec : {M : Type 1} → statement M
+whole-spec = tie.close (tie.spec returns)

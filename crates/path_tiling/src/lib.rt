@@ -1,0 +1,157 @@
+// A segment for each reference of a range, written at its slot: path_tiling.rs. docs/RULES.md,
+// tiling's part of "When the panel says no".
+pub mod look;
+
+ghost use mathlib.Core.Path.{_≡_};
+ghost use Prim.Native.Nat.{_+_, _-_, _*_, _≤_};
+ghost use lib.ListN.{length};
+ghost use Rattle.panel.specs.Widths.{segmentFloats};
+ghost use Rattle.path_tiling.specs.Look.{lent, FoundFits, foundTo};
+ghost use Rattle.path_tiling.specs.Tiling.{putOf, one, oneOf, slotsOf, wholeOf, Ready, rangeOf, tiled, rangeTiled, tiledOf};
+use look::Kept;
+use look::Look;
+use panel::kinds::Answer;
+use panel::kinds::LineNo;
+use panel::kinds::SlotNo;
+use panel::kinds::Verdict;
+use panel::limits::MOST_SLOTS;
+use panel::refusals::NOT_WHOLE;
+use panel::widths::LINE_FLOATS;
+use panel::widths::PATH_WORDS;
+use panel::widths::REF_WORDS;
+use panel::widths::SEGMENT_FLOATS;
+use segment::Segment;
+use walk::lent::Walked;
+
+// A segment into its slot.
+fn put(segments: &mut [f32], slot: SlotNo, s: Segment)
+    requires { ⌜ slot .0 * segmentFloats + segmentFloats ≤ length (now segments) ⌝ }
+    ensures { λ r. ⌜ now (segments .exit) ≡ putOf (slot .0) s (now (segments .entry)) ⌝ }
+{
+    let at = (slot.0 as usize) * SEGMENT_FLOATS;
+    segments[at] = s.p0.x;
+    segments[at + 1] = s.p0.y;
+    segments[at + 2] = s.p1.x;
+    segments[at + 3] = s.p1.y;
+    segments[at + 4] = s.y_edge;
+}
+
+// One reference, whose line is as the walk found it.
+fn tile_one(
+    found: Walked,
+    packed: u32,
+    indices: &[u32],
+    slots: u32,
+    segments: &mut [f32],
+) -> Verdict
+    requires { ⌜ FoundFits (length (now indices)) found × (slots * segmentFloats ≤ length (now segments)) ⌝ }
+    ensures { λ r. ⌜ one r (now (segments .exit)) ≡ oneOf (foundTo (now (indices .entry)) slots packed found) (now (segments .entry)) ⌝ }
+{
+    match look::look_at(found, packed, indices, slots) {
+        Look::Put(slot, s) => {
+            put(segments, slot, s);
+            Verdict::Fine
+        }
+        Look::Empty => Verdict::Fine,
+        Look::Against(why) => Verdict::Against(why),
+    }
+}
+
+// The slots that so many floats have room for.
+fn slots_of(floats: usize) -> u32
+    ensures { λ r. ⌜ r ≡ slotsOf floats ⌝ }
+{
+    let room = floats / SEGMENT_FLOATS;
+    if room < (MOST_SLOTS as usize) {
+        room as u32
+    } else {
+        MOST_SLOTS
+    }
+}
+
+// The references from `from` up to `to`, in order, up to the first that is refused. The numbers of a
+// line are kept while the next reference names the same line.
+fn tile_range(
+    from: u32,
+    to: u32,
+    path_nos: &[u32],
+    coords: &[f32],
+    paths: &[u32],
+    indices: &[u32],
+    refs: &[u32],
+    segments: &mut [f32],
+) -> Answer
+    requires { ⌜ Ready from to (lent (now «path_nos») (now coords) (now paths) (now indices) (now refs)) ⌝ }
+    ensures { λ r. ⌜ tiled r (now (segments .exit)) ≡ rangeTiled (rangeOf (lent (now («path_nos» .entry)) (now (coords .entry)) (now (paths .entry)) (now (indices .entry)) (now (refs .entry))) (slotsOf (length (now (segments .entry)))) (to - from) from) (now (segments .entry)) ⌝ }
+{
+    let slots = slots_of(segments.len());
+    let mut kept = look::first_kept(path_nos, coords, paths);
+    let mut k = from;
+    while k < to {
+        let at = (k as usize) * REF_WORDS;
+        let line = LineNo(refs[at]);
+        let packed = refs[at + 1];
+        kept = kept.next(path_nos, coords, paths, line);
+        let found = kept.found;
+        let v = tile_one(found, packed, indices, slots, segments);
+        if let Verdict::Against(why) = v {
+            return Answer::Refused(why, k);
+        }
+        k += 1;
+    }
+    Answer::Done
+}
+
+// Refusal 1: whole records, paired slices as long as each other, a range that is one.
+fn whole(
+    from: u32,
+    to: u32,
+    lines: usize,
+    coords: usize,
+    paths: usize,
+    refs: usize,
+    segments: usize,
+) -> bool
+    ensures { λ r. ⌜ r ≡ wholeOf from to lines coords paths refs segments ⌝ }
+{
+    (coords % LINE_FLOATS == 0)
+        & (lines == coords / LINE_FLOATS)
+        & (paths % PATH_WORDS == 0)
+        & (refs % REF_WORDS == 0)
+        & (segments % SEGMENT_FLOATS == 0)
+        & (from <= to)
+        & ((to as usize) <= refs / REF_WORDS)
+}
+
+// A segment for each of the references from `from` up to `to`. It stops before the first refused,
+// with its number. Lines are given by their path numbers and their coordinates, the tiles by what
+// hand-out left in them.
+pub fn tile(
+    from: u32,
+    to: u32,
+    path_nos: &[u32],
+    coords: &[f32],
+    paths: &[u32],
+    indices: &[u32],
+    refs: &[u32],
+    segments: &mut [f32],
+) -> Answer
+    ensures { λ r. ⌜ tiled r (now (segments .exit)) ≡ tiledOf from to (lent (now («path_nos» .entry)) (now (coords .entry)) (now (paths .entry)) (now (indices .entry)) (now (refs .entry))) (now (segments .entry)) ⌝ }
+{
+    if !whole(
+        from,
+        to,
+        path_nos.len(),
+        coords.len(),
+        paths.len(),
+        refs.len(),
+        segments.len(),
+    ) {
+        return Answer::Refused(NOT_WHOLE, 0);
+    }
+    let checked = panel::checks::check_paths(paths, indices.len());
+    if let Answer::Refused(why, item) = checked {
+        return Answer::Refused(why, item);
+    }
+    tile_range(from, to, path_nos, coords, paths, indices, refs, segments)
+}

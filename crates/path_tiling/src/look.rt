@@ -1,0 +1,146 @@
+// What one reference comes to: path_tiling.rs, lines 30 to 39 and 62 to 86, with the refusals in the
+// place of its panics.
+ghost use mathlib.Core.Path.{_≡_};
+ghost use Prim.Native.Nat.{_*_, _<_, _≤_};
+ghost use lib.ListN.{length};
+ghost use Rattle.panel.specs.Limits.{mostSteps, mostTiles, edgeMost};
+ghost use Rattle.panel.specs.Widths.{lineFloats};
+ghost use Rattle.panel.specs.Paths.{endOf};
+ghost use Rattle.walk.specs.Step.{Boxed, stepOf};
+ghost use Rattle.segment.specs.Clips.{pieceOf};
+ghost use Rattle.path_tiling.specs.Kept.{keptOf};
+ghost use Rattle.path_tiling.specs.Look.{StepFits, FoundFits, pieceTo, wordTo, stepTo, foundTo, foundOf};
+use panel::kinds::LineNo;
+use panel::kinds::Path;
+use panel::kinds::SlotNo;
+use panel::limits::MOST_STEPS;
+use panel::refusals::CROOKED;
+use panel::refusals::NO_ROOM;
+use panel::refusals::NO_SUCH;
+use panel::refusals::OUTSIDE;
+use segment::Piece;
+use segment::Segment;
+use walk::lent::Walked;
+use walk::setup::Walk;
+use walk::step::Step;
+
+// A tile's word below this was handed no slot: its NOT is negative as an i32.
+const HANDED_FROM: u32 = 0x8000_0000;
+
+// A segment and its slot; nothing, where the tile is empty; or a refusal.
+pub enum Look {
+    Put(SlotNo, Segment),
+    Empty,
+    Against(u32),
+}
+
+fn look_piece(slot: SlotNo, piece: Piece) -> Look
+    ensures { λ r. ⌜ r ≡ pieceTo (slot .0) piece ⌝ }
+{
+    match piece {
+        Piece::Kept(s) => Look::Put(slot, s),
+        Piece::Crooked => Look::Against(CROOKED),
+    }
+}
+
+// The word of a step's tile, with the slice number: the tile is empty, or its slot must be among the
+// slots (9) and the segment's ends in the tile (12).
+fn look_word(w: Walk, i: u32, z: f32, x: u32, y: u32, word: u32, slice: u32, slots: u32) -> Look
+    requires { ⌜ (i < mostSteps) × (x ≤ edgeMost) × (y ≤ edgeMost) × (slice < mostSteps) ⌝ }
+    ensures { λ r. ⌜ r ≡ wordTo slots word slice (pieceOf w i z x y) ⌝ }
+{
+    if word < HANDED_FROM {
+        return Look::Empty;
+    }
+    let slot = !word + slice;
+    if slot >= slots {
+        return Look::Against(NO_ROOM);
+    }
+    look_piece(SlotNo(slot), segment::piece_of(w, i, z, x, y))
+}
+
+// Step i of a line that is walked: its tile must be in the box (10).
+fn look_step(w: Walk, step: Step, i: u32, slice: u32, indices: &[u32], slots: u32) -> Look
+    requires { ⌜ (i < mostSteps) × (slice < mostSteps) × StepFits (length (now indices)) step ⌝ }
+    ensures { λ r. ⌜ r ≡ stepTo (now (indices .entry)) slots w i slice step ⌝ }
+{
+    let Step::Tile(tile, x, y, z) = step else {
+        return Look::Against(OUTSIDE);
+    };
+    look_word(w, i, z, x, y, indices[tile.0 as usize], slice, slots)
+}
+
+// Step i of a line and its slice number.
+fn look_line(w: Walk, p: Path, i: u32, slice: u32, indices: &[u32], slots: u32) -> Look
+    requires { ⌜ (i < mostSteps) × (slice < mostSteps) × Boxed p × (endOf p ≤ length (now indices)) ⌝ }
+    ensures { λ r. ⌜ r ≡ stepTo (now (indices .entry)) slots w i slice (stepOf (w .pace) p i) ⌝ }
+{
+    look_step(
+        w,
+        walk::step::step_at(w.pace, p, i),
+        i,
+        slice,
+        indices,
+        slots,
+    )
+}
+
+// A reference's second word, where its line is as the walk found it: refused, or skipped (7).
+pub fn look_at(found: Walked, packed: u32, indices: &[u32], slots: u32) -> Look
+    requires { ⌜ FoundFits (length (now indices)) found ⌝ }
+    ensures { λ r. ⌜ r ≡ foundTo (now (indices .entry)) slots packed found ⌝ }
+{
+    match found {
+        Walked::Refused(why) => Look::Against(why),
+        Walked::Skipped => Look::Against(NO_SUCH),
+        Walked::Line(w, p) => look_line(
+            w,
+            p,
+            packed % MOST_STEPS,
+            packed / MOST_STEPS,
+            indices,
+            slots,
+        ),
+    }
+}
+
+// A line as the walk finds it; no such line is refused (7).
+fn found_at(path_nos: &[u32], coords: &[f32], paths: &[u32], line: LineNo) -> Walked
+    requires { ⌜ length (now «path_nos») * lineFloats ≤ length (now coords) ⌝ }
+    ensures { λ r. ⌜ r ≡ foundOf (now («path_nos» .entry)) (now (coords .entry)) (now (paths .entry)) (line .0) ⌝ }
+{
+    if (line.0 as usize) < path_nos.len() {
+        walk::lent::walk_at(path_nos, coords, paths, line.0)
+    } else {
+        Walked::Refused(NO_SUCH)
+    }
+}
+
+// A line as the walk found it, kept while the next reference names the same line.
+pub struct Kept {
+    pub line: LineNo,
+    pub found: Walked,
+}
+
+pub fn first_kept(path_nos: &[u32], coords: &[f32], paths: &[u32]) -> Kept
+    requires { ⌜ length (now «path_nos») * lineFloats ≤ length (now coords) ⌝ }
+    ensures { λ r. ⌜ r ≡ keptOf (now («path_nos» .entry)) (now (coords .entry)) (now (paths .entry)) 0 ⌝ }
+{
+    let line = LineNo(0);
+    let found = found_at(path_nos, coords, paths, line);
+    Kept { line, found }
+}
+
+impl Kept {
+    // The line of the next reference.
+    pub fn next(self, path_nos: &[u32], coords: &[f32], paths: &[u32], line: LineNo) -> Self
+        requires { ⌜ (length (now «path_nos») * lineFloats ≤ length (now coords)) × (self ≡ keptOf (now «path_nos») (now coords) (now paths) (self .line .0)) ⌝ }
+        ensures { λ r. ⌜ r ≡ keptOf (now («path_nos» .entry)) (now (coords .entry)) (now (paths .entry)) (line .0) ⌝ }
+    {
+        if line.0 == self.line.0 {
+            return self;
+        }
+        let found = found_at(path_nos, coords, paths, line);
+        Kept { line, found }
+    }
+}

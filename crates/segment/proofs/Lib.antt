@@ -1,0 +1,3 @@
+-- What the proofs of the crate's functions share, and the crate's laws.
+pub mod Page
+pub mod Within

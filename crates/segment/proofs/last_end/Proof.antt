@@ -1,0 +1,33 @@
+-- `segment::last_end` meets its contract: the line's own end at the last step, and else what `clip` ensures. Assumes nothing.
+use Prim.Native.Nat.{_<_, _≤_, _-_}
+use borrow.Author.Tests.{lt-ltb, le-ltb}
+use borrow.Author.Needs.{needs}
+use native.Mathlib.Omega.{arith}
+use Rattle.segment.specs.Clips.{lastOf}
+use Rattle.walk.proofs.Counts.{in-float}
+use Rattle.segment.proofs.last_end.Statement.{statement}
+use Rattle.segment.proofs.last_end.Tie as tie
+
+returns : tie.Need-returns
+unfolding lastOf
+returns c =
+    let last : c .before .before .before .args .w .k .count - 1 ≤ c .before .before .before .args .i = omega arith in
+    rw (le-ltb _ _ last)
+
+int-to-float-z-at : tie.Need-int-to-float-z-at
+int-to-float-z-at c = in-float _ (omega arith)
+
+returns-2 : tie.Need-returns-2
+unfolding lastOf
+returns-2 c =
+    let inside : c .before .before .before .before .before .before .before .before .args .i < c .before .before .before .before .before .before .before .before .args .w .k .count - 1 = omega arith in
+    rw (
+      c .clip .ensures,
+      c .before .pick .ensures,
+      c .before .before .z-at .ensures,
+      c .before .before .before .before .far .ensures,
+      lt-ltb _ _ inside,
+    )
+
+pub last-end-spec : {M : Type 1} → statement M
+last-end-spec = tie.close (tie.spec (search needs) returns (λ c κs. tt) int-to-float-z-at (λ c κs. tt) (λ c κs. tt) (λ c κs. tt) returns-2)

@@ -1,0 +1,3 @@
+-- A step's piece of its line, clipped to its tile. Definitions only.
+pub mod Clips
+pub mod Page

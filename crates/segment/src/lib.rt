@@ -1,0 +1,206 @@
+// A step's piece of its line, clipped to the step's tile: path_tiling.rs from `tile_xy` to the
+// asserts, in its order and with its nudges. The definitions stand in specs/Clips.antt, and on one
+// page beside the Rust in specs/Page.antt.
+ghost use mathlib.Core.Path.{_≡_};
+ghost use Prim.Native.Nat.{_≤_, _<_};
+ghost use Rattle.panel.specs.Limits.{edgeMost, mostSteps};
+ghost use Rattle.segment.specs.Clips.{cornerOf, farOf, atRowOf, atColOf, clipOf, makeOf, edgeOf, offOf, turnOf, heldOf, firstOf, lastOf, segmentOf, pieceOf};
+use util::Vec2;
+use walk::choose::pick;
+use walk::choose::pick_vec;
+use walk::setup::Walk;
+
+// path_tiling.rs: what a clipped end keeps from its tile's left or top edge, what an end on a whole
+// column is moved by, and the y_edge of a segment that has none.
+pub const NUDGE: f32 = 1e-3;
+
+pub const EPSILON: f32 = 1e-6;
+
+pub const NO_EDGE: f32 = 1e9;
+
+// A segment, relative to its tile.
+pub struct Segment {
+    pub p0: Vec2,
+    pub p1: Vec2,
+    pub y_edge: f32,
+}
+
+// The upper left corner of the tile in column x and row y, and from it the lower right one.
+pub fn corner(x: u32, y: u32) -> Vec2
+    requires { ⌜ (x ≤ edgeMost) × (y ≤ edgeMost) ⌝ }
+    ensures { λ r. ⌜ r ≡ cornerOf x y ⌝ }
+{
+    Vec2::new(x as f32 * util::TILE_SIDE, y as f32 * util::TILE_SIDE)
+}
+
+pub fn far(t: Vec2) -> Vec2
+    ensures { λ r. ⌜ r ≡ farOf t ⌝ }
+{
+    t.add(Vec2::new(util::TILE_SIDE, util::TILE_SIDE))
+}
+
+// Where the line from p to q is at the height y, and at the column x: held to the tile at t.
+pub fn at_row(p: Vec2, q: Vec2, y: f32, t: Vec2) -> Vec2
+    ensures { λ r. ⌜ r ≡ atRowOf p q y t ⌝ }
+{
+    let xt = p.x + (q.x - p.x) * (y - p.y) / (q.y - p.y);
+    Vec2::new(float32::clamp(xt, t.x + NUDGE, far(t).x), y)
+}
+
+pub fn at_col(p: Vec2, q: Vec2, x: f32, t: Vec2) -> Vec2
+    ensures { λ r. ⌜ r ≡ atColOf p q x t ⌝ }
+{
+    let yt = p.y + (q.y - p.y) * (x - p.x) / (q.x - p.x);
+    Vec2::new(x, float32::clamp(yt, t.y + NUDGE, far(t).y))
+}
+
+// The clip at the height y where the neighbour step is in the same column, and else at the column x.
+pub fn clip(same: bool, p: Vec2, q: Vec2, y: f32, x: f32, t: Vec2) -> Vec2
+    ensures { λ r. ⌜ r ≡ clipOf same p q y x t ⌝ }
+{
+    if same {
+        at_row(p, q, y, t)
+    } else {
+        at_col(p, q, x, t)
+    }
+}
+
+pub fn make(x0: f32, y0: f32, x1: f32, y1: f32, y_edge: f32) -> Segment
+    ensures { λ r. ⌜ r ≡ makeOf x0 y0 x1 y1 «y_edge» ⌝ }
+{
+    let p0 = Vec2 { x: x0, y: y0 };
+    let p1 = Vec2 { x: x1, y: y1 };
+    Segment { p0, p1, y_edge }
+}
+
+// Ends on the tile's left edge.
+pub fn edge(x0: f32, y0: f32, x1: f32, y1: f32) -> Segment
+    ensures { λ r. ⌜ r ≡ edgeOf x0 y0 x1 y1 ⌝ }
+{
+    if x0 == 0.0 {
+        if x1 == 0.0 {
+            if y0 == 0.0 {
+                // Entire tile
+                make(EPSILON, y0, EPSILON, util::TILE_SIDE, NO_EDGE)
+            } else {
+                // Make segment disappear
+                make(EPSILON, y0, 2.0 * EPSILON, y0, NO_EDGE)
+            }
+        } else if y0 == 0.0 {
+            make(EPSILON, y0, x1, y1, NO_EDGE)
+        } else {
+            make(x0, y0, x1, y1, y0)
+        }
+    } else if x1 == 0.0 {
+        if y1 == 0.0 {
+            make(x0, y0, EPSILON, y1, NO_EDGE)
+        } else {
+            make(x0, y0, x1, y1, y1)
+        }
+    } else {
+        make(x0, y0, x1, y1, NO_EDGE)
+    }
+}
+
+// A whole x that is not 0 moves left.
+pub fn off_whole(p: Vec2) -> Vec2
+    ensures { λ r. ⌜ r ≡ offOf p ⌝ }
+{
+    Vec2::new(
+        pick(
+            (p.x == float32::floor(p.x)) & (p.x != 0.0),
+            p.x - EPSILON,
+            p.x,
+        ),
+        p.y,
+    )
+}
+
+// Both ends moved, and in the line's own direction again.
+pub fn turn(is_down: bool, s: Segment) -> Segment
+    ensures { λ r. ⌜ r ≡ turnOf «is_down» s ⌝ }
+{
+    let q0 = s.p0;
+    let q1 = s.p1;
+    let r0 = off_whole(q0);
+    let r1 = off_whole(q1);
+    let p0 = pick_vec(is_down, r0, r1);
+    let p1 = pick_vec(is_down, r1, r0);
+    Segment {
+        p0,
+        p1,
+        y_edge: s.y_edge,
+    }
+}
+
+// Within 0..16, which NaN isn't.
+pub fn held(p: Vec2) -> bool
+    ensures { λ r. ⌜ r ≡ heldOf p ⌝ }
+{
+    ((p.x >= 0.0) & (p.x <= util::TILE_SIDE)) & ((p.y >= 0.0) & (p.y <= util::TILE_SIDE))
+}
+
+// The first end: the line's own at step 0, and else where the walk comes into the tile at t. z is
+// the step's.
+pub fn first_end(w: Walk, i: u32, z: f32, t: Vec2) -> Vec2
+    requires { ⌜ i < mostSteps ⌝ }
+    ensures { λ r. ⌜ r ≡ firstOf w i z t ⌝ }
+{
+    let p = w.e.xy0;
+    let q = w.e.xy1;
+    if i == 0 {
+        return p;
+    }
+    let z_prev = walk::step::z_at(w.pace.a, w.pace.b, i as f32 - 1.0);
+    let x_clip = pick(w.is_positive_slope, t.x, far(t).x);
+    clip(z == z_prev, p, q, t.y, x_clip, t)
+}
+
+// The last end: the line's own at the last step, and else where the walk goes out. p is the first
+// end, clipped.
+pub fn last_end(w: Walk, i: u32, z: f32, t: Vec2, p: Vec2) -> Vec2
+    requires { ⌜ i < mostSteps ⌝ }
+    ensures { λ r. ⌜ r ≡ lastOf w i z t p ⌝ }
+{
+    let q = w.e.xy1;
+    if i + 1 >= w.k.count {
+        return q;
+    }
+    let t1 = far(t);
+    let z_next = walk::step::z_at(w.pace.a, w.pace.b, i as f32 + 1.0);
+    let x_clip = pick(w.is_positive_slope, t1.x, t.x);
+    clip(z == z_next, p, q, t1.y, x_clip, t)
+}
+
+// The segment of step i in the tile of column x and row y.
+pub fn segment_of(w: Walk, i: u32, z: f32, x: u32, y: u32) -> Segment
+    requires { ⌜ (i < mostSteps) × (x ≤ edgeMost) × (y ≤ edgeMost) ⌝ }
+    ensures { λ r. ⌜ r ≡ segmentOf w i z x y ⌝ }
+{
+    let t = corner(x, y);
+    let q0 = first_end(w, i, z, t);
+    let q1 = last_end(w, i, z, t, q0);
+    let p0 = q0.subtract(t);
+    let p1 = q1.subtract(t);
+    turn(w.e.is_down, edge(p0.x, p0.y, p1.x, p1.y))
+}
+
+// A segment, or none where an end lies outside the tile (12).
+pub enum Piece {
+    Kept(Segment),
+    Crooked,
+}
+
+pub fn piece_of(w: Walk, i: u32, z: f32, x: u32, y: u32) -> Piece
+    requires { ⌜ (i < mostSteps) × (x ≤ edgeMost) × (y ≤ edgeMost) ⌝ }
+    ensures { λ r. ⌜ r ≡ pieceOf w i z x y ⌝ }
+{
+    let s = segment_of(w, i, z, x, y);
+    let p0 = s.p0;
+    let p1 = s.p1;
+    if held(p0) & held(p1) {
+        Piece::Kept(s)
+    } else {
+        Piece::Crooked
+    }
+}

@@ -1,0 +1,13 @@
+-- Laws of the walk.
+--     Counts  a checked line's ends, and how many steps it has
+--     Boxes   tiles in a box, and their numbers
+--     Lines   the cases of a line as it is lent
+--     Steps   a step's column and row in whole numbers
+--     Tiles   no tile twice in a line, and one tile for counting and tiling
+--     Walks   what is known of a line that is walked
+pub mod Counts
+pub mod Boxes
+pub mod Lines
+pub mod Steps
+pub mod Tiles
+pub mod Walks

@@ -1,0 +1,23 @@
+-- `walk::lent::reached` meets its contract. Assumes nothing.
+use borrow.Author.Needs.{needs}
+use Rattle.walk.proofs.lent.reached.Statement.{statement}
+use Rattle.walk.proofs.lent.reached.Tie as tie
+
+abs-requires : tie.Need-abs-requires
+abs-requires c κs = search needs
+
+abs-requires-2 : tie.Need-abs-requires-2
+abs-requires-2 c κs = search needs
+
+abs-requires-3 : tie.Need-abs-requires-3
+abs-requires-3 c κs = search needs
+
+abs-requires-4 : tie.Need-abs-requires-4
+abs-requires-4 c κs = search needs
+
+returns : tie.Need-returns
+returns c = cc
+
+pub reached-spec : {M : Type 1} → statement M
+reached-spec =
+    tie.close (tie.spec abs-requires abs-requires-2 abs-requires-3 abs-requires-4 returns)

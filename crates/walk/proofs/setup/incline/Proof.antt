@@ -1,0 +1,43 @@
+-- `walk::setup::incline` meets its contract. Assumes nothing.
+use borrow.Author.Needs.{needs}
+use Rattle.walk.specs.Setup.{slopeOf}
+use Rattle.walk.proofs.setup.incline.Statement.{statement}
+use Rattle.walk.proofs.setup.incline.Tie as tie
+
+abs-requires : tie.Need-abs-requires
+abs-requires c κs = search needs
+
+pick-requires : tie.Need-pick-requires
+pick-requires c κs = search needs
+
+floor-requires : tie.Need-floor-requires
+floor-requires c κs = search needs
+
+floor-requires-2 : tie.Need-floor-requires-2
+floor-requires-2 c κs = search needs
+
+ceil-requires : tie.Need-ceil-requires
+ceil-requires c κs = search needs
+
+pick-requires-2 : tie.Need-pick-requires-2
+pick-requires-2 c κs = search needs
+
+pick-requires-3 : tie.Need-pick-requires-3
+pick-requires-3 c κs = search needs
+
+returns : tie.Need-returns
+unfolding slopeOf
+returns c = cc
+
+pub incline-spec : {M : Type 1} → statement M
+incline-spec =
+    tie.close
+    (tie.spec
+    abs-requires
+    pick-requires
+    floor-requires
+    floor-requires-2
+    ceil-requires
+    pick-requires-2
+    pick-requires-3
+    returns)

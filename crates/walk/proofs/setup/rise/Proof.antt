@@ -1,0 +1,36 @@
+-- `walk::setup::rise` meets its contract. Assumes nothing.
+use borrow.Author.Needs.{needs}
+use Rattle.walk.proofs.Counts.{in-float}
+use Rattle.walk.specs.Setup.{aOf}
+use Rattle.walk.proofs.setup.rise.Statement.{statement}
+use Rattle.walk.proofs.setup.rise.Tie as tie
+
+int-to-float-count : tie.Need-int-to-float-count
+int-to-float-count c = in-float (c .before .before .args .k .count) (c .before .before .pre .1)
+
+int-to-float-count-x : tie.Need-int-to-float-count-x
+int-to-float-count-x c = in-float (c .before .before .before .args .k .«count_x») (c .before .before .before .pre .0)
+
+floor-requires : tie.Need-floor-requires
+floor-requires c κs = search needs
+
+copysign-requires : tie.Need-copysign-requires
+copysign-requires c κs = search needs
+
+pick-requires : tie.Need-pick-requires
+pick-requires c κs = search needs
+
+returns : tie.Need-returns
+unfolding aOf
+returns c = cc
+
+pub rise-spec : {M : Type 1} → statement M
+rise-spec =
+    tie.close
+    (tie.spec
+    int-to-float-count
+    int-to-float-count-x
+    floor-requires
+    copysign-requires
+    pick-requires
+    returns)

@@ -1,0 +1,18 @@
+-- `walk::skip::flat` meets its contract. Assumes nothing.
+use borrow.Author.Needs.{needs}
+use Rattle.walk.specs.Skip.{flatOf}
+use Rattle.walk.proofs.skip.flat.Statement.{statement}
+use Rattle.walk.proofs.skip.flat.Tie as tie
+
+abs-requires : tie.Need-abs-requires
+abs-requires c κs = search needs
+
+floor-requires : tie.Need-floor-requires
+floor-requires c κs = search needs
+
+returns : tie.Need-returns
+unfolding flatOf
+returns c = cc
+
+pub flat-spec : {M : Type 1} → statement M
+flat-spec = tie.close (tie.spec abs-requires floor-requires returns)

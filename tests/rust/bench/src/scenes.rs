@@ -1,0 +1,122 @@
+//! What is measured: lines over a path of 50 by 40 tiles, segments, a screen.
+
+use cases::Rng;
+use oracle::{PathSegment, SegmentCount, Tile};
+
+pub const COLS: u32 = 50;
+pub const ROWS: u32 = 40;
+
+#[derive(Clone, Copy)]
+pub enum Kind {
+    Short,
+    Medium,
+    Long,
+    HalfOutside,
+}
+
+pub const KINDS: [(Kind, &str); 4] = [
+    (Kind::Short, "short, up to 8 px"),
+    (Kind::Medium, "medium, up to 60 px"),
+    (Kind::Long, "long, anywhere in the box"),
+    (Kind::HalfOutside, "half outside"),
+];
+
+/// A list of lines that the rules accept, with what the calls are lent.
+pub struct Scene {
+    pub path_nos: Vec<u32>,
+    pub coords: Vec<f32>,
+    pub paths: Vec<u32>,
+    pub tiles: usize,
+    pub room: usize,
+}
+
+fn line(rng: &mut Rng, kind: Kind) -> [f32; 4] {
+    let (w, h) = (16.0 * COLS as f32, 16.0 * ROWS as f32);
+    let inside = |rng: &mut Rng| [rng.between(0.0, w), rng.between(0.0, h)];
+    let near = |rng: &mut Rng, most: f32| {
+        let p = inside(rng);
+        [p[0], p[1], (p[0] + rng.between(-most, most)).clamp(0.0, w), (p[1] + rng.between(-most, most)).clamp(0.0, h)]
+    };
+    match kind {
+        Kind::Short => near(rng, 8.0),
+        Kind::Medium => near(rng, 60.0),
+        Kind::Long => {
+            let (p, q) = (inside(rng), inside(rng));
+            [p[0], p[1], q[0], q[1]]
+        }
+        Kind::HalfOutside => {
+            let p = inside(rng);
+            let q = [rng.between(-w, 2.0 * w), rng.between(-h, 2.0 * h)];
+            [p[0], p[1], q[0], q[1]]
+        }
+    }
+}
+
+impl Scene {
+    pub fn new(kind: Kind, n: usize) -> Scene {
+        let mut rng = Rng::new(n as u64 + 1);
+        let paths = vec![0, 0, COLS, ROWS, 0];
+        let mut scene = Scene { path_nos: vec![0; n], coords: vec![], paths, tiles: (COLS * ROWS) as usize, room: 0 };
+        while scene.coords.len() < 4 * n {
+            let line = line(&mut rng, kind);
+            let (number, made) = scene.alone(&line);
+            if number == 0 {
+                scene.coords.extend(line);
+                scene.room += made as usize;
+            }
+        }
+        scene
+    }
+
+    fn alone(&self, line: &[f32; 4]) -> (u32, u32) {
+        let (mut b, mut c, mut r) = (vec![0; self.tiles], vec![0; self.tiles], vec![0; 400]);
+        let (mut lines, mut made, mut item) = (0, 0, 0);
+        let number = rules::count(&[0], line, &self.paths, &mut b, &mut c, &mut r, 1, &mut lines, &mut made, &mut item);
+        (number, made)
+    }
+
+    /// References and first slots, by the Rust and the rule of hand-out.
+    pub fn counted(&self) -> Counted {
+        let lines = oracle::lines_of(&self.path_nos, &self.coords);
+        let paths = oracle::paths_of(&self.paths);
+        let mut tiles = vec![Tile::default(); self.tiles];
+        let mut records = vec![SegmentCount::default(); self.room];
+        let mut bump = oracle::BumpAllocators { lines: lines.len() as u32, seg_counts: 0 };
+        oracle::raw::count(&mut bump, &lines, &paths, &mut tiles, &mut records);
+        let mut indices: Vec<u32> = tiles.iter().map(|t| t.segment_count_or_ix).collect();
+        let mut tally = indices.clone();
+        assert_eq!(rules::hand_out(&mut indices, &mut tally, self.room as u32), 0);
+        let refs = records.iter().flat_map(|r| [r.line_ix, r.counts]).collect();
+        Counted { refs, indices, records }
+    }
+}
+
+pub struct Counted {
+    pub refs: Vec<u32>,
+    pub indices: Vec<u32>,
+    pub records: Vec<SegmentCount>,
+}
+
+/// Segments as tiling leaves them, ends in the tile, of which some start at the left edge.
+pub fn segments(rng: &mut Rng, n: usize) -> Vec<f32> {
+    (0..n)
+        .flat_map(|_| {
+            let mut s = [0; 4].map(|_| rng.between(0.0, 16.0));
+            let mut edge = 1e9;
+            if rng.one_in(6) {
+                s[0] = 0.0;
+                edge = s[1];
+            }
+            [s[0], s[1], s[2], s[3], edge]
+        })
+        .collect()
+}
+
+/// The same segments at a tile's place on the screen, for the Rust, which subtracts the tile's origin.
+pub fn moved(segments: &[f32], x: f32, y: f32) -> Vec<PathSegment> {
+    let edge = |e: f32| if e < 1e9 { e + y } else { e };
+    segments
+        .chunks_exact(5)
+        .map(|s| PathSegment { point0: [s[0] + x, s[1] + y], point1: [s[2] + x, s[3] + y], y_edge: edge(s[4]), _padding: 0 })
+        .collect()
+}

@@ -1,0 +1,222 @@
+//! One function for each stage.
+
+use crate::scenes::{moved, segments, Kind, Scene, KINDS};
+use crate::{row, timed};
+use cases::commands::{Command, Lists, RUST_SHIFT};
+use cases::Rng;
+use oracle::{BumpAllocators, PathSegment, SegmentCount, Tile};
+use std::hint::black_box;
+
+/// The sizes that show the growth.
+const LINES: [usize; 3] = [2_000, 20_000, 60_000];
+
+macro_rules! std_helper {
+    ($($name:ident),*) => { mod std_helpers { $(#[inline(never)] pub fn $name(x: f32) -> f32 { x.$name() })* } };
+}
+std_helper!(floor, ceil, round);
+
+pub fn floats(rounds: usize) {
+    let mut rng = Rng::new(5);
+    let xs: Vec<u32> = (0..100_000).map(|_| rng.between(-2_000.0, 2_000.0).to_bits()).collect();
+    let helpers: [(&str, u32, fn(f32) -> f32); 3] =
+        [("floor", 1, std_helpers::floor), ("ceil", 2, std_helpers::ceil), ("round", 3, std_helpers::round)];
+    for (name, number, std) in helpers {
+        let (mut theirs, mut mine) = (vec![0; xs.len()], vec![0; xs.len()]);
+        let std = black_box(std);
+        row(
+            name,
+            "call",
+            xs.len(),
+            rounds,
+            || timed(|| theirs.iter_mut().zip(&xs).for_each(|(o, &x)| *o = std(f32::from_bits(x)).to_bits())),
+            || timed(|| ours::many(number, [&xs, &xs, &xs], &mut mine)),
+        );
+        assert_eq!(theirs, mine);
+    }
+}
+
+pub fn backdrop(rounds: usize) {
+    for n in [1, 10, 100] {
+        let paths: Vec<u32> = (0..n).flat_map(|k| [0, 0, 50, 40, 2_000 * k]).collect();
+        let before: Vec<i32> = (0..2_000 * n as i32).map(|k| k % 7 - 3).collect();
+        let records = oracle::paths_of(&paths);
+        let cleared: Vec<Tile> = before.iter().map(|&backdrop| Tile { backdrop, segment_count_or_ix: 0 }).collect();
+        let (mut tiles, mut mine) = (cleared.clone(), before.clone());
+        row(
+            &format!("backdrop, {n} paths of 50 by 40"),
+            "tile",
+            before.len(),
+            rounds,
+            || {
+                tiles.copy_from_slice(&cleared);
+                timed(|| oracle::raw::backdrop(&records, &mut tiles))
+            },
+            || {
+                mine.copy_from_slice(&before);
+                timed(|| assert_eq!(ours::backdrop(&paths, &mut mine, &mut 0), 0))
+            },
+        );
+        assert!(tiles.iter().map(|t| t.backdrop).eq(mine.iter().copied()));
+    }
+}
+
+pub fn count(rounds: usize) {
+    for (kind, name) in KINDS {
+        for n in LINES {
+            count_scene(name, kind, n, rounds);
+        }
+    }
+}
+
+fn count_scene(name: &str, kind: Kind, n: usize, rounds: usize) {
+    let scene = Scene::new(kind, n);
+    let lines = oracle::lines_of(&scene.path_nos, &scene.coords);
+    let paths = oracle::paths_of(&scene.paths);
+    let mut tiles = vec![Tile::default(); scene.tiles];
+    let mut records = vec![SegmentCount::default(); scene.room];
+    let (mut backs, mut counts, mut refs) = (vec![0; scene.tiles], vec![0; scene.tiles], vec![0; 2 * scene.room]);
+    row(
+        &format!("count, {n} lines, {name}"),
+        "line",
+        n,
+        rounds,
+        || {
+            tiles.fill(Tile::default());
+            records.fill(SegmentCount::default());
+            let mut bump = BumpAllocators { lines: n as u32, seg_counts: 0 };
+            timed(|| oracle::raw::count(&mut bump, &lines, &paths, &mut tiles, &mut records))
+        },
+        || {
+            backs.fill(0);
+            counts.fill(0);
+            refs.fill(0);
+            let (mut l, mut m, mut i) = (0, 0, 0);
+            timed(|| {
+                let no =
+                    ours::count(&scene.path_nos, &scene.coords, &scene.paths, &mut backs, &mut counts, &mut refs, n as u32, &mut l, &mut m, &mut i);
+                assert_eq!(no, 0);
+            })
+        },
+    );
+    assert!(tiles.iter().map(|t| t.backdrop).eq(backs.iter().copied()));
+    assert!(tiles.iter().map(|t| t.segment_count_or_ix).eq(counts.iter().copied()));
+    assert!(records.iter().flat_map(|r| [r.line_ix, r.counts]).eq(refs.iter().copied()));
+}
+
+pub fn tile(rounds: usize) {
+    for (kind, name) in KINDS {
+        for n in LINES {
+            tile_scene(name, kind, n, rounds);
+        }
+    }
+}
+
+fn tile_scene(name: &str, kind: Kind, n: usize, rounds: usize) {
+    let scene = Scene::new(kind, n);
+    let counted = scene.counted();
+    let lines = oracle::lines_of(&scene.path_nos, &scene.coords);
+    let paths = oracle::paths_of(&scene.paths);
+    let tiles: Vec<Tile> = counted.indices.iter().map(|&i| Tile { backdrop: 0, segment_count_or_ix: i }).collect();
+    let mut records = vec![PathSegment::default(); scene.room];
+    let mut mine = vec![0.0f32; 5 * scene.room];
+    let all = scene.room as u32;
+    row(
+        &format!("tile, {n} lines, {name}"),
+        "reference",
+        scene.room,
+        rounds,
+        || {
+            records.fill(PathSegment::default());
+            let mut bump = BumpAllocators { lines: n as u32, seg_counts: all };
+            timed(|| oracle::raw::tile(&mut bump, &counted.records, &lines, &paths, &tiles, &mut records))
+        },
+        || {
+            mine.fill(0.0);
+            timed(|| {
+                let no = ours::tile(&scene.path_nos, &scene.coords, &scene.paths, &counted.indices, &counted.refs, 0, all, &mut mine, &mut 0);
+                assert_eq!(no, 0);
+            })
+        },
+    );
+    let theirs = records.iter().flat_map(|r| [r.point0[0], r.point0[1], r.point1[0], r.point1[1], r.y_edge]);
+    assert!(theirs.map(f32::to_bits).eq(mine.iter().map(|v| v.to_bits())));
+}
+
+pub fn fill(rounds: usize) {
+    for n in [1usize, 10, 100] {
+        for even_odd in [0, 1] {
+            let list = segments(&mut Rng::new(n as u64), n);
+            let records = oracle::segments_of(&list);
+            let (mut theirs, mut mine) = ([0.0f32; 256], [0.0f32; 256]);
+            let again = 2_000 / n + 1;
+            row(
+                &format!("fill, {n} segments, {}", if even_odd == 1 { "even-odd" } else { "non-zero" }),
+                "fill",
+                again,
+                rounds,
+                || {
+                    timed(|| {
+                        (0..again).for_each(|_| oracle::raw::fill(black_box(&mut theirs), &records, [(n as u32) << 1 | even_odd, 0, 1], 0.0, 0.0))
+                    })
+                },
+                || timed(|| (0..again).for_each(|_| assert_eq!(ours::fill(&list, 0, n as u32, even_odd, 1, 0.0, 0.0, black_box(&mut mine)), 0))),
+            );
+            assert_eq!(theirs.map(f32::to_bits), mine.map(f32::to_bits));
+        }
+    }
+}
+
+/// Segments of each FILL, and a tile's commands: FILL, COLOR, SOLID, COLOR, FILL, COLOR.
+const FILLS: [u32; 2] = [4, 10];
+
+pub fn fine(rounds: usize) {
+    for (cols, rows) in [(10u32, 8u32), (50, 40), (100, 80)] {
+        fine_screen(cols, rows, rounds);
+    }
+}
+
+fn fine_screen(cols: u32, rows: u32, rounds: usize) {
+    let tiles = cols * rows;
+    let mut rng = Rng::new(tiles as u64);
+    let mut lists = Lists::new(64 * tiles as usize, 0);
+    let (mut list, mut records): (Vec<f32>, Vec<PathSegment>) = (vec![], vec![]);
+    for t in 0..tiles {
+        let mut at = 64 * t as usize + 1;
+        let mut put = |command: Command| {
+            lists.put(at, command, 0);
+            at += command.size();
+        };
+        for (k, n) in FILLS.into_iter().enumerate() {
+            let first = (list.len() / 5) as u32;
+            let more = segments(&mut rng, n as usize);
+            records.extend(moved(&more, 16.0 * (t % cols) as f32, 16.0 * (t / cols) as f32));
+            list.extend(more);
+            put(Command::Fill { number: n, even_odd: k == 1, first, backdrop: 0 });
+            put(Command::Color(rng.u32()));
+            if k == 0 {
+                put(Command::Solid);
+                put(Command::Color(rng.u32() & 0xffff_ff80));
+            }
+        }
+        put(Command::End);
+    }
+    let theirs = &lists.rust[RUST_SHIFT as usize..];
+    let (width, pixels) = (16 * cols, (256 * tiles) as usize);
+    let mut mine = vec![0; pixels];
+    let mut screen = vec![0; pixels];
+    row(
+        &format!("fine, screen of {cols} by {rows} tiles"),
+        "tile",
+        tiles as usize,
+        rounds,
+        || {
+            let mut taken = std::mem::take(&mut screen);
+            taken.fill(0);
+            timed(|| screen = oracle::raw::fine(theirs, &records, cols, rows, taken))
+        },
+        || {
+            mine.fill(0);
+            timed(|| assert_eq!(ours::fine(&lists.ours, &list, width, cols, rows, 0, tiles, &mut mine, &mut 0), 0))
+        },
+    );
+}

@@ -1,0 +1,144 @@
+//! Hostile input: any words and floats in slices of any length, good calls with a few words altered.
+
+use crate::calls::{by_ours, by_rules, linked, same_outcome, shape, Call, NAMES};
+use crate::stage::{hex, Sides, Stage};
+use crate::table::Table;
+use cases::{boxes, floats, lines, segments, Rng};
+
+/// The calls whose stage is linked; all of them where only the rules are run.
+pub struct Hostile {
+    pub kinds: Vec<u32>,
+}
+
+impl Hostile {
+    pub fn new(all: bool) -> Hostile {
+        Hostile { kinds: (1..=6).filter(|&k| all || linked(k)).collect() }
+    }
+}
+
+fn any_word(rng: &mut Rng) -> u32 {
+    match rng.below(10) {
+        0 => rng.u32(),
+        1 => rng.pick(&[u32::MAX, 1 << 31, i32::MAX as u32, u32::MAX - 1, 1 << 24, 65_535, 65_536, 4_096, 1_024, 1_025]),
+        2 => floats::any_bits(rng),
+        _ => rng.below(9) as u32,
+    }
+}
+
+/// A good call of the kind, as far as it goes.
+fn good(rng: &mut Rng, kind: u32) -> Call {
+    let n_paths = rng.range(0, 3) as usize;
+    let (paths, tiles) = boxes::table(rng, n_paths, 5);
+    let n = rng.range(0, 5) as usize;
+    let b = if paths.is_empty() { [0, 0, 2, 2] } else { [0, 1, 2, 3].map(|k| paths[k] as i64) };
+    let path_nos: Vec<u32> = (0..n).map(|_| rng.below(n_paths.max(1) as u64) as u32).collect();
+    let coords: Vec<u32> = (0..n).flat_map(|_| lines::any(rng, &b).1.map(f32::to_bits)).collect();
+    let words = |rng: &mut Rng, n: usize| -> Vec<u32> { (0..n).map(|_| rng.below(4) as u32).collect() };
+    let list: Vec<u32> = segments::list(rng, n).into_iter().map(f32::to_bits).collect();
+    let (numbers, slices) = match kind {
+        1 => {
+            let refs = 2 * rng.below(60) as usize;
+            (vec![n as u32, 0, 0], vec![path_nos, coords, paths, words(rng, tiles), words(rng, tiles), words(rng, refs)])
+        }
+        2 => (vec![], vec![paths, words(rng, tiles)]),
+        3 => (vec![rng.below(60) as u32], vec![words(rng, tiles), words(rng, tiles)]),
+        4 => {
+            let made = rng.below(6) as usize;
+            let refs = (0..made).flat_map(|_| [rng.below(n.max(1) as u64) as u32, (rng.below(3) << 16 | rng.below(4)) as u32]).collect();
+            let indices = (0..tiles).map(|_| if rng.one_in(4) { 0 } else { !(rng.below(20) as u32) }).collect();
+            let room = 5 * rng.below(30) as usize;
+            (vec![0, made as u32], vec![path_nos, coords, paths, indices, refs, words(rng, room)])
+        }
+        5 => {
+            let numbers = vec![0, n as u32, rng.below(3) as u32, rng.range(-2, 2) as u32, 0, 0];
+            (numbers, vec![list, words(rng, 256)])
+        }
+        _ => {
+            let (cols, rows) = (rng.below(3) as u32, rng.below(2) as u32);
+            let list_words = (0..64 * cols * rows).map(|k| if k % 64 == 0 { 0 } else { rng.below(6) as u32 }).collect();
+            let pixels = words(rng, (256 * cols * rows) as usize);
+            (vec![16 * cols, cols, rows, 0, cols * rows], vec![list_words, list, pixels])
+        }
+    };
+    Call { kind, numbers, slices }
+}
+
+/// Altered numbers, words and lengths.
+fn spoil(rng: &mut Rng, call: &mut Call) {
+    for _ in 0..rng.range(1, 3) {
+        let k = rng.below(call.slices.len() as u64) as usize;
+        let (slices, numbers) = (&mut call.slices, &mut call.numbers);
+        match rng.below(24) {
+            0 | 5..=6 if !numbers.is_empty() => {
+                let k = rng.below(numbers.len() as u64) as usize;
+                numbers[k] = any_word(rng);
+            }
+            1 => slices[k].push(any_word(rng)),
+            2 => _ = slices[k].pop(),
+            3 => slices[k].clear(),
+            4 => {
+                let n = rng.below(12);
+                slices[k] = (0..n).map(|_| any_word(rng)).collect();
+            }
+            _ if !slices[k].is_empty() => {
+                let at = rng.below(slices[k].len() as u64) as usize;
+                slices[k][at] = any_word(rng);
+            }
+            _ => (),
+        }
+    }
+}
+
+impl Stage for Hostile {
+    type Case = Call;
+    const NAME: &'static str = "hostile";
+    const REACHED: &'static [u32] = &[];
+    const LEAST: u64 = 20_000;
+
+    fn make(&self, rng: &mut Rng) -> Call {
+        let kind = rng.pick(&self.kinds);
+        let mut call = good(rng, kind);
+        if rng.one_in(8) {
+            let (slices, numbers) = shape(kind);
+            call.numbers = (0..numbers).map(|_| any_word(rng)).collect();
+            call.slices = (0..slices)
+                .map(|_| {
+                    let n = rng.below(24);
+                    (0..n).map(|_| any_word(rng)).collect()
+                })
+                .collect();
+        }
+        if !rng.one_in(6) {
+            spoil(rng, &mut call);
+        }
+        call
+    }
+
+    fn check(&self, call: &Call, sides: Sides, table: &mut Table) -> Result<(), String> {
+        let wanted = by_rules(call);
+        table.add(&format!("{:<9} answer {:2}", NAMES[call.kind as usize], wanted.answer[0]), 1);
+        if sides.ours {
+            same_outcome(call, &by_ours(call), &wanted)?;
+        }
+        Ok(())
+    }
+
+    fn smaller(&self, call: &Call) -> Vec<Call> {
+        let mut out = vec![];
+        for k in 0..call.slices.len() {
+            for at in 0..call.slices[k].len().min(40) {
+                if call.slices[k][at] != 0 {
+                    let mut c = call.clone();
+                    c.slices[k][at] = 0;
+                    out.push(c);
+                }
+            }
+        }
+        out
+    }
+
+    fn show(&self, call: &Call) -> String {
+        let slices: Vec<String> = call.slices.iter().map(|w| format!("  {} words: {}", w.len(), hex(w))).collect();
+        format!("  {} with numbers {}\n{}", NAMES[call.kind as usize], hex(&call.numbers), slices.join("\n"))
+    }
+}

@@ -1,0 +1,75 @@
+//! The limits that need long slices: the last that passes and the first that is refused.
+
+use crate::calls::{by_ours, by_rules, linked, same_outcome, Call, NAMES};
+
+const TILES: usize = 1_048_576;
+const ROOM: usize = 16_777_216;
+
+fn bits(line: [f32; 4]) -> Vec<u32> {
+    line.map(f32::to_bits).to_vec()
+}
+
+/// Calls and the refusal number that each must give.
+fn calls(long: bool) -> Vec<(&'static str, Call, u32)> {
+    let one = || (vec![0u32], bits([8.0, 8.0, 8.0, 12.0]), vec![0, 0, 2, 2, 0]);
+    let mut out = vec![];
+    for (tiles, number) in [(TILES, 0), (TILES + 1, 2)] {
+        let (path_nos, coords, paths) = one();
+        let refs = vec![9; 4];
+        let count = vec![path_nos.clone(), coords.clone(), paths.clone(), vec![0; tiles], vec![0; tiles], refs];
+        out.push(("tiles", Call { kind: 1, numbers: vec![1, 0, 0], slices: count }, number));
+        out.push(("tiles", Call { kind: 2, numbers: vec![], slices: vec![paths.clone(), vec![1; tiles]] }, number));
+        out.push(("tiles", Call { kind: 3, numbers: vec![u32::MAX], slices: vec![vec![1; tiles], vec![5; tiles]] }, number));
+        let tile = vec![path_nos, coords, paths, vec![u32::MAX; tiles], vec![0, 0], vec![0; 5]];
+        out.push(("tiles", Call { kind: 4, numbers: vec![0, 1], slices: tile }, number));
+    }
+    // paths that take all tiles, and one more
+    for (edge, number) in [(1_024, 0), (1_025, 3)] {
+        let paths = vec![0, 0, 1_024, edge, 0];
+        out.push(("box edge", Call { kind: 2, numbers: vec![], slices: vec![paths, vec![0; TILES]] }, number));
+    }
+    for (first, number) in [(0, 0), (1, 4)] {
+        let paths = vec![0, 0, 1_024, 1_024, first];
+        out.push(("first tile", Call { kind: 2, numbers: vec![], slices: vec![paths, vec![0; TILES]] }, number));
+    }
+    for (n, number) in [(4_096, 0), (4_097, 2)] {
+        let paths = [0, 0, 0, 0, 0].repeat(n);
+        out.push(("paths", Call { kind: 2, numbers: vec![], slices: vec![paths, vec![]] }, number));
+    }
+    for (sum, number) in [(ROOM, 0), (ROOM + 1, 9)] {
+        let counts = vec![sum as u32 - 1, 0, 1];
+        out.push(("slots", Call { kind: 3, numbers: vec![u32::MAX], slices: vec![counts, vec![0; 3]] }, number));
+    }
+    if long {
+        for (made, number) in [(ROOM as u32 - 1, 0), (ROOM as u32, 9)] {
+            let (path_nos, coords, paths) = one();
+            let slices = vec![path_nos, coords, paths, vec![0; 4], vec![0; 4], vec![7; 2 * ROOM + 4]];
+            out.push(("references", Call { kind: 1, numbers: vec![1, 0, made], slices }, number));
+        }
+    }
+    out
+}
+
+/// `long` adds those that take some hundreds of megabytes.
+pub fn run(use_ours: bool, long: bool) -> bool {
+    let mut well = true;
+    let (mut held, mut called) = (0, 0);
+    for (what, call, number) in calls(long) {
+        let wanted = by_rules(&call);
+        let name = NAMES[call.kind as usize];
+        if wanted.answer[0] != number {
+            println!("DIFFERENT: the rules say {} at the limit of {what} ({name}), not {number}", wanted.answer[0]);
+            well = false;
+        }
+        held += 1;
+        if use_ours && linked(call.kind) {
+            called += 1;
+            if let Err(said) = same_outcome(&call, &by_ours(&call), &wanted) {
+                println!("DIFFERENT: at the limit of {what} ({name}): {said}");
+                well = false;
+            }
+        }
+    }
+    println!("limits: {held} calls by the rules, {called} by ours");
+    well
+}

@@ -1,0 +1,146 @@
+//! The comparison at scale.
+//!
+//!     cargo run --profile checked -p compare -- [MODE] [--stage NAME] [--seconds N] [--cases N] [--seed N] [--threads N] [--by-hand]
+//!
+//! Modes: `all` (the default: the archive beside the rules and the unchanged Rust, about 100 seconds in all),
+//! `rules-vs-oracle` (no archive needed: build with --no-default-features), `findings` (what was found in the Rust,
+//! with the smallest inputs), `lists` (the gate's lists replayed),
+//! `limits` (those that need long slices, some hundreds of megabytes), `all-floats` (every bit pattern of the
+//! one-argument helpers).
+//! Ends with a status other than 0 where anything differed or an answer was met too seldom.
+
+mod backdrop;
+mod calls;
+mod count;
+mod fill;
+mod findings;
+mod fine;
+mod floats;
+mod hand_out;
+mod hostile;
+mod limits;
+mod lists;
+mod stage;
+mod table;
+mod tiling;
+
+use stage::{Budget, Sides, Stage};
+use std::time::Duration;
+
+struct Args {
+    mode: String,
+    only: Option<String>,
+    seconds: Option<f64>,
+    /// How much longer than in the test script.
+    longer: f64,
+    cases: Option<u64>,
+    seed: u64,
+    threads: u64,
+}
+
+fn args() -> Args {
+    let mut out = Args {
+        mode: "all".into(),
+        only: None,
+        seconds: None,
+        longer: 1.0,
+        cases: None,
+        seed: 1,
+        threads: std::thread::available_parallelism().map_or(1, |n| n.get() as u64),
+    };
+    let mut words = std::env::args().skip(1);
+    while let Some(word) = words.next() {
+        let mut value = || words.next().unwrap_or_else(|| fail(&format!("{word} wants a value")));
+        match word.as_str() {
+            "--stage" => out.only = Some(value()),
+            "--seconds" => out.seconds = Some(number(&value())),
+            "--cases" => out.cases = Some(number(&value())),
+            "--seed" => out.seed = number(&value()),
+            "--threads" => out.threads = number(&value()),
+            "--by-hand" => out.longer = 20.0,
+            w if w.starts_with("--") => out.mode = w[2..].into(),
+            w => out.mode = w.into(),
+        }
+    }
+    out
+}
+
+fn number<T: std::str::FromStr>(word: &str) -> T {
+    word.parse().unwrap_or_else(|_| fail(&format!("{word} isn't a number")))
+}
+
+fn fail(said: &str) -> ! {
+    eprintln!("{said}");
+    std::process::exit(2)
+}
+
+fn run<S: Stage>(stage: &S, args: &Args, linked: bool, seconds: f64) -> bool {
+    if args.only.as_deref().is_some_and(|only| only != S::NAME) {
+        return true;
+    }
+    let ours = linked && args.mode != "rules-vs-oracle";
+    if !ours && args.mode != "rules-vs-oracle" {
+        println!("{}: not linked, left out", S::NAME);
+        return true;
+    }
+    let seconds = args.seconds.unwrap_or(seconds * args.longer);
+    let budget = Budget { seed: args.seed, time: Duration::from_secs_f64(seconds), cases: args.cases, threads: args.threads };
+    stage::run(stage, Sides { ours, rust: oracle::AT_HAND }, budget)
+}
+
+fn stages(args: &Args) -> bool {
+    let mut well = args.mode == "rules-vs-oracle" || run(&floats::Floats, args, ours::has::FLOATS, 5.0);
+    well &= run(&backdrop::Backdrop, args, ours::has::BACKDROP, 3.0);
+    well &= run(&hand_out::HandOut, args, ours::has::HAND_OUT, 2.0);
+    well &= run(&count::Count, args, ours::has::COUNT, 24.0);
+    well &= run(&tiling::Tile, args, ours::has::TILE, 18.0);
+    well &= run(&fill::Fill, args, ours::has::FILL, 6.0);
+    well &= run(&fine::Fine, args, ours::has::FINE, 12.0);
+    well &= hostile(args);
+    let whole = args.only.is_none();
+    well & (!whole || limits::run(args.mode != "rules-vs-oracle", false))
+}
+
+fn hostile(args: &Args) -> bool {
+    let rules_alone = args.mode == "rules-vs-oracle";
+    let stage = hostile::Hostile::new(rules_alone);
+    run(&stage, args, !stage.kinds.is_empty(), 30.0)
+}
+
+/// Long slices are freed and taken again for every case: keep their memory, or page faults take most of the time.
+fn keep_memory() {
+    #[cfg(all(target_os = "linux", target_env = "gnu"))]
+    {
+        extern "C" {
+            fn mallopt(what: i32, value: i32) -> i32;
+        }
+        const TRIM_THRESHOLD: i32 = -1;
+        const MMAP_THRESHOLD: i32 = -3;
+        // SAFETY: two settings of the C library's allocator, before any thread is started.
+        unsafe {
+            mallopt(TRIM_THRESHOLD, 1 << 30);
+            mallopt(MMAP_THRESHOLD, 16 << 20);
+        }
+    }
+}
+
+fn main() {
+    keep_memory();
+    let args = args();
+    if !oracle::AT_HAND {
+        println!("The ported Rust isn't at hand: held against the restated rules alone.");
+    }
+    let well = match args.mode.as_str() {
+        "all" | "rules-vs-oracle" => stages(&args),
+        "all-floats" => floats::all_patterns(args.threads),
+        "lists" => lists::run(),
+        "limits" => limits::run(true, true),
+        "findings" => findings::run(args.cases.unwrap_or(2_000_000), args.seed, args.threads),
+        other => fail(&format!("no mode is named {other}")),
+    };
+    if !well {
+        println!("compare: something differed");
+        std::process::exit(1);
+    }
+    println!("compare: all equal");
+}

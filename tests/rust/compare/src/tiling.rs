@@ -1,0 +1,239 @@
+//! Tiling: references that counting made, and invented ones; beside the rules and the unchanged Rust.
+
+use crate::count::some_lines;
+use crate::stage::{hex, same, same_words, Sides, Stage};
+use crate::table::Table;
+use cases::memory::{as_f32, Lent};
+use cases::{boxes, floats, Rng};
+
+#[derive(Clone, Debug)]
+pub struct Case {
+    pub path_nos: Vec<u32>,
+    pub coords: Vec<u32>,
+    pub paths: Vec<u32>,
+    pub indices: Vec<u32>,
+    pub refs: Vec<u32>,
+    pub segments: Vec<u32>,
+    /// The ranges of references, in order.
+    pub ranges: Vec<(u32, u32)>,
+    /// Whether counting and hand-out made the references and the indices.
+    pub counted: bool,
+}
+
+pub struct Tile;
+
+/// The state that counting and hand-out leave: the case with its references and the sum of counts.
+pub fn counted(rng: &mut Rng, most: i64, n: usize) -> (Case, u32) {
+    let n_paths = rng.range(1, 3) as usize;
+    let (paths, mut tiles) = boxes::table(rng, n_paths, most);
+    tiles += rng.below(3) as usize;
+    let (path_nos, coords) = some_lines(rng, &paths, n);
+    let mut backdrops = vec![0; tiles];
+    let mut counts = vec![0; tiles];
+    let mut refs = vec![0; 2 * (n * (2 * most as usize + 12))];
+    let (mut lines, mut made, mut item) = (0, 0, 0);
+    while (lines as usize) < n {
+        // past the lines refused
+        rules::count(&path_nos, as_f32(&coords), &paths, &mut backdrops, &mut counts, &mut refs, n as u32, &mut lines, &mut made, &mut item);
+        lines += 1;
+    }
+    refs.truncate(2 * made as usize);
+    let mut tally = vec![0; tiles];
+    rules::hand_out(&mut counts, &mut tally, u32::MAX);
+    (Case { path_nos, coords, paths, indices: counts, refs, segments: vec![], ranges: vec![], counted: true }, made)
+}
+
+/// References and indices that no counting made, and lengths and ranges that are wrong.
+fn invent(rng: &mut Rng, case: &mut Case) {
+    let lines = case.path_nos.len() as u64;
+    let kind = rng.below(4);
+    if kind == 0 || case.refs.is_empty() {
+        let n = rng.range(1, 12) as usize;
+        case.refs = (0..2 * n).map(|_| 0).collect();
+        for k in 0..n {
+            case.refs[2 * k] = rng.below(lines + 1) as u32;
+            let step = if rng.coin() { rng.below(8) } else { rng.below(40) } as u32;
+            case.refs[2 * k + 1] = (rng.below(3) as u32) << 16 | step;
+        }
+    }
+    for _ in 0..rng.range(1, 4) {
+        let k = rng.below(case.refs.len() as u64) as usize;
+        let odd = k % 2 == 1;
+        case.refs[k] = match rng.below(6) {
+            0 => rng.u32(),
+            1 => case.refs[k].wrapping_add(1),
+            2 => case.refs[k].wrapping_sub(1),
+            3 if odd => case.refs[k].wrapping_add(rng.below(30) as u32 + 1),
+            4 if odd => case.refs[k].wrapping_add((rng.below(4) as u32) << 16),
+            5 => lines as u32,
+            _ => rng.below(lines.max(1)) as u32,
+        };
+    }
+    if kind >= 2 && !case.indices.is_empty() {
+        for _ in 0..rng.range(1, 6) {
+            let k = rng.below(case.indices.len() as u64) as usize;
+            case.indices[k] = rng.pick(&[0, 1, 0x7fff_ffff, 0x8000_0000, u32::MAX, !5, !16_777_215, !16_777_216, !(1 << 30)]);
+        }
+    }
+}
+
+fn spoil(rng: &mut Rng, case: &mut Case) {
+    match rng.below(12) {
+        0 => _ = case.coords.pop(),
+        1 => _ = case.path_nos.pop(),
+        2 => _ = case.paths.pop(),
+        3 => _ = case.refs.pop(),
+        4 => _ = case.segments.pop(),
+        5 => case.ranges.push((case.refs.len() as u32 / 2, case.refs.len() as u32 / 2 + 1)),
+        6 => case.ranges.push((2, 1)),
+        7 => {
+            let n = case.path_nos.len().max(1) as u64;
+            if let Some(p) = case.path_nos.get_mut(rng.below(n) as usize) {
+                *p = rng.pick(&[(case.paths.len() / 5) as u32, u32::MAX, 1 << 31]);
+            }
+        }
+        8 | 9 => {
+            let n = case.coords.len().max(1) as u64;
+            if let Some(c) = case.coords.get_mut(rng.below(n) as usize) {
+                *c = floats::any_bits(rng);
+            }
+        }
+        _ => boxes::spoil(rng, &mut case.paths, case.indices.len()),
+    }
+}
+
+impl Stage for Tile {
+    type Case = Case;
+    const NAME: &'static str = "tile";
+    const REACHED: &'static [u32] = &[0, 1, 2, 3, 4, 6, 7, 9, 10, 12];
+    const LEAST: u64 = 150_000;
+
+    fn make(&self, rng: &mut Rng) -> Case {
+        let most = if rng.one_in(60) { 300 } else { rng.pick(&[4, 8, 24]) };
+        let n = rng.range(1, 12) as usize;
+        let (mut case, made) = counted(rng, most, n);
+        let room = match rng.below(10) {
+            0 => rng.below(made as u64 + 1) as usize,
+            1 => made as usize + rng.below(4) as usize,
+            _ => made as usize,
+        };
+        // NaNs with payloads, so that a word left alone is seen to be
+        case.segments = (0..5 * room).map(|k| 0x7fb0_0000 + k as u32).collect();
+        if rng.one_in(3) {
+            case.counted = false;
+            invent(rng, &mut case);
+        }
+        let all = case.refs.len() as u32 / 2;
+        let mut from = 0;
+        while rng.one_in(3) {
+            let to = rng.range(from as i64, all as i64) as u32;
+            case.ranges.push((from, to));
+            from = to;
+        }
+        case.ranges.push((from, all));
+        if rng.one_in(8) {
+            case.counted = false;
+            spoil(rng, &mut case);
+        }
+        if rng.one_in(70) {
+            case.counted = false;
+            let n = 4_096 + rng.range(0, 2);
+            case.paths = [0, 0, 0, 0, 0].repeat(n as usize);
+        }
+        case
+    }
+
+    fn check(&self, case: &Case, sides: Sides, table: &mut Table) -> Result<(), String> {
+        let slices = [&case.path_nos, &case.coords, &case.paths, &case.indices, &case.refs];
+        let lent = slices.map(|words| Lent::new(words));
+        let [path_nos, coords, paths, indices, refs] = &lent;
+        let mut by_rules = Lent::new(&case.segments);
+        let mut by_ours = Lent::new(&case.segments);
+        let mut by_rust = Lent::new(&case.segments);
+        for &(from, to) in &case.ranges {
+            let mut item = 0xabcd;
+            let number =
+                rules::tile(path_nos.u32s(), coords.f32s(), paths.u32s(), indices.u32s(), refs.u32s(), from, to, by_rules.f32s_mut(), &mut item);
+            table.answer(number);
+            if case.counted {
+                table.add(if number == 12 { "12 of references counted" } else { "ranges counted" }, 1);
+            }
+            if sides.ours {
+                let mut our_item = 0xabcd;
+                let our_number = ours::tile(
+                    path_nos.u32s(),
+                    coords.f32s(),
+                    paths.u32s(),
+                    indices.u32s(),
+                    refs.u32s(),
+                    from,
+                    to,
+                    by_ours.f32s_mut(),
+                    &mut our_item,
+                );
+                same("answer", our_number, number)?;
+                same("item", our_item, item)?;
+                same_words("segments", by_ours.u32s(), by_rules.u32s())?;
+                same("guards", by_ours.guards_stand() && lent.iter().all(|l| l.guards_stand()), true)?;
+            }
+            let early = [1, 2, 3, 4].contains(&number);
+            if sides.rust && !early {
+                let stop = if number == 0 { to } else { item };
+                let ran = oracle::tile(
+                    path_nos.u32s(),
+                    coords.f32s(),
+                    paths.u32s(),
+                    indices.u32s(),
+                    refs.u32s(),
+                    from as usize,
+                    stop as usize,
+                    by_rust.f32s_mut(),
+                );
+                same("the Rust panicked", ran.is_err(), false)?;
+                same_words("beside the Rust: segments", by_rules.u32s(), by_rust.u32s())?;
+                table.add("references the Rust tiled too", (stop - from) as u64);
+            }
+            if number != 0 {
+                break;
+            }
+        }
+        for (l, words) in lent.iter().zip(slices) {
+            same_words("lent to be read", l.u32s(), words)?;
+        }
+        Ok(())
+    }
+
+    fn smaller(&self, case: &Case) -> Vec<Case> {
+        let mut out = vec![];
+        let all = case.refs.len() as u32 / 2;
+        if case.ranges.len() > 1 {
+            let mut c = case.clone();
+            c.ranges = vec![(0, all)];
+            out.push(c);
+        } else if case.refs.len() % 2 == 0 {
+            for k in 0..all as usize {
+                let mut c = case.clone();
+                c.refs.drain(2 * k..2 * k + 2);
+                c.ranges = vec![(0, all - 1)];
+                out.push(c);
+            }
+        }
+        out
+    }
+
+    fn show(&self, case: &Case) -> String {
+        if case.paths.len() > 200 {
+            return format!("  {} paths", case.paths.len() / 5);
+        }
+        format!(
+            "  paths {:?}\n  path numbers {:?}\n  coordinates {}\n  indices {}\n  references {}\n  room {} words, ranges {:?}",
+            case.paths,
+            case.path_nos,
+            hex(&case.coords),
+            hex(&case.indices),
+            hex(&case.refs),
+            case.segments.len(),
+            case.ranges
+        )
+    }
+}

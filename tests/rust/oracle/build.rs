@@ -1,0 +1,63 @@
+//! Finds the Rust that is ported and writes the lines that compile it unchanged.
+//!
+//! The folder is the one that GROATPOCKET_RUST names (it holds src/cpu/...), else `../shared/docs/src`,
+//! else `docs/src`, from the project's root. An attribute can't hold `concat!(env!(..))`, so the lines
+//! with the absolute paths go to OUT_DIR. Where no source is found the crate builds without it, and
+//! `oracle::AT_HAND` is false.
+
+use std::path::{Path, PathBuf};
+use std::{env, fs};
+
+const FILES: [&str; 5] = ["util", "path_count", "path_tiling", "backdrop", "fine"];
+
+fn holds_source(folder: &Path) -> bool {
+    FILES.iter().all(|f| folder.join("src/cpu").join(format!("{f}.rs")).is_file())
+}
+
+fn find() -> Option<PathBuf> {
+    let root = PathBuf::from(env::var("CARGO_MANIFEST_DIR").unwrap()).join("../../..");
+    let named = env::var("GROATPOCKET_RUST").ok().map(|n| {
+        let n = PathBuf::from(n);
+        if n.is_absolute() {
+            n
+        } else {
+            root.join(n)
+        }
+    });
+    let folders = match named {
+        Some(folder) => vec![folder],
+        None => vec![root.join("../shared/docs/src"), root.join("docs/src")],
+    };
+    folders.into_iter().filter_map(|f| f.canonicalize().ok()).find(|f| holds_source(f))
+}
+
+fn lines_for(folder: &Path) -> String {
+    let file = |name: &str| folder.join("src/cpu").join(format!("{name}.rs")).display().to_string();
+    let mut out = format!("#[path = {:?}]\npub mod util;\n", file("util"));
+    for name in &FILES[1..] {
+        let path = file(name);
+        println!("cargo:rerun-if-changed={path}");
+        out += &format!(
+            "pub mod {name} {{\n    include!({path:?});\n    include!(concat!(env!(\"CARGO_MANIFEST_DIR\"), \"/src/entry_{name}.rs\"));\n}}\n"
+        );
+    }
+    out
+}
+
+fn main() {
+    println!("cargo:rerun-if-env-changed=GROATPOCKET_RUST");
+    println!("cargo:rerun-if-changed=build.rs");
+    println!("cargo:rustc-check-cfg=cfg(at_hand)");
+    let out = PathBuf::from(env::var("OUT_DIR").unwrap()).join("ported.rs");
+    match find() {
+        Some(folder) => {
+            println!("cargo:rustc-cfg=at_hand");
+            println!("cargo:rerun-if-changed={}", folder.join("src/cpu/util.rs").display());
+            fs::write(out, lines_for(&folder)).unwrap();
+        }
+        None => {
+            println!("cargo:warning=the ported Rust isn't at hand (GROATPOCKET_RUST): built without it");
+            fs::write(out, "").unwrap();
+        }
+    }
+}

@@ -1,0 +1,73 @@
+//! Coverage: what one pixel's area is, a sum over the segments in order, and a tile of 256.
+
+use crate::limits::*;
+
+fn unit(v: f32) -> f32 {
+    v.clamp(0.0, 1.0)
+}
+
+/// What one segment adds to the pixel at column `i`, row `j`; nothing where it doesn't reach the row.
+fn added(s: &[f32], i: usize, j: usize, x_tile: f32, y_tile: f32) -> Option<f32> {
+    let (dx, dy) = (s[2] - s[0], s[3] - s[1]);
+    let row = y_tile + j as f32;
+    let y = s[1] - row;
+    let (y0, y1) = (unit(y), unit(y + dy));
+    let height = y0 - y1;
+    let edge = dx.signum() * unit(row - s[4] + 1.0);
+    if height != 0.0 {
+        let reciprocal = dy.recip();
+        let start = s[0] - x_tile;
+        let x0 = start + (y0 - y) * reciprocal * dx;
+        let x1 = start + (y1 - y) * reciprocal * dx;
+        let left = (x0.min(x1) - i as f32).min(1.0) - 1.0e-6;
+        let right = x0.max(x1) - i as f32;
+        let b = right.min(1.0);
+        let c = b.max(0.0);
+        let d = left.max(0.0);
+        let a = (b + 0.5 * (d * d - c * c) - left) / (right - left);
+        Some(edge + a * height)
+    } else if edge != 0.0 {
+        Some(edge)
+    } else {
+        None
+    }
+}
+
+/// The coverage of the pixel at column `i`, row `j` of a tile.
+pub fn pixel(segments: &[f32], even_odd: bool, backdrop: i32, i: usize, j: usize, x_tile: f32, y_tile: f32) -> f32 {
+    let mut area = backdrop as f32;
+    for s in segments.chunks_exact(SEGMENT) {
+        if let Some(more) = added(s, i, j, x_tile, y_tile) {
+            area += more;
+        }
+    }
+    if even_odd {
+        (area - 2.0 * (0.5 * area).round()).abs()
+    } else {
+        area.abs().min(1.0)
+    }
+}
+
+/// The segments `first..first + number`, where they are lent.
+pub fn range(segments: &[f32], first: u32, number: u32) -> Option<&[f32]> {
+    let end = first as i64 + number as i64;
+    if end > (segments.len() / SEGMENT) as i64 {
+        return None;
+    }
+    Some(&segments[SEGMENT * first as usize..SEGMENT * end as usize])
+}
+
+pub fn cover(segments: &[f32], even_odd: bool, backdrop: i32, x_tile: f32, y_tile: f32, area: &mut [f32]) {
+    for (k, a) in area.iter_mut().enumerate() {
+        *a = pixel(segments, even_odd, backdrop, k % 16, k / 16, x_tile, y_tile);
+    }
+}
+
+pub fn fill(segments: &[f32], first: u32, number: u32, even_odd: u32, backdrop: i32, x_tile: f32, y_tile: f32, area: &mut [f32]) -> u32 {
+    if !segments.len().is_multiple_of(SEGMENT) || area.len() != 256 {
+        return BAD_SHAPE;
+    }
+    let Some(named) = range(segments, first, number) else { return PAST_END };
+    cover(named, even_odd != 0, backdrop, x_tile, y_tile, area);
+    DONE
+}

@@ -1,0 +1,22 @@
+//! The rules of docs/RULES.md once more, in plain Rust, written from the documents and not from our code.
+//!
+//! What a run holds every refusal, and every lent word, against; where the rules accept, the unchanged Rust
+//! is held against too. Made to be read: sums in i64 or i128, one check after another, float methods of std.
+//! Every call has the exported call's parameters, and gives the refusal number.
+
+pub mod backdrop;
+pub mod checks;
+pub mod count;
+pub mod fill;
+pub mod fine;
+pub mod hand_out;
+pub mod limits;
+pub mod tile;
+pub mod walk;
+
+pub use backdrop::backdrop;
+pub use count::{count, count_seen, Seen};
+pub use fill::fill;
+pub use fine::fine;
+pub use hand_out::hand_out;
+pub use tile::tile;

@@ -1,0 +1,126 @@
+//! The traces of docs/RULES.md, so that the rules as restated here are seen to be the rules.
+
+use rules::{backdrop, count, fill, fine, hand_out, tile};
+
+struct Counted {
+    number: u32,
+    item: u32,
+    backdrops: Vec<i32>,
+    counts: Vec<u32>,
+    refs: Vec<(u32, u32)>,
+}
+
+fn counted(b: [u32; 4], line: [f32; 4], counts: &[u32]) -> Counted {
+    let paths = [b[0], b[1], b[2], b[3], 0];
+    let mut backdrops = vec![0; counts.len()];
+    let (mut counts, mut refs) = (counts.to_vec(), vec![0; 20]);
+    let (mut lines, mut made, mut item) = (0, 0, 0);
+    let number = count(&[0], &line, &paths, &mut backdrops, &mut counts, &mut refs, 1, &mut lines, &mut made, &mut item);
+    assert_eq!(lines, (number == 0) as u32);
+    let refs = refs[..2 * made as usize].chunks(2).map(|r| (r[0], r[1])).collect();
+    Counted { number, item, backdrops, counts, refs }
+}
+
+fn segments(line: [f32; 4]) -> Vec<Vec<u32>> {
+    let c = counted([0, 0, 2, 2], line, &[0; 4]);
+    let (mut indices, mut tally) = (c.counts.clone(), vec![0; 4]);
+    assert_eq!(hand_out(&mut indices, &mut tally, 16), 0);
+    let refs: Vec<u32> = c.refs.iter().flat_map(|r| [r.0, r.1]).collect();
+    let mut out = vec![0.0; 5 * c.refs.len()];
+    let mut item = 0;
+    assert_eq!(tile(&[0], &line, &[0, 0, 2, 2, 0], &indices, &refs, 0, c.refs.len() as u32, &mut out, &mut item), 0);
+    out.chunks(5).map(|s| s.iter().map(|v| v.to_bits()).collect()).collect()
+}
+
+fn bits(values: [f32; 5]) -> Vec<u32> {
+    values.map(f32::to_bits).to_vec()
+}
+
+#[test]
+fn counting() {
+    let c = counted([0, 0, 2, 2], [8.0, 8.0, 8.0, 24.0], &[0; 4]);
+    assert_eq!((c.number, c.refs, c.counts, c.backdrops), (0, vec![(0, 0), (0, 1)], vec![1, 0, 1, 0], vec![0, 0, 0, -1]));
+    for line in [[0.0, 16.0, 32.0, 16.0], [5.0; 4]] {
+        let c = counted([0, 0, 2, 2], line, &[0; 4]);
+        assert_eq!((c.number, c.refs, c.counts, c.backdrops), (0, vec![], vec![0; 4], vec![0; 4]));
+    }
+    let c = counted([0, 0, 2, 2], [0.0, 8.0, 32.0, 8.0], &[0; 4]);
+    assert_eq!((c.number, c.counts, c.backdrops), (0, vec![1, 1, 0, 0], vec![0; 4]));
+    let c = counted([1, 0, 3, 2], [8.0, 8.0, 8.0, 24.0], &[0; 4]);
+    assert_eq!((c.number, c.refs, c.backdrops), (0, vec![], vec![0, 0, -1, 0]));
+    let c = counted([1, 0, 3, 2], [8.0, 24.0, 8.0, 8.0], &[0; 4]);
+    assert_eq!((c.number, c.refs, c.backdrops), (0, vec![], vec![0, 0, 1, 0]));
+}
+
+#[test]
+fn refused_lines() {
+    let c = counted([0, 0, 6, 1], [80.0, 0.0, 80.0, f32::from_bits(1_000)], &[0; 6]);
+    assert_eq!((c.number, c.item, c.counts, c.backdrops), (10, 0, vec![0; 6], vec![0; 6]));
+    let limit = 16_384f32;
+    assert_eq!(counted([0, 0, 2, 2], [limit, 3.0, -limit, 20.0], &[0; 4]).number, 0);
+    assert_eq!(counted([0, 0, 2, 2], [limit.next_up(), 3.0, 5.0, 20.0], &[0; 4]).number, 6);
+    assert_eq!(counted([0, 0, 1_024, 1], [1.0, 3.0, 5.0, 20.0], &[0; 1_024]).number, 0);
+    assert_eq!(counted([0, 0, 1_025, 1], [1.0, 3.0, 5.0, 20.0], &[0; 1_025]).number, 3);
+    let c = counted([0, 0, 2, 2], [8.0, 8.0, 8.0, 24.0], &[0, 0, 65_535, 0]);
+    assert_eq!((c.number, c.refs[1]), (0, (0, 0xffff_0001)));
+    assert_eq!(counted([0, 0, 2, 2], [8.0, 8.0, 8.0, 24.0], &[0, 0, 65_536, 0]).number, 8);
+}
+
+#[test]
+fn slots_and_segments() {
+    let (mut counts, mut tally) = (vec![1, 0, 1, 0], vec![7; 4]);
+    assert_eq!(hand_out(&mut counts, &mut tally, 2), 0);
+    assert_eq!((counts, tally), (vec![4_294_967_295, 0, 4_294_967_294, 0], vec![1, 0, 1, 0]));
+    let x = f32::from_bits(0x40ff_fffe);
+    let two = segments([8.0, 8.0, 8.0, 24.0]);
+    assert_eq!(two, [bits([x, 8.0, x, 16.0, 1e9]), bits([x, 0.0, x, 8.0, 1e9])]);
+    assert_eq!(segments([16.0, 0.0, 16.0, 16.0]), [bits([1e-6, 0.0, 1e-6, 16.0, 1e9])]);
+    assert_eq!(segments([16.0, 4.0, 16.0, 12.0]), [bits([1e-6, 4.0, 2e-6, 4.0, 1e9])]);
+    assert_eq!(segments([0.0, 4.0, 8.0, 8.0])[0][4], 4f32.to_bits());
+}
+
+#[test]
+fn sums() {
+    let mut backdrops = vec![1, 2, -5, i32::MAX, 9];
+    let mut item = 7;
+    assert_eq!(backdrop(&[0, 0, 2, 2, 0], &mut backdrops, &mut item), 0);
+    assert_eq!((item, backdrops), (0, vec![1, 3, -5, i32::MAX - 5, 9]));
+    let mut backdrops = vec![1, i32::MAX, 4];
+    assert_eq!(backdrop(&[0, 0, 1, 1, 0, 0, 0, 2, 1, 0], &mut backdrops, &mut item), 4);
+    assert_eq!(backdrop(&[0, 0, 2, 1, 0], &mut backdrops, &mut item), 11);
+    assert_eq!((item, backdrops), (0, vec![1, i32::MAX, 4]));
+}
+
+#[test]
+fn coverage() {
+    for (backdrop, even_odd, wanted) in [(2, 1, 0.0), (2, 0, 1.0), (-1, 1, 1.0), (-1, 0, 1.0)] {
+        let mut area = [0.5; 256];
+        assert_eq!(fill(&[], 0, 0, even_odd, backdrop, 0.0, 0.0, &mut area), 0);
+        assert!(area.iter().all(|&a| a == wanted));
+    }
+}
+
+fn screen(words: &[u32], segments: &[f32]) -> (u32, u32) {
+    let mut pixels = vec![0xdead_beef; 256];
+    let mut item = 0;
+    (fine(words, segments, 16, 1, 1, 0, 1, &mut pixels, &mut item), pixels[0])
+}
+
+#[test]
+fn commands() {
+    assert_eq!(screen(&[0, 2, 0, 3, 0x2040_60ff, 0], &[]), (0, 0xff60_4020));
+    let mut words = vec![0];
+    for _ in 0..4_096 {
+        words.extend([2, 0]);
+    }
+    words.push(0);
+    assert_eq!(screen(&words, &[]).0, 0);
+    words.truncate(words.len() - 1);
+    words.extend([2, 0, 0]);
+    assert_eq!(screen(&words, &[]), (15, 0xdead_beef));
+    assert_eq!(screen(&[0, 4, 1], &[]).0, 15);
+    assert_eq!(screen(&[0, 9], &[]).0, 14);
+    assert_eq!(screen(&[0, 1, 2, 0], &[]).0, 13);
+    assert_eq!(screen(&[0, 1, 2, 0, 0, 0], &[]).0, 13);
+    assert_eq!(screen(&[0, 1, 0, 1, 0, 0], &[]).0, 13);
+}
