@@ -1,11 +1,17 @@
 -- For each call: what a caller sees of it, and the same read off what the stage's definition leaves. Definitions only.
 use Prim.Native.Nat.{ℕ}
-use mathlib.Core.List.{List}
+use mathlib.Core.List.{List, [], _∷_}
 use lib.IntN.{ℤ}
 use lib.Ieee.{Float}
 use Rattle.coverage.specs.Fill as Fill
 use Rattle.backdrop.specs.Backdrop as Backdrop
 use Rattle.hand_out.specs.HandOut as HandOut
+use Rattle.path_tiling.specs.Tiling as Tiling
+use Rattle.path_count.specs.Count as Count
+use Rattle.path_count.specs.declared.kinds.Counted.{Counted}
+use Rattle.path_count.specs.declared.kinds.Counted.the-variants.{Done, Refused}
+use Rattle.panel.specs.Refusals.{doneNo}
+use Rattle.panel.specs.declared.kinds.Running.{Running}
 use Rattle.groatpocket.specs.Seen.{no, item, Seen, seen, SeenAt, seenAt}
 
 -- the area
@@ -22,3 +28,44 @@ handed n tiles tally = seen {L = List ℕ × List ℕ} n (tiles, tally)
 
 abbrev pub handSeen : HandOut.Out → Seen (List ℕ × List ℕ)
 handSeen o = handed (no (o .paper)) (o .tiles) (o .tally)
+
+-- the segments
+abbrev pub tileSeen : Tiling.Tiled → SeenAt (List Float)
+tileSeen t = seenAt (no (t .paper)) (item (t .paper)) (t .segments)
+
+-- ---- counting carries running numbers: on paper they stand last
+
+abbrev pub numberOn : Counted → ℕ
+numberOn (Done r) = doneNo
+numberOn (Refused n item r) = n
+
+abbrev pub itemOn : Counted → ℕ
+itemOn (Done r) = 0
+itemOn (Refused n item r) = item
+
+abbrev pub runningOn : Counted → Running
+runningOn (Done r) = r
+runningOn (Refused n item r) = r
+
+-- the number, the item, lines and references so far; then backdrops, counts and references
+pub record CountSeen : Type 0 where
+  pub number : ℕ
+  pub at : ℕ
+  pub lines : ℕ
+  pub made : ℕ
+  pub backs : List ℤ
+  pub counts : List ℕ
+  pub refs : List ℕ
+
+abbrev pub countLent : ℕ → ℕ → ℕ → ℕ → List ℤ → List ℕ → List ℕ → CountSeen
+countLent n i l m bs cs rs = record { number = n; at = i; lines = l; made = m; backs = bs; counts = cs; refs = rs }
+
+abbrev pub countPaper : List ℕ → List ℤ → List ℕ → List ℕ → CountSeen
+countPaper [] bs cs rs = countLent 0 0 0 0 bs cs rs
+countPaper (n ∷ []) bs cs rs = countLent n 0 0 0 bs cs rs
+countPaper (n ∷ l ∷ []) bs cs rs = countLent n 0 l 0 bs cs rs
+countPaper (n ∷ l ∷ m ∷ []) bs cs rs = countLent n 0 l m bs cs rs
+countPaper (n ∷ i ∷ l ∷ m ∷ more) bs cs rs = countLent n i l m bs cs rs
+
+abbrev pub countSeen : Count.Told → CountSeen
+countSeen t = countPaper (t .paper) (t .backs) (t .counts) (t .refs)

@@ -2,6 +2,8 @@
 // a thin call of a proved function, named with the prefix gp_, with the promise of that function.
 // A slice is lent as a pointer and a length. A module for each stage.
 pub mod call_backdrop;
+pub mod call_count;
 pub mod call_fill;
 pub mod call_hand_out;
+pub mod call_tile;
 pub mod floats;

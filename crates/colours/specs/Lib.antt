@@ -1,0 +1,2 @@
+-- Colours, a pixel at a time. Definitions only.
+pub mod Colour

@@ -1,0 +1,72 @@
+// Colours of four floats, red first, multiplied by their alpha: unpacked from a COLOR command's word,
+// laid over a tile's pixels, and packed for the screen. fine.rs, lines 33 to 49 and 146 to 156;
+// docs/RULES.md, "Coverage and colour".
+use coverage::tile::TILE_SIZE;
+use float32::clamp;
+use float32::round;
+use float32::to_u32;
+ghost use mathlib.Core.Path.{_≡_};
+ghost use Prim.Native.Nat.{_<_};
+ghost use lib.ListN.{length};
+ghost use Rattle.coverage.specs.Tile.{tileSize};
+ghost use Rattle.colours.specs.Colour.{byteMany, channelOf, colourOf, overOf, compositeOf, byteOf, packOf};
+
+// One byte of a packed colour, from the bit `shift` on, as a float from 0 to 1.
+pub fn channel(x: u32, shift: u32) -> f32
+    requires { ⌜ shift < 32 ⌝ }
+    ensures { λ r. ⌜ r ≡ channelOf x shift ⌝ }
+{
+    (((x >> shift) & 0xff) as f32) * (1.0 / 255.0)
+}
+
+// The colour of a COLOR command: its high byte is red and its low byte alpha.
+pub fn colour(x: u32) -> [f32; 4]
+    ensures { λ r. ⌜ r ≡ colourOf x ⌝ }
+{
+    [channel(x, 24), channel(x, 16), channel(x, 8), channel(x, 0)]
+}
+
+// The colour fg, covering the part ai, over the pixel px.
+pub fn over(px: [f32; 4], fg: [f32; 4], ai: f32) -> [f32; 4]
+    ensures { λ r. ⌜ r ≡ overOf fg ai px ⌝ }
+{
+    let r = fg[0] * ai;
+    let g = fg[1] * ai;
+    let b = fg[2] * ai;
+    let a = fg[3] * ai;
+    let keep = 1.0 - a;
+    [
+        px[0] * keep + r,
+        px[1] * keep + g,
+        px[2] * keep + b,
+        px[3] * keep + a,
+    ]
+}
+
+// The colour over each of a tile's pixels, by its coverage.
+pub fn composite(rgba: &mut [[f32; 4]; TILE_SIZE], area: &[f32], fg: [f32; 4])
+    requires { ⌜ (length (now rgba) ≡ tileSize) × (length (now area) ≡ tileSize) ⌝ }
+    ensures { λ _. ⌜ now (rgba .exit) ≡ compositeOf (now (area .entry)) fg (now (rgba .entry)) ⌝ }
+{
+    let mut i = 0usize;
+    while i < TILE_SIZE {
+        let px = rgba[i];
+        let next = over(px, fg, area[i]);
+        rgba[i] = next;
+        i += 1;
+    }
+}
+
+// A channel as a byte. A NaN is 0.
+pub fn byte(v: f32) -> u32
+    ensures { λ r. ⌜ (r ≡ byteOf v) × (r < byteMany) ⌝ }
+{
+    to_u32(round(clamp(v, 0.0, 1.0) * 255.0))
+}
+
+// A pixel, red lowest.
+pub fn pack(px: [f32; 4]) -> u32
+    ensures { λ r. ⌜ r ≡ packOf px ⌝ }
+{
+    byte(px[0]) + 0x100 * byte(px[1]) + 0x1_0000 * byte(px[2]) + 0x100_0000 * byte(px[3])
+}

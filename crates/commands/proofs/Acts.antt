@@ -1,0 +1,96 @@
+-- Lists changed by a command, and what a command that goes on has been checked for. Assumes nothing.
+use mathlib.Core.Path.{_≡_, refl, sym, ap, subst, _∙_}
+use mathlib.Core.Bool.{Bool, true, false}
+use mathlib.Core.List.{List, []}
+use Prim.Native.Nat.{ℕ, _+_, _-_, _*_, _/_, _<_, _≤_}
+use native.Mathlib.Omega.{arith}
+use lib.Dec.{leb}
+use lib.IntN.{ℤ}
+use lib.ListN.{length, getD}
+use lib.Ieee.{Float, nan}
+use borrow.Author.Tests.{leb-true}
+use Rattle.util.specs.Constants as Number
+use Rattle.lists.specs.Grid.{mapi, tabulate}
+use Rattle.lists.specs.GridLaws.{mapi-is, mapi-mapi, getD-mapi, length-mapi}
+use Rattle.panel.specs.Refusals.{pastEnd}
+use Rattle.panel.specs.Widths.{segmentFloats}
+use Rattle.coverage.specs.Tile.{tileSize}
+use Rattle.coverage.specs.Coverage.{pixelOf, coverageOf}
+use Rattle.coverage.proofs.Laws.{mapi-over}
+use Rattle.commands.specs.Steps.{countOf, pickMove, fillMove, wholeMove, moveOf}
+use Rattle.commands.specs.Numbers.{wordsOf, fillWords}
+use Rattle.commands.specs.Pixel.{evenOddOf, signedOf, cover, paint, coverAll, paintAll, Within}
+use Rattle.commands.specs.declared.steps.Op.{Op}
+use Rattle.commands.specs.declared.steps.Op.the-variants as Op′
+use Rattle.commands.specs.declared.steps.Act.{Act}
+use Rattle.commands.specs.declared.steps.Act.the-variants.{Fill, Solid, Color, Jump}
+use Rattle.commands.specs.declared.steps.Move.{Move}
+use Rattle.commands.specs.declared.steps.Move.the-variants.{Refused, Goes}
+
+-- ---- lists
+pub unchanged : {A : Type 0} (d : A) (l : List A) → l ≡ mapi (λ k x. x) l
+unchanged d l = mapi-is (λ k x. x) l l d d refl (λ k h. refl)
+
+pub mapi-cong : {A B : Type 0} (d : A) (e : B) (f g : ℕ → A → B) (l : List A) → ((k : ℕ) (x : A) → k < length l → f k x ≡ g k x) → mapi f l ≡ mapi g l
+mapi-cong d e f g l h = mapi-is g l (mapi f l) d e (length-mapi f l) (λ k lt. getD-mapi f l k d e lt ∙ h k (getD l k d) lt)
+
+pub length-cover : (a : Act) (segs area : List Float) → length (coverAll a segs area) ≡ length area
+unfolding coverAll
+length-cover a segs area = length-mapi (cover a segs) area
+
+pub length-paint : (a : Act) (area : List Float) (rgba : List (List Float)) → length (paintAll a area rgba) ≡ length rgba
+unfolding paintAll
+length-paint a area rgba = length-mapi (λ k colour. paint a (getD area k nan) colour) rgba
+
+-- ---- what the code's steps leave is what the command says
+module _ (segs area : List Float) (rgba : List (List Float)) where
+  pub by-fill : (rule first backdrop : ℕ) (z : ℤ) (area′ : List Float) → length area ≡ tileSize → z ≡ signedOf backdrop
+      → area′ ≡ coverageOf segs first (countOf rule) (evenOddOf rule) z Number.zero Number.zero → area′ ≡ coverAll (Fill rule first backdrop) segs area
+  unfolding coverAll cover coverageOf
+  by-fill rule first backdrop z area′ n p e =
+      let f = pixelOf segs first (countOf rule) (evenOddOf rule) (signedOf backdrop) Number.zero Number.zero in
+      e ∙ ap (λ (b : ℤ). coverageOf segs first (countOf rule) (evenOddOf rule) b Number.zero Number.zero) p ∙ ap (λ (m : ℕ). tabulate m f) (sym n) ∙ sym (mapi-over f area)
+
+  pub fill-paints : (rule first backdrop : ℕ) → rgba ≡ paintAll (Fill rule first backdrop) area rgba
+  unfolding paintAll paint
+  fill-paints rule first backdrop = unchanged [] rgba
+
+  pub solid-paints : rgba ≡ paintAll Solid area rgba
+  unfolding paintAll paint
+  solid-paints = unchanged [] rgba
+
+  pub color-covers : (word : ℕ) → area ≡ coverAll (Color word) segs area
+  unfolding coverAll cover
+  color-covers word = unchanged nan area
+
+  pub jump-covers : area ≡ coverAll Jump segs area
+  unfolding coverAll cover
+  jump-covers = unchanged nan area
+
+  pub jump-paints : rgba ≡ paintAll Jump area rgba
+  unfolding paintAll paint
+  jump-paints = unchanged [] rgba
+
+-- ---- a command that goes on has its segments among those lent
+pick-goes : (b : Bool) (m : Move) (k : ℕ) (a : Act) (n : ℕ) → pickMove b m (Refused k) ≡ Goes a n → (b ≡ true) × (m ≡ Goes a n)
+pick-goes true m k a n e = (refl, e)
+pick-goes false m k a n e = let z : _≡_ {A = ℕ} 0 1 = cc in absurd (omega arith)
+
+whole-within : (o : Op) (ws : List ℕ) (size at : ℕ) (a : Act) (n : ℕ) → wholeMove o ws (size / segmentFloats) at ≡ Goes a n → Within a size
+unfolding wholeMove fillMove
+whole-within Op′.Fill ws size at a n e =
+    let p = pick-goes _ _ _ a n e in
+    let f : Fill (getD ws (at + 1) 0) (getD ws (at + 2) 0) (getD ws (at + 3) 0) ≡ a = same (p .1) in
+    let h : getD ws (at + 2) 0 + countOf (getD ws (at + 1) 0) ≤ size / segmentFloats = leb-true _ _ (p .0) in
+    subst (λ (z : Act). Within z size) f (omega arith)
+  where
+    same : {x y : Act} {i j : ℕ} → Goes x i ≡ Goes y j → x ≡ y
+    same e = cc
+whole-within Op′.Solid ws size at a n e = let f : Solid ≡ a = cc in subst (λ (z : Act). Within z size) f tt
+whole-within Op′.Color ws size at a n e = let f : Color (getD ws (at + 1) 0) ≡ a = cc in subst (λ (z : Act). Within z size) f tt
+whole-within Op′.Jump ws size at a n e = let f : Jump ≡ a = cc in subst (λ (z : Act). Within z size) f tt
+whole-within Op′.Unknown ws size at a n e = let z : _≡_ {A = ℕ} 0 1 = cc in absurd (omega arith)
+
+pub move-within : (o : Op) (ws : List ℕ) (size at : ℕ) (a : Act) (n : ℕ) → moveOf o ws (size / segmentFloats) at ≡ Goes a n → Within a size
+unfolding moveOf
+move-within o ws size at a n e = whole-within o ws size at a n (pick-goes (leb (wordsOf o) (length ws - at)) (wholeMove o ws (size / segmentFloats) at) pastEnd a n e .1)

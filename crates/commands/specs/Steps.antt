@@ -1,0 +1,83 @@
+-- How a tile's commands run: which is where, what each is, where the next one stands, and how they end. No pixels here. Definitions only.
+use mathlib.Core.Bool.{Bool, true, false}
+use mathlib.Core.List.{List}
+use Prim.Native.Nat.{ℕ, zero, suc, _+_, _-_, _/_}
+use lib.Dec.{leb, ltb, eqb}
+use lib.ListN.{length, getD}
+use Rattle.panel.specs.Refusals.{pastEnd, unknown, tooLong}
+use Rattle.panel.specs.declared.kinds.Verdict.{Verdict}
+use Rattle.panel.specs.declared.kinds.Verdict.the-variants.{Fine, Against}
+use Rattle.reader.specs.Look.{lookAt}
+use Rattle.reader.specs.declared.Look.{Look}
+use Rattle.reader.specs.declared.Look.the-variants.{Word, Past}
+use Rattle.commands.specs.Numbers.{endNo, fillNo, solidNo, colorNo, jumpNo, fillWords, solidWords, colorWords, wordsOf}
+use Rattle.commands.specs.declared.steps.Op.{Op}
+use Rattle.commands.specs.declared.steps.Op.the-variants.{Fill, Solid, Color, Jump, Unknown}
+use Rattle.commands.specs.declared.steps.Act.{Act}
+use Rattle.commands.specs.declared.steps.Act.the-variants as Does
+use Rattle.commands.specs.declared.steps.Move.{Move}
+use Rattle.commands.specs.declared.steps.Move.the-variants.{Refused, Goes}
+
+abbrev pub pickOp : Bool → Op → Op → Op
+pickOp true a b = a
+pickOp false a b = b
+
+abbrev pub pickMove : Bool → Move → Move → Move
+pickMove true a b = a
+pickMove false a b = b
+
+-- what a command's first word asks for
+unfoldable pub opOf : ℕ → Op
+opOf tag = pickOp (eqb tag fillNo) Fill (pickOp (eqb tag solidNo) Solid (pickOp (eqb tag colorNo) Color (pickOp (eqb tag jumpNo) Jump Unknown)))
+
+-- a fill's number of segments
+abbrev pub countOf : ℕ → ℕ
+countOf rule = rule / 2
+
+-- a FILL at `at`: 13 where its first segment plus their number is over the segments lent
+unfoldable pub fillMove : List ℕ → ℕ → ℕ → Move
+fillMove ws room at =
+    let rule = getD ws (at + 1) 0 in
+    let first = getD ws (at + 2) 0 in
+    pickMove (leb (first + countOf rule) room) (Goes (Does.Fill rule first (getD ws (at + 3) 0)) (at + fillWords)) (Refused pastEnd)
+
+-- a command whose words are all there
+unfoldable pub wholeMove : Op → List ℕ → ℕ → ℕ → Move
+wholeMove Fill ws room at = fillMove ws room at
+wholeMove Solid ws room at = Goes Does.Solid (at + solidWords)
+wholeMove Color ws room at = Goes (Does.Color (getD ws (at + 1) 0)) (at + colorWords)
+wholeMove Jump ws room at = Goes Does.Jump (getD ws (at + 1) 0)
+wholeMove Unknown ws room at = Refused unknown
+
+-- the command at `at`, where a word stands: 14, then 13 for its other words, then 13 for its segments. An unknown one has no other words
+unfoldable pub moveOf : Op → List ℕ → ℕ → ℕ → Move
+moveOf o ws room at = pickMove (leb (wordsOf o) (length ws - at)) (wholeMove o ws room at) (Refused pastEnd)
+
+-- a tile's commands, in order: what each does, and how they end
+pub data Trace : Type 0 where
+  ends : Verdict → Trace
+  does : Act → Trace → Trace
+
+abbrev pub onMove : Move → (Act → ℕ → Trace) → Trace
+onMove (Refused n) f = ends (Against n)
+onMove (Goes a next) f = f a next
+
+abbrev pub pickTrace : Bool → Trace → Trace → Trace
+pickTrace true a b = a
+pickTrace false a b = b
+
+-- 13 where no word stands, END, or else a command
+abbrev pub onLook : Look → (ℕ → Trace) → Trace
+onLook Past f = ends (Against pastEnd)
+onLook (Word w) f = pickTrace (eqb w endNo) (ends Fine) (f w)
+
+-- the commands from `at` on, at most n before END, with so many segments lent
+unfoldable pub traceOf : ℕ → List ℕ → ℕ → ℕ → Trace
+unfolding opOf moveOf
+traceOf zero ws room at = onLook (lookAt ws at) (λ w. ends (Against tooLong))
+traceOf (suc n) ws room at = onLook (lookAt ws at) (λ w. onMove (moveOf (opOf w) ws room at) (λ a next. does a (traceOf n ws room next)))
+
+-- how they end
+abbrev pub endOf : Trace → Verdict
+endOf (ends v) = v
+endOf (does a t) = endOf t

@@ -1,0 +1,35 @@
+-- Worked cases of docs/RULES.md, computed. Assumes nothing.
+use mathlib.Core.Path.{_≡_, refl}
+use mathlib.Core.List.{List, [], _∷_}
+use Prim.Native.Nat.{ℕ}
+use lib.Ieee.{ofBits, ofInt, add, sub, mul, div, lt, le, round, toUnsigned}
+use Rattle.float32.specs.Meaning.{clampOf, roundOf}
+use Rattle.panel.specs.declared.kinds.Verdict.the-variants.{Fine, Against}
+use Rattle.panel.specs.Refusals.{pastEnd, unknown}
+use Rattle.colours.specs.Colour.{channelOf, colourOf, overOf, byteOf, packOf}
+use Rattle.commands.specs.Numbers.{solidNo, colorNo, endNo}
+use Rattle.commands.specs.Steps.{opOf, moveOf, wholeMove, traceOf}
+use Rattle.commands.specs.Pixel.{cover, paint, pointOf}
+use Rattle.fine.specs.Screen.{tileTrace, endsAt, colourAt}
+
+-- SOLID, then COLOR 0x204060FF, in tile 0's region
+unfoldable pub solid-list : List ℕ
+solid-list = 0 ∷ solidNo ∷ 0 ∷ colorNo ∷ 0x2040_60ff ∷ endNo ∷ []
+
+pub solid-done : endsAt solid-list [] 0 ≡ Fine
+unfolding solid-list tileTrace traceOf opOf moveOf wholeMove
+solid-done = refl
+
+-- every pixel is 0xFF604020
+pub solid-colour : (k : ℕ) → packOf (colourAt solid-list [] 0 k) ≡ 0xff60_4020
+unfolding solid-list colourAt tileTrace traceOf opOf moveOf wholeMove cover paint pointOf colourOf channelOf overOf packOf byteOf clampOf roundOf ofInt ofBits add sub mul div lt le round toUnsigned
+solid-colour k = refl
+
+-- a list that ends early is 13, an unknown command 14
+pub short-list : endsAt (0 ∷ colorNo ∷ []) [] 0 ≡ Against pastEnd
+unfolding tileTrace traceOf opOf moveOf wholeMove
+short-list = refl
+
+pub unknown-list : endsAt (0 ∷ 5 ∷ []) [] 0 ≡ Against unknown
+unfolding tileTrace traceOf opOf moveOf wholeMove
+unknown-list = refl

@@ -1,0 +1,106 @@
+-- `fine::screen::tile` meets its contract. Assumes nothing.
+use mathlib.Core.Path.{_≡_, refl, sym, ap, _∙_}
+use mathlib.Core.Bool.{cond}
+use mathlib.Core.List.{List, []}
+use Prim.Native.Nat.{ℕ, _+_, _*_, _/_, _%_, _<_}
+use native.Mathlib.Nat.{mod-lt}
+use native.Mathlib.Omega.{arith}
+use lib.ListN.{getD}
+use denote.Ref.{now}
+use lib.Ieee.{Float}
+use Rattle.util.specs.Constants.{zero}
+use Rattle.lists.specs.Grid.{mapi, tabulate}
+use Rattle.lists.specs.GridLaws.{mapi-replicate, getD-tabulate}
+use Rattle.panel.specs.declared.kinds.Verdict.{Verdict}
+use Rattle.panel.specs.declared.kinds.Verdict.the-variants.{Fine, Against}
+use Rattle.coverage.specs.Tile.{tileWidth, tileHeight, tileSize}
+use Rattle.colours.specs.Colour.{packOf}
+use Rattle.commands.specs.Numbers.{startOf}
+use Rattle.commands.specs.Pixel.{point, pointOf, Ran, ran, runOf}
+use Rattle.commands.proofs.Acts.{mapi-cong}
+use Rattle.fine.specs.Screen.{inTile, placeOf, putTile, packed, fromList, clear, noColour, tileTrace, endsAt, colourAt, ifFine, tilePixels}
+use borrow.Author.Needs.{needs}
+use Rattle.fine.proofs.screen.tile.Statement.{statement}
+use Rattle.fine.proofs.screen.tile.Tie as tie
+
+module _ (ws : List ℕ) (segs : List Float) (t w tx ty : ℕ) (pixels : List ℕ) (v : Verdict) (p b : List (List Float)) (q : b ≡ noColour) (e : ran v p ≡ runOf ws segs (startOf t) b) where
+  outcome : ran v p ≡ ran (endsAt ws segs t) (tabulate tileSize (colourAt ws segs t))
+  unfolding runOf tileTrace colourAt noColour
+  outcome =
+      e ∙ ap (runOf ws segs (startOf t)) q
+      ∙ ap (ran (endsAt ws segs t)) (mapi-replicate tileSize (λ k colour. pointOf segs k (tileTrace ws segs t) (point zero colour) .colour) clear)
+
+  ended : v ≡ endsAt ws segs t
+  ended = ap (λ (r : Ran). r .end) outcome
+
+  place-small : (n m : ℕ) → tileWidth * (n % tileHeight) + m % tileWidth < tileSize
+  place-small n m = omega arith
+
+  -- the list's colours are the pixels'
+  colours : putTile (fromList p w) w tx ty pixels ≡ putTile (packed (colourAt ws segs t) w) w tx ty pixels
+  unfolding putTile
+  colours =
+      ap (λ (l : List (List Float)). putTile (fromList l w) w tx ty pixels) (ap (λ (r : Ran). r .rgba) outcome)
+      ∙ mapi-cong 0 0 (λ k old. cond (inTile w tx ty k) (fromList (tabulate tileSize (colourAt ws segs t)) w k old) old) (λ k old. cond (inTile w tx ty k) (packed (colourAt ws segs t) w k old) old) pixels
+      (λ k old h. ap (λ (c : List Float). cond (inTile w tx ty k) (packOf c) old) (getD-tabulate tileSize (colourAt ws segs t) (placeOf w k) [] (place-small (k / w) (k % w))))
+
+  done : (after : List ℕ) → v ≡ Fine → after ≡ putTile (fromList p w) w tx ty pixels → (Fine ≡ endsAt ws segs t) × (after ≡ tilePixels ws segs t w tx ty pixels)
+  unfolding tilePixels
+  done after d h =
+      let s : Fine ≡ endsAt ws segs t = sym d ∙ ended in
+      (s, h ∙ colours ∙ ap (λ (x : Verdict). ifFine x (putTile (packed (colourAt ws segs t) w) w tx ty pixels) pixels) s)
+
+  stopped : (k : ℕ) → v ≡ Against k → (Against k ≡ endsAt ws segs t) × (pixels ≡ tilePixels ws segs t w tx ty pixels)
+  unfolding tilePixels
+  stopped k d =
+      let s : Against k ≡ endsAt ws segs t = sym d ∙ ended in
+      (s, ap (λ (x : Verdict). ifFine x (putTile (packed (colourAt ws segs t) w) w tx ty pixels) pixels) s)
+
+no-colour-requires : tie.Need-no-colour-requires
+no-colour-requires c κs = search needs
+
+mul-start : tie.Need-mul-start
+mul-start c = search needs
+
+add-start : tie.Need-add-start
+add-start c = search needs
+
+run-requires : tie.Need-run-requires
+run-requires c κs = search needs
+
+enum-told : tie.Need-enum-told
+enum-told c = search needs
+
+put-tile-requires : tie.Need-put-tile-requires
+put-tile-requires c κs = search needs
+
+enum-known-v : tie.Need-enum-known-v
+enum-known-v c = search needs
+
+same-length : tie.Need-same-length
+same-length c = search needs
+
+returns : tie.Need-returns
+returns c =
+    let a = c .before .before .before .before .before .before .before .before .before .before .before .before .before .args in
+    done (now (a .words)) (now (a .segments)) (a .t) (a .width) (a .tx) (a .ty) (now (a .pixels)) _ _ _ (c .before .before .before .before .before .before .before .before .before .no-colour .ensures) (c .before .before .before .before .before .before .before .run .ensures) _ (c .before .before .before .before .before .enum-told .given .1) (c .before .before .put-tile .ensures)
+
+returns-2 : tie.Need-returns-2
+returns-2 c =
+    let a = c .before .before .before .before .before .before .before .before .before .args in
+    stopped (now (a .words)) (now (a .segments)) (a .t) (a .width) (a .tx) (a .ty) (now (a .pixels)) _ _ _ (c .before .before .before .before .before .no-colour .ensures) (c .before .before .before .run .ensures) _ (c .before .v .given .1)
+
+pub tile-spec : {M : Type 1} → statement M
+tile-spec =
+    tie.close
+    (tie.spec
+    no-colour-requires
+    mul-start
+    add-start
+    run-requires
+    enum-told
+    put-tile-requires
+    enum-known-v
+    same-length
+    returns
+    returns-2)

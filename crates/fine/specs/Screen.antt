@@ -1,0 +1,72 @@
+-- A screen tile, pixel by pixel. Definitions only.
+use mathlib.Core.Bool.{Bool, true, false, cond, _&&_}
+use mathlib.Core.List.{List, []}
+use Prim.Native.Nat.{ℕ, _+_, _*_, _/_, _%_}
+use lib.Dec.{eqb}
+use lib.ListN.{length, getD, replicate}
+use lib.Ieee.{Float}
+use Rattle.util.specs.Constants.{zero}
+use Rattle.lists.specs.Grid.{mapi}
+use Rattle.panel.specs.Limits.{mostCommands}
+use Rattle.panel.specs.Widths.{segmentFloats}
+use Rattle.panel.specs.declared.kinds.Verdict.{Verdict}
+use Rattle.panel.specs.declared.kinds.Verdict.the-variants.{Fine, Against}
+use Rattle.coverage.specs.Tile.{tileWidth, tileHeight, tileSize}
+use Rattle.colours.specs.Colour.{packOf}
+use Rattle.commands.specs.Numbers.{startOf}
+use Rattle.commands.specs.Steps.{Trace, traceOf, endOf}
+use Rattle.commands.specs.Pixel.{point, pointOf}
+
+-- ---- where a tile lies. The screen's pixel p is in column p % width and row p / width
+
+-- whether p lies in the tile in column tx and row ty of tiles
+abbrev pub inTile : ℕ → ℕ → ℕ → ℕ → Bool
+inTile width tx ty p = eqb (p % width / tileWidth) tx && eqb (p / width / tileHeight) ty
+
+-- which of its tile's pixels p is, 16 to a row
+abbrev pub placeOf : ℕ → ℕ → ℕ
+placeOf width p = tileWidth * (p / width % tileHeight) + p % width % tileWidth
+
+-- the first pixel of row y of the tile
+abbrev pub rowAt : ℕ → ℕ → ℕ → ℕ → ℕ
+rowAt width tx ty y = width * (tileHeight * ty + y) + tileWidth * tx
+
+-- the pixels with the tile's put in: `new` gives what stands at p then
+unfoldable pub putTile : (ℕ → ℕ → ℕ) → ℕ → ℕ → ℕ → List ℕ → List ℕ
+putTile new width tx ty pixels = mapi (λ p old. cond (inTile width tx ty p) (new p old) old) pixels
+
+-- what the pixel p shows, packed, of colours by the tile's pixel, and of a list of them
+abbrev pub packed : (ℕ → List Float) → ℕ → ℕ → ℕ → ℕ
+packed colour width p old = packOf (colour (placeOf width p))
+
+abbrev pub fromList : List (List Float) → ℕ → ℕ → ℕ → ℕ
+fromList rgba width p old = packed (λ k. getD rgba k []) width p old
+
+-- ---- what its commands make of it
+
+-- no colour, at one pixel and at each
+abbrev pub clear : List Float
+clear = replicate 4 zero
+
+unfoldable pub noColour : List (List Float)
+noColour = replicate tileSize clear
+
+-- tile t's commands
+unfoldable pub tileTrace : List ℕ → List Float → ℕ → Trace
+tileTrace words segments t = traceOf mostCommands words (length segments / segmentFloats) (startOf t)
+
+abbrev pub endsAt : List ℕ → List Float → ℕ → Verdict
+endsAt words segments t = endOf (tileTrace words segments t)
+
+-- the colour of tile t's pixel k after them, from no area and no colour
+unfoldable pub colourAt : List ℕ → List Float → ℕ → ℕ → List Float
+colourAt words segments t k = pointOf segments k (tileTrace words segments t) (point zero clear) .colour
+
+abbrev pub ifFine : Verdict → List ℕ → List ℕ → List ℕ
+ifFine Fine new old = new
+ifFine (Against n) new old = old
+
+-- the screen's pixels after tile t: as they were where it is refused
+unfoldable pub tilePixels : List ℕ → List Float → ℕ → ℕ → ℕ → ℕ → List ℕ → List ℕ
+tilePixels words segments t width tx ty pixels =
+    ifFine (endsAt words segments t) (putTile (packed (colourAt words segments t) width) width tx ty pixels) pixels

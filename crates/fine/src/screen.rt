@@ -1,0 +1,123 @@
+// A screen tile: its commands run on colours of its own, which go to the screen only where none is
+// refused; and a range of tiles.
+use colours::pack;
+use commands::numbers::LIST_START;
+use commands::numbers::TILE_WORDS;
+use commands::run::run;
+use coverage::tile::TILE_HEIGHT;
+use coverage::tile::TILE_SIZE;
+use coverage::tile::TILE_WIDTH;
+use panel::kinds::Answer;
+use panel::kinds::Verdict;
+ghost use mathlib.Core.Path.{_≡_};
+ghost use Prim.Native.Nat.{_+_, _*_, _/_, _%_, _≤_, _<_};
+ghost use lib.ListN.{length};
+ghost use Rattle.lists.specs.Grid.{mapi, within};
+ghost use Rattle.lists.specs.Sums as Numbers;
+ghost use Rattle.panel.specs.Limits.{mostTiles};
+ghost use Rattle.coverage.specs.Tile.{tileWidth, tileHeight, tileSize};
+ghost use Rattle.fine.specs.Screen.{noColour, rowAt, fromList, putTile, endsAt, tilePixels};
+ghost use Rattle.fine.specs.Fine.{shown, tilesOf, shownOf};
+
+// The colours that a tile starts with: none.
+pub fn no_colour() -> [[f32; 4]; TILE_SIZE]
+    ensures { λ r. ⌜ r ≡ noColour ⌝ }
+{
+    let clear = [0.0f32; 4];
+    [clear; TILE_SIZE]
+}
+
+// Row y of the tile in column tx and row ty of tiles, packed.
+pub fn put_row(
+    pixels: &mut [u32],
+    width: usize,
+    tx: usize,
+    ty: usize,
+    y: usize,
+    rgba: &[[f32; 4]; TILE_SIZE],
+)
+    requires { ⌜ (tx < mostTiles) × (ty < mostTiles) × (y < tileHeight) × (tileWidth * tx + tileWidth ≤ width) × (rowAt width tx ty y + tileWidth ≤ length (now pixels)) ⌝ }
+    ensures { λ _. ⌜ now (pixels .exit) ≡ mapi (within (rowAt width tx ty y) (rowAt width tx ty y + tileWidth) (fromList (now (rgba .entry)) width)) (now (pixels .entry)) ⌝ }
+{
+    let base = width * (TILE_HEIGHT * ty + y) + TILE_WIDTH * tx;
+    let first = TILE_WIDTH * y;
+    let mut x = 0usize;
+    while x < TILE_WIDTH {
+        let px = rgba[first + x];
+        let packed = pack(px);
+        let at = base + x;
+        pixels[at] = packed;
+        x += 1;
+    }
+}
+
+// All rows of the tile.
+pub fn put_tile(
+    pixels: &mut [u32],
+    width: usize,
+    tx: usize,
+    ty: usize,
+    rgba: &[[f32; 4]; TILE_SIZE],
+)
+    requires { ⌜ (tx < mostTiles) × (ty < mostTiles) × (tileWidth * tx + tileWidth ≤ width) × (width * (tileHeight * ty + tileHeight) ≤ length (now pixels)) ⌝ }
+    ensures { λ _. ⌜ now (pixels .exit) ≡ putTile (fromList (now (rgba .entry)) width) width tx ty (now (pixels .entry)) ⌝ }
+{
+    let mut y = 0usize;
+    while y < TILE_HEIGHT {
+        put_row(pixels, width, tx, ty, y, rgba);
+        y += 1;
+    }
+}
+
+// Tile t, in column tx and row ty of tiles, `width` pixels to a row of the screen.
+pub fn tile(
+    words: &[u32],
+    segments: &[f32],
+    t: usize,
+    width: usize,
+    tx: usize,
+    ty: usize,
+    pixels: &mut [u32],
+) -> Verdict
+    requires { ⌜ (t < mostTiles) × (tx < mostTiles) × (ty < mostTiles) × (tileWidth * tx + tileWidth ≤ width) × (width * (tileHeight * ty + tileHeight) ≤ length (now pixels)) ⌝ }
+    ensures { λ r. ⌜ (r ≡ endsAt (now (words .entry)) (now (segments .entry)) t) × (now (pixels .exit) ≡ tilePixels (now (words .entry)) (now (segments .entry)) t width tx ty (now (pixels .entry))) ⌝ }
+{
+    let mut rgba = no_colour();
+    let start = TILE_WORDS * t + LIST_START;
+    let v = run(words, segments, start, &mut rgba);
+    match v {
+        Verdict::Fine => {
+            put_tile(pixels, width, tx, ty, &rgba);
+            Verdict::Fine
+        }
+        Verdict::Against(no) => Verdict::Against(no),
+    }
+}
+
+// The tiles from `from` up to `to`, in order, up to the first that is refused.
+pub fn tiles(
+    words: &[u32],
+    segments: &[f32],
+    width: usize,
+    cols: usize,
+    rows: usize,
+    from: u32,
+    to: u32,
+    pixels: &mut [u32],
+) -> Answer
+    requires { ⌜ (from ≤ to) × (to ≤ cols * rows) × (cols * rows ≤ mostTiles) × (tileWidth * cols ≤ width) × (width * (tileHeight * rows) ≤ length (now pixels)) ⌝ }
+    ensures { λ r. ⌜ shown r (now (pixels .exit)) ≡ shownOf (tilesOf (now (words .entry)) (now (segments .entry)) width cols from to (now (pixels .entry))) ⌝ }
+{
+    let mut t = from;
+    while t < to {
+        let n = t as usize;
+        let tx = n % cols;
+        let ty = n / cols;
+        let v = tile(words, segments, n, width, tx, ty, pixels);
+        if let Verdict::Against(no) = v {
+            return Answer::Refused(no, t);
+        }
+        t += 1;
+    }
+    Answer::Done
+}

@@ -1,0 +1,28 @@
+// path_tiling::tile: a segment for each reference of a range.
+use panel::kinds::item;
+use panel::kinds::number;
+ghost use mathlib.Core.Path.{_≡_};
+ghost use Rattle.path_tiling.specs.Look.{lent};
+ghost use Rattle.path_tiling.specs.Tiling.{tiledOf};
+ghost use Rattle.groatpocket.specs.Seen.{seenAt};
+ghost use Rattle.groatpocket.specs.Calls.{tileSeen};
+
+#[no_mangle]
+pub extern "C" fn gp_tile(
+    path_nos: &[u32],
+    coords: &[f32],
+    paths: &[u32],
+    indices: &[u32],
+    refs: &[u32],
+    from: u32,
+    to: u32,
+    segments: &mut [f32],
+    at: &mut u32,
+) -> u32
+    ensures { λ r. ⌜ seenAt r (now (at .exit)) (now (segments .exit))
+        ≡ tileSeen (tiledOf from to (lent (now («path_nos» .entry)) (now (coords .entry)) (now (paths .entry)) (now (indices .entry)) (now (refs .entry))) (now (segments .entry))) ⌝ }
+{
+    let r = path_tiling::tile(from, to, path_nos, coords, paths, indices, refs, segments);
+    *at = item(r);
+    number(r)
+}
