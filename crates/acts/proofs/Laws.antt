@@ -1,10 +1,11 @@
 -- Runs and checks of acts: of two lists one after another, of one turn of a loop, of row marks alone.
 -- Assumes nothing.
 use mathlib.Core.Path.{_≡_, refl, sym, ap, _∙_}
-use mathlib.Core.Bool.{Bool, true, false, not}
-use mathlib.Core.List.{List, [], _∷_, _++_}
+use mathlib.Core.Bool.{Bool, true, false, not, cond, _&&_}
+use mathlib.Core.Logic.{_⊎_, inl, inr, ⊎-elim}
+use mathlib.Core.List.{List, [], _∷_, _++_, append-assoc}
 use Prim.Native.Nat.{ℕ, zero, suc, _+_, _-_, _*_, _<_, _≤_}
-use native.Mathlib.Nat.{mul-le-mul-right, suc-mul, mul-comm}
+use native.Mathlib.Nat.{mul-le-mul-right, suc-mul, mul-comm, zero-add, add-zero, suc-add, add-suc}
 use native.Mathlib.Numerals.{add-one}
 use native.Mathlib.Omega.{arith}
 use lib.Dec.{ltb}
@@ -54,6 +55,30 @@ module _ (f : ℕ → Hit) (i to : ℕ) where
   pub steps-end : to ≤ i → stepsActs f (to - i) i ≡ []
   unfolding stepsActs
   steps-end h = let e : to - i ≡ 0 = omega arith in rw e
+
+-- the steps up to a middle, and then the rest
+pub steps-split : (f : ℕ → Hit) (j k i : ℕ) → stepsActs f (j + k) i ≡ stepsActs f j i ++ stepsActs f k (i + j)
+unfolding stepsActs
+steps-split f zero k i = rw (zero-add k, add-zero i)
+steps-split f (suc j) k i =
+    rw (suc-add j k, steps-split f j k (suc i), suc-add i j, add-suc i j) (append-back (stepActs (f i) i) (stepsActs f j (suc i)) (stepsActs f k (suc (i + j))))
+  where
+    append-back : (a b c : List Act) → a ++ (b ++ c) ≡ (a ++ b) ++ c
+    append-back a b c = sym (append-assoc a b c)
+
+pub steps-halves : (f : ℕ → Hit) (a b c : ℕ) → a ≤ b → b ≤ c → stepsActs f (c - a) a ≡ stepsActs f (b - a) a ++ stepsActs f (c - b) b
+steps-halves f a b c h k =
+    let e : c - a ≡ b - a + (c - b) = omega arith in
+    let g : a + (b - a) ≡ b = omega arith in
+    ap (λ (n : ℕ). stepsActs f n a) e ∙ steps-split f (b - a) (c - b) a ∙ ap (λ (n : ℕ). stepsActs f (b - a) a ++ stepsActs f (c - b) n) g
+
+-- steps that fall the same have the same acts
+pub steps-same : (f g : ℕ → Hit) (k i : ℕ) → ((j : ℕ) → i ≤ j → j < i + k → f j ≡ g j) → stepsActs f k i ≡ stepsActs g k i
+unfolding stepsActs
+steps-same f g zero i h = refl
+steps-same f g (suc k) i h =
+    ap (λ (x : Hit). stepActs x i ++ stepsActs f k (suc i)) (h i (omega arith) (omega arith))
+    ∙ ap (λ (r : List Act). stepActs (g i) i ++ r) (steps-same f g k (suc i) (λ j p q. h j (omega arith) (omega arith)))
 
 module _ (first top width y : ℕ) where
   rows-next : (k m : ℕ) → k ≡ suc m → rowActs first top width k y ≡ (mark (first + (y - top) * width) ∷ []) ++ rowActs first top width m (y + 1)
@@ -173,6 +198,32 @@ module _ (δ : ℤ) (l : ℕ) (p : Hit) (i : ℕ) (bs : List ℤ) (cs rs : List 
       pub write-plain : x ≡ false → bs′ ≡ bs → done (stOf bs′ cs′ rs′ (at + 1)) ≡ runActs δ l (stepActs p i) (stOf bs cs rs at)
       unfolding runActs
       write-plain f eb = rw (e, counted, f, eb, ec, er)
+
+-- ---- the same where the mark is tested, and made, without a branch
+
+either-way : (x c : Bool) → (x && c) ≡ false → (x ≡ false) ⊎ ((x ≡ true) × (c ≡ false))
+either-way false c e = inl refl
+either-way true c e = inr (refl, e)
+
+both-ways : (x c : Bool) → (x && c) ≡ true → (x ≡ true) × (c ≡ true)
+both-ways true c e = (refl, e)
+both-ways false c e = absurd (false-true e)
+
+module _ (δ : ℤ) (s : Hit) (i : ℕ) (bs : List ℤ) (cs : List ℕ) (t : ℕ) (x : Bool) (e : s ≡ on t x) (c : Bool) (h : getD cs t 0 < mostCount)
+    (p : c ≡ not (inI32 (getD bs (cond x (t + 1) t) (pos 0) +ℤ δ))) where
+  pub check-marked : (x && c) ≡ true → Against sumOver ≡ checkNo δ (stepActs s i) bs cs
+  check-marked q = let b = both-ways x c q in check-leaves δ s i bs cs t x e c h (b .0) (rw (b .0) at p) (b .1)
+
+  pub check-passes : (x && c) ≡ false → Fine ≡ checkNo δ (stepActs s i) bs cs
+  check-passes q =
+      ⊎-elim (λ f. check-plain δ s i bs cs t x e h f) (λ f. check-cross δ s i bs cs t x e c h (f .0) (rw (f .0) at p) (f .1)) (either-way x c q)
+
+pub write-hit : (δ : ℤ) (l : ℕ) (p : Hit) (i : ℕ) (bs : List ℤ) (cs rs : List ℕ) (at : ℕ) → isDone (runActs δ l (stepActs p i) (stOf bs cs rs at)) ≡ true
+    → (t : ℕ) (x : Bool) → p ≡ on t x → (bs′ : List ℤ) (cs′ rs′ : List ℕ) → cs′ ≡ set cs t (getD cs t 0 + 1)
+    → rs′ ≡ set (set rs (refWords * at) l) (refWords * at + 1) (packed (getD cs t 0) i)
+    → bs′ ≡ cond x (set bs (t + 1) (getD bs (t + 1) (pos 0) +ℤ δ)) bs → done (stOf bs′ cs′ rs′ (at + 1)) ≡ runActs δ l (stepActs p i) (stOf bs cs rs at)
+write-hit δ l p i bs cs rs at h t true e bs′ cs′ rs′ ec er eb = write-cross δ l p i bs cs rs at h t true e bs′ cs′ rs′ ec er refl eb
+write-hit δ l p i bs cs rs at h t false e bs′ cs′ rs′ ec er eb = write-plain δ l p i bs cs rs at h t false e bs′ cs′ rs′ ec er refl eb
 
 -- ---- tiles of a box
 

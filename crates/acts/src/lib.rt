@@ -6,6 +6,8 @@ mod visits;
 
 pub use marks::leaves;
 pub use marks::mark;
+pub use marks::mark_if;
+pub use marks::next_if;
 pub use rows::Rows;
 pub use rows::check_rows;
 pub use rows::write_rows;

@@ -4,6 +4,7 @@ use mathlib.Core.List.{List, [], _∷_}
 use lib.IntN.{ℤ}
 use lib.Ieee.{Float}
 use Rattle.coverage.specs.Fill as Fill
+use Rattle.fine.specs.Fine as Fine
 use Rattle.backdrop.specs.Backdrop as Backdrop
 use Rattle.hand_out.specs.HandOut as HandOut
 use Rattle.path_tiling.specs.Tiling as Tiling
@@ -32,6 +33,10 @@ handSeen o = handed (no (o .paper)) (o .tiles) (o .tally)
 -- the segments
 abbrev pub tileSeen : Tiling.Tiled → SeenAt (List Float)
 tileSeen t = seenAt (no (t .paper)) (item (t .paper)) (t .segments)
+
+-- the pixels
+abbrev pub fineSeen : Fine.Shown → SeenAt (List ℕ)
+fineSeen s = seenAt (no (s .answer)) (item (s .answer)) (s .pixels)
 
 -- ---- counting carries running numbers: on paper they stand last
 

@@ -17,7 +17,7 @@ use Rattle.walk.specs.Step.{Boxed, stepOf, lastZ, crossOf}
 use Rattle.walk.specs.declared.setup.Pace.{Pace}
 use Rattle.walk.specs.declared.step.Step.{Step}
 use Rattle.walk.specs.declared.step.Step.the-variants.{Tile, Refused}
-use Rattle.walk.proofs.Tiles.{mark-in, mark-right, tile-once}
+use Rattle.walk.proofs.Tiles.{tile-in, mark-in, mark-right, tile-once}
 use Rattle.walk.proofs.Walks.{StartsAt}
 use Rattle.acts.specs.Acts.{Hit, on, off}
 use Rattle.acts.proofs.Plans.{Apart}
@@ -44,8 +44,13 @@ module _ (w : Pace) (b : Path) (i : ℕ) where
         second true q e = e
         second false q e = absurd (false≢true e)
 
-    pub cross-below : (last : Float) (c : Bool) → c ≡ crossOf (w .«on_top») (b .x1) i last x z → c ≡ true → t .0 + 1 < endOf b
-    cross-below last c k h = mark-in w b i t x y z e (cross-right last c k h)
+    -- so the tile that it marks, or its own where it marks none, is in its path's range
+    pub next-below : (last : Float) (c : Bool) → c ≡ crossOf (w .«on_top») (b .x1) i last x z → cond c (t .0 + 1) (t .0) < endOf b
+    next-below last c k = go c refl
+      where
+        go : (m : Bool) → c ≡ m → cond m (t .0 + 1) (t .0) < endOf b
+        go true h = mark-in w b i t x y z e (cross-right last c k h)
+        go false h = tile-in w b i t x y z e .1
 
 -- ---- the steps of a walk that starts as a checked line does
 

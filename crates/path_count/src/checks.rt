@@ -8,6 +8,7 @@ ghost use Rattle.acts.specs.Acts.{checkNo, stepActs, stepsActs, deltaOf};
 ghost use Rattle.path_count.specs.Steps.{hitAt, zOf, seenOf, OnTiles};
 use super::kinds::Seen;
 use acts::leaves;
+use acts::next_if;
 use panel::kinds::Path;
 use panel::kinds::Verdict;
 use panel::limits::MOST_COUNT;
@@ -40,10 +41,11 @@ fn check_step(
     if counts[t] >= MOST_COUNT {
         return Seen::Against(COUNT_OVER);
     }
-    if crosses(pace.on_top, path.x1, i, last_z, x, z) {
-        if leaves(backs[t + 1], up) {
-            return Seen::Against(SUM_OVER);
-        }
+    // One test, since which steps mark can't be foretold.
+    let marks = crosses(pace.on_top, path.x1, i, last_z, x, z);
+    let q = next_if(t, marks);
+    if marks & leaves(backs[q], up) {
+        return Seen::Against(SUM_OVER);
     }
     Seen::Passed(z)
 }

@@ -9,7 +9,7 @@ ghost use Rattle.panel.specs.Widths.{refWords};
 ghost use Rattle.walk.specs.Step.{lastZ};
 ghost use Rattle.acts.specs.Acts.{stOf, runActs, stepActs, stepsActs, isDone, deltaOf};
 ghost use Rattle.path_count.specs.Steps.{hitAt, zOf, OnTiles};
-use acts::mark;
+use acts::mark_if;
 use acts::visit;
 use panel::kinds::LineNo;
 use panel::kinds::Path;
@@ -43,9 +43,8 @@ fn write_step(
         return last_z;
     };
     visit(tile, line, i, at, counts, refs);
-    if crosses(pace.on_top, path.x1, i, last_z, x, z) {
-        mark(backs, tile.0 as usize + 1, up);
-    }
+    let marks = crosses(pace.on_top, path.x1, i, last_z, x, z);
+    mark_if(backs, tile.0 as usize, marks, up);
     z
 }
 

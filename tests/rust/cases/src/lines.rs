@@ -28,7 +28,8 @@ pub const FAMILIES: [&str; 22] = [
     "minus zero",
 ];
 
-/// The family whose lines are nearly all refused with 6.
+/// The families of which some or nearly all lines are refused with 6.
+pub const LIMIT: usize = 9;
 pub const RANDOM_BITS: usize = 10;
 
 /// A coordinate near the box's extent on one axis, in pixels.

@@ -94,6 +94,29 @@ fn spoil(rng: &mut Rng, case: &mut Case) {
     }
 }
 
+/// A long list over clear tiles with room for all, few of its lines refused.
+fn long_list(rng: &mut Rng) -> Case {
+    let most = rng.pick(&[6, 12, 24]);
+    let n_paths = rng.range(1, 3) as usize;
+    let (paths, tiles) = boxes::table(rng, n_paths, most);
+    let n = rng.range(20, 60) as usize;
+    let (mut path_nos, mut coords) = (vec![], vec![]);
+    while path_nos.len() < n {
+        let path = rng.below(n_paths as u64) as usize;
+        let (family, line) = lines::any(rng, &box_of(&paths, path));
+        if family != lines::RANDOM_BITS && family != lines::LIMIT {
+            path_nos.push(path as u32);
+            coords.extend(line.map(f32::to_bits));
+        }
+    }
+    let refs = (0..2 * n * 12).map(|k| 0xbeef_0000 + k as u32).collect();
+    let mut ends = vec![n as u32];
+    if rng.coin() {
+        ends.insert(0, rng.range(0, n as i64) as u32);
+    }
+    Case { path_nos, coords, paths, backdrops: vec![0; tiles], counts: vec![0; tiles], refs, lines: 0, made: 0, ends }
+}
+
 /// A path, line or tile too many: refusals 2 and 5.
 fn past_limits(rng: &mut Rng) -> Case {
     let over = rng.range(-1, 3);
@@ -129,11 +152,14 @@ impl Stage for Count {
     type Case = Case;
     const NAME: &'static str = "count";
     const REACHED: &'static [u32] = &[0, 1, 2, 3, 4, 5, 6, 7, 8, 9, 10, 11];
-    const LEAST: u64 = 150_000;
+    const LEAST: u64 = 120_000;
 
     fn make(&self, rng: &mut Rng) -> Case {
-        if rng.one_in(30) {
+        if rng.one_in(24) {
             return past_limits(rng);
+        }
+        if rng.one_in(3) {
+            return long_list(rng);
         }
         let most = if rng.one_in(40) { 1_024 } else { rng.pick(&[4, 8, 24]) };
         let n_paths = if rng.one_in(40) { 0 } else { rng.range(1, 3) as usize };
@@ -166,7 +192,7 @@ impl Stage for Count {
             case.ends.push(end);
         }
         case.ends.push(n as u32);
-        if rng.one_in(10) {
+        if rng.one_in(5) {
             spoil(rng, &mut case);
         }
         case
@@ -295,10 +321,11 @@ impl Memory {
     }
 }
 
-/// One batch for all of them, where no later batch was refused for its own range.
+/// One batch for all of them, where no batch is refused for its own range.
 fn uncut(case: &Case, path_nos: &Lent, coords: &Lent, paths: &Lent, wanted: &Memory, number: u32) -> Result<(), String> {
     let end = *case.ends.last().unwrap();
-    if number == 1 || case.ends.iter().any(|&e| e > end) {
+    let in_order = case.ends.iter().all(|&e| e <= end) && end as usize <= case.path_nos.len();
+    if number == 1 || !in_order {
         return Ok(());
     }
     let mut all = Memory::of(case);

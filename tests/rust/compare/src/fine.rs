@@ -40,11 +40,12 @@ fn put_list(rng: &mut Rng, lists: &mut Lists, tile: usize, fresh: &mut usize, n_
     let words = lists.ours.len();
     let mut at = 64 * tile + 1;
     let mut room = 63;
+    let mut idle_from = at; // from here to `at` nothing is filled or painted, so a loop costs little
     for _ in 0..rng.range(0, 12) {
         let command = one(rng, n_segments, words as u32, wild);
         if room < command.size() + 3 || rng.one_in(12) {
             lists.put(at, Command::Jump(*fresh as u32), 0);
-            at = *fresh;
+            (at, idle_from) = (*fresh, *fresh);
             *fresh += 64;
             room = 64;
         }
@@ -54,10 +55,13 @@ fn put_list(rng: &mut Rng, lists: &mut Lists, tile: usize, fresh: &mut usize, n_
         if let Command::Jump(_) | Command::Unknown(_) = command {
             return;
         }
+        if command != Command::Solid {
+            idle_from = at;
+        }
     }
     match rng.below(4 * wild) {
         0 => lists.put(at, Command::Jump(at as u32), 0),
-        1 => lists.put(at, Command::Jump(64 * tile as u32 + 1), 0),
+        1 => lists.put(at, Command::Jump(idle_from as u32), 0),
         _ => lists.put(at, Command::End, 0),
     }
 }

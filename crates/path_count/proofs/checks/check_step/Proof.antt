@@ -1,27 +1,29 @@
 -- `path_count::checks::check_step` meets its contract.
 -- Assumes nothing.
+use mathlib.Core.Bool.{not, cond}
 use mathlib.Core.Path.{_≡_, refl, sym, ap, _∙_}
 use native.Mathlib.Omega.{arith}
-use Prim.Native.Nat.{_+_, _<_}
+use Prim.Native.Nat.{ℕ, _+_, _<_}
 use lib.ListN.{length, getD}
-use lib.IntN.{pos}
+use lib.IntN.{pos, _+ℤ_}
 use borrow.Author.Needs.{needs}
 use Rattle.panel.specs.declared.kinds.Verdict.{Verdict}
 use Rattle.walk.specs.Step.{stepOf}
 use Rattle.walk.specs.declared.step.Step.the-variants.{Tile}
-use Rattle.acts.specs.Acts.{on, deltaOf}
+use Rattle.acts.specs.Acts.{on, inI32, deltaOf}
 use Rattle.acts.proofs.Signs.{told}
-use Rattle.acts.proofs.Laws.{check-off, check-full, check-leaves, check-cross, check-plain}
+use Rattle.acts.proofs.Laws.{check-off, check-full, check-marked, check-passes}
 use Rattle.path_count.specs.Steps.{hitAt, zOf, seenOf}
 use Rattle.path_count.specs.declared.kinds.Seen.{Seen}
 use Rattle.path_count.specs.declared.kinds.Seen.the-variants.{Passed}
 use Rattle.walk.proofs.Tiles.{step-told, tile-in}
-use Rattle.path_count.proofs.Steps.{hit-off, hit-on, cross-below}
+use Rattle.path_count.proofs.Steps.{hit-off, hit-on, next-below}
 use Rattle.path_count.proofs.checks.check_step.Statement.{statement}
 use Rattle.path_count.proofs.checks.check_step.Tie as tie
 use Rattle.path_count.proofs.checks.check_step.Reads as reads
 use Rattle.path_count.proofs.checks.check_step.Lts as lts
 use Rattle.acts.proofs.leaves.Reads as leaves-reads
+use Rattle.acts.proofs.next_if.Reads as next-if-reads
 use Rattle.walk.proofs.step.crosses.Reads as crosses-reads
 use Rattle.walk.proofs.step.step_at.Reads as step-at-reads
 
@@ -56,7 +58,6 @@ below c = omega (arith, tile-in (c .before .before .before .before .args .pace) 
 shared-slice-read-if1 : tie.Need-shared-slice-read-if1
 shared-slice-read-if1 c = below (c .before .before .before)
 
--- before the test of the mark any flag serves
 returns-2 : tie.Need-returns-2
 returns-2 c =
     ap (λ (v : Verdict). seenOf v (zOf (c .before .before .before .before .before .before .before .before .args .pace) (c .before .before .before .before .before .before .before .before .args .i)))
@@ -65,20 +66,25 @@ returns-2 c =
 crosses-requires : tie.Need-crosses-requires
 crosses-requires c κs = step-told (c .before .before .before .before .before .before .before .before .args .pace) (c .before .before .before .before .before .before .before .before .args .path) (c .before .before .before .before .before .before .before .before .args .i) _ _ _ _ (fell (c .before .before .before .before)) .within .col-most
 
-add-leaves : tie.Need-add-leaves
-add-leaves c = search needs
+next-if-requires : tie.Need-next-if-requires
+next-if-requires c κs = search needs
 
-mul-leaves : tie.Need-mul-leaves
-mul-leaves c = search needs
-
-shared-slice-copy-out-leaves : tie.Need-shared-slice-copy-out-leaves
-shared-slice-copy-out-leaves c =
+-- the tile that is marked, or the step's own, is lent
+next : (c : tie.After-next-if) → c .next-if .result < length (c .before .before .before .before .before .before .before .before .before .before .args .backs .now)
+next c =
     omega (
       arith,
-      cross-below (c .before .before .before .before .before .before .before .before .before .before .args .pace) (c .before .before .before .before .before .before .before .before .before .before .args .path) (c .before .before .before .before .before .before .before .before .before .before .args .i) _ _ _ _ (fell (c .before .before .before .before .before .before)) (c .before .before .before .before .before .before .before .before .before .before .args .last-z) (c .before .crosses .result) (c .before .crosses .ensures) (c .if2 .taken),
+      c .next-if .ensures,
+      next-below (c .before .before .before .before .before .before .before .before .before .before .args .pace) (c .before .before .before .before .before .before .before .before .before .before .args .path) (c .before .before .before .before .before .before .before .before .before .before .args .i) _ _ _ _ (fell (c .before .before .before .before .before .before)) (c .before .before .before .before .before .before .before .before .before .before .args .last-z) (c .before .crosses .result) (c .before .crosses .ensures),
       c .before .before .before .before .before .before .before .before .before .before .pre .0 .within,
       c .before .before .before .before .before .before .before .before .before .before .pre .0 .paired,
     )
+
+mul-leaves : tie.Need-mul-leaves
+mul-leaves c = omega (arith, next (c), c .before .before .before .before .before .before .before .before .before .before .pre .0 .few, c .before .before .before .before .before .before .before .before .before .before .pre .0 .paired)
+
+shared-slice-copy-out-leaves : tie.Need-shared-slice-copy-out-leaves
+shared-slice-copy-out-leaves c = next (c)
 
 leaves-requires : tie.Need-leaves-requires
 leaves-requires c κs = search needs
@@ -87,26 +93,22 @@ leaves-requires c κs = search needs
 hit : (c : tie.After-crosses) → hitAt (c .before .before .before .before .before .before .before .before .before .args .pace) (c .before .before .before .before .before .before .before .before .before .args .path) (c .before .before .before .before .before .before .before .before .before .args .i) ≡ on (c .before .before .before .before .before .tile .given .0 .0 .0) (c .crosses .result)
 hit c = hit-on (c .before .before .before .before .before .before .before .before .before .args .pace) (c .before .before .before .before .before .before .before .before .before .args .path) (c .before .before .before .before .before .before .before .before .before .args .i) _ _ _ _ (fell (c .before .before .before .before .before)) (c .before .before .before .before .before .before .before .before .before .args .last-z) (c .crosses .result) (c .before .before .before .before .before .before .before .before .before .pre .2) (c .crosses .ensures)
 
+-- what `leaves` says of the backdrop itself
+said : (c : tie.After-leaves) → c .leaves .result ≡ not (inI32 (getD (c .before .before .before .before .before .before .before .before .before .before .before .before .args .backs .now) (cond (c .before .before .before .crosses .result) (c .before .before .before .before .before .before .before .before .tile .given .0 .0 .0 + 1) (c .before .before .before .before .before .before .before .before .tile .given .0 .0 .0)) (pos 0) +ℤ deltaOf (c .before .before .before .before .before .before .before .before .before .before .before .before .args .up)))
+said c =
+    told (getD (c .before .before .before .before .before .before .before .before .before .before .before .before .args .backs .now) (c .before .before .next-if .result) (pos 0)) (deltaOf (c .before .before .before .before .before .before .before .before .before .before .before .before .args .up)) (c .leaves .result) (c .before .leaves-arg .given) (c .leaves .ensures)
+    ∙ ap (λ (q : ℕ). not (inI32 (getD (c .before .before .before .before .before .before .before .before .before .before .before .before .args .backs .now) q (pos 0) +ℤ deltaOf (c .before .before .before .before .before .before .before .before .before .before .before .before .args .up)))) (c .before .before .next-if .ensures)
+
 returns-3 : tie.Need-returns-3
 returns-3 c =
     ap (λ (v : Verdict). seenOf v (zOf (c .before .before .before .before .before .before .before .before .before .before .before .before .before .args .pace) (c .before .before .before .before .before .before .before .before .before .before .before .before .before .args .i)))
-    (check-leaves _ _ _ _ _ _ _ (hit (c .before .before .before .before)) (c .before .leaves .result) (c .before .before .before .before .before .if1 .left) (c .before .before .before .if2 .taken)
-    (told (getD (c .before .before .before .before .before .before .before .before .before .before .before .before .before .args .backs .now) (c .before .before .before .before .before .before .before .before .before .tile .given .0 .0 .0 + 1) (pos 0)) (deltaOf (c .before .before .before .before .before .before .before .before .before .before .before .before .before .args .up)) (c .before .leaves .result) (c .before .before .leaves-arg .given) (c .before .leaves .ensures))
-    (c .if3 .taken))
+    (check-marked _ _ _ _ _ _ _ (hit (c .before .before .before .before)) (c .before .leaves .result) (c .before .before .before .before .before .if1 .left) (said (c .before)) (c .if2 .taken))
 
 returns-4 : tie.Need-returns-4
 returns-4 c =
     ap Passed (sym (step-told (c .before .before .before .before .before .before .before .before .before .before .before .before .before .args .pace) (c .before .before .before .before .before .before .before .before .before .before .before .before .before .args .path) (c .before .before .before .before .before .before .before .before .before .before .before .before .before .args .i) _ _ _ _ (fell (c .before .before .before .before .before .before .before .before .before)) .is-z))
     ∙ ap (λ (v : Verdict). seenOf v (zOf (c .before .before .before .before .before .before .before .before .before .before .before .before .before .args .pace) (c .before .before .before .before .before .before .before .before .before .before .before .before .before .args .i)))
-    (check-cross _ _ _ _ _ _ _ (hit (c .before .before .before .before)) (c .before .leaves .result) (c .before .before .before .before .before .if1 .left) (c .before .before .before .if2 .taken)
-    (told (getD (c .before .before .before .before .before .before .before .before .before .before .before .before .before .args .backs .now) (c .before .before .before .before .before .before .before .before .before .tile .given .0 .0 .0 + 1) (pos 0)) (deltaOf (c .before .before .before .before .before .before .before .before .before .before .before .before .before .args .up)) (c .before .leaves .result) (c .before .before .leaves-arg .given) (c .before .leaves .ensures))
-    (c .if3 .left))
-
-returns-5 : tie.Need-returns-5
-returns-5 c =
-    ap Passed (sym (step-told (c .before .before .before .before .before .before .before .before .before .before .args .pace) (c .before .before .before .before .before .before .before .before .before .before .args .path) (c .before .before .before .before .before .before .before .before .before .before .args .i) _ _ _ _ (fell (c .before .before .before .before .before .before)) .is-z))
-    ∙ ap (λ (v : Verdict). seenOf v (zOf (c .before .before .before .before .before .before .before .before .before .before .args .pace) (c .before .before .before .before .before .before .before .before .before .before .args .i)))
-    (check-plain _ _ _ _ _ _ _ (hit (c .before)) (c .before .before .if1 .left) (c .if2 .left))
+    (check-passes _ _ _ _ _ _ _ (hit (c .before .before .before .before)) (c .before .leaves .result) (c .before .before .before .before .before .if1 .left) (said (c .before)) (c .if2 .left))
 
 pub check-step-spec : {M : Type 1} → statement M
 check-step-spec =
@@ -121,10 +123,9 @@ check-step-spec =
     shared-slice-read-if1
     returns-2
     crosses-requires
-    add-leaves
+    next-if-requires
     mul-leaves
     shared-slice-copy-out-leaves
     leaves-requires
     returns-3
-    returns-4
-    returns-5)
+    returns-4)

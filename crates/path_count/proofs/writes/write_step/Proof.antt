@@ -8,15 +8,15 @@ use borrow.Author.Needs.{needs}
 use Rattle.walk.specs.Step.{stepOf}
 use Rattle.walk.specs.declared.step.Step.the-variants.{Tile}
 use Rattle.acts.specs.Acts.{on}
-use Rattle.acts.proofs.Laws.{write-off, write-count, write-bump, write-cross, write-plain}
+use Rattle.acts.proofs.Laws.{write-off, write-count, write-bump, write-hit}
 use Rattle.path_count.specs.Steps.{hitAt}
 use Rattle.walk.proofs.Tiles.{step-told, tile-in}
-use Rattle.path_count.proofs.Steps.{hit-off, hit-on, cross-below}
+use Rattle.path_count.proofs.Steps.{hit-off, hit-on, next-below}
 use Rattle.path_count.proofs.writes.write_step.Statement.{statement}
 use Rattle.path_count.proofs.writes.write_step.Tie as tie
 use Rattle.path_count.proofs.writes.write_step.Reads as reads
 use Rattle.path_count.proofs.writes.write_step.Lts as lts
-use Rattle.acts.proofs.mark.Reads as mark-reads
+use Rattle.acts.proofs.mark_if.Reads as mark-if-reads
 use Rattle.acts.proofs.visit.Reads as visit-reads
 use Rattle.walk.proofs.step.crosses.Reads as crosses-reads
 use Rattle.walk.proofs.step.step_at.Reads as step-at-reads
@@ -50,25 +50,22 @@ visit-requires c κs = (
 crosses-requires : tie.Need-crosses-requires
 crosses-requires c κs = step-told (c .before .before .before .before .before .before .before .before .before .before .before .before .before .args .pace) (c .before .before .before .before .before .before .before .before .before .before .before .before .before .args .path) (c .before .before .before .before .before .before .before .before .before .before .before .before .before .args .i) _ _ _ _ (fell (c .before .before .before .before .before .before .before .before)) .within .col-most
 
-cast-mark : tie.Need-cast-mark
-cast-mark c = search needs
-
-add-mark : tie.Need-add-mark
-add-mark c = search needs
+cast-mark-if : tie.Need-cast-mark-if
+cast-mark-if c = search needs
 
 -- where the step falls, and whether it marks
 hit : (c : tie.After-crosses) → hitAt (c .before .before .before .before .before .before .before .before .before .before .before .before .before .before .args .pace) (c .before .before .before .before .before .before .before .before .before .before .before .before .before .before .args .path) (c .before .before .before .before .before .before .before .before .before .before .before .before .before .before .args .i) ≡ on (c .before .before .before .before .before .before .before .before .before .tile .given .0 .0 .0) (c .crosses .result)
 hit c = hit-on (c .before .before .before .before .before .before .before .before .before .before .before .before .before .before .args .pace) (c .before .before .before .before .before .before .before .before .before .before .before .before .before .before .args .path) (c .before .before .before .before .before .before .before .before .before .before .before .before .before .before .args .i) _ _ _ _ (fell (c .before .before .before .before .before .before .before .before .before)) (c .before .before .before .before .before .before .before .before .before .before .before .before .before .before .args .last-z) (c .crosses .result) (c .before .before .before .before .before .before .before .before .before .before .before .before .before .before .pre .2) (c .crosses .ensures)
 
-mark-requires : tie.Need-mark-requires
-mark-requires c κs = (
+mark-if-requires : tie.Need-mark-if-requires
+mark-if-requires c κs = (
   omega (
     arith,
-    cross-below (c .before .before .before .before .before .before .before .before .before .before .before .before .before .before .before .before .before .args .pace) (c .before .before .before .before .before .before .before .before .before .before .before .before .before .before .before .before .before .args .path) (c .before .before .before .before .before .before .before .before .before .before .before .before .before .before .before .before .before .args .i) _ _ _ _ (fell (c .before .before .before .before .before .before .before .before .before .before .before .before)) (c .before .before .before .before .before .before .before .before .before .before .before .before .before .before .before .before .before .args .last-z) (c .before .before .before .crosses .result) (c .before .before .before .crosses .ensures) (c .before .before .if1 .taken),
-    c .before .before .before .before .before .before .before .before .before .before .before .before .before .before .before .before .before .pre .0 .within,
-    c .before .before .before .before .before .before .before .before .before .before .before .before .before .before .before .before .before .pre .0 .paired,
+    next-below (c .before .before .before .before .before .before .before .before .before .before .before .before .before .before .before .before .args .pace) (c .before .before .before .before .before .before .before .before .before .before .before .before .before .before .before .before .args .path) (c .before .before .before .before .before .before .before .before .before .before .before .before .before .before .before .before .args .i) _ _ _ _ (fell (c .before .before .before .before .before .before .before .before .before .before .before)) (c .before .before .before .before .before .before .before .before .before .before .before .before .before .before .before .before .args .last-z) (c .before .before .crosses .result) (c .before .before .crosses .ensures),
+    c .before .before .before .before .before .before .before .before .before .before .before .before .before .before .before .before .pre .0 .within,
+    c .before .before .before .before .before .before .before .before .before .before .before .before .before .before .before .before .pre .0 .paired,
   ),
-  write-bump _ _ _ _ _ _ _ _ (c .before .before .before .before .before .before .before .before .before .before .before .before .before .before .before .before .before .pre .5) _ _ (hit (c .before .before .before)) (c .before .before .if1 .taken),
+  write-bump _ _ _ _ _ _ _ _ (c .before .before .before .before .before .before .before .before .before .before .before .before .before .before .before .before .pre .5) _ _ (hit (c .before .before)),
 )
 
 same-length : tie.Need-same-length
@@ -82,20 +79,8 @@ same-length-3 c = search needs
 
 returns-2 : tie.Need-returns-2
 returns-2 c = (
-  write-cross _ _ _ _ _ _ _ _ (c .before .before .before .before .before .before .before .before .before .before .before .before .before .before .before .before .before .before .before .pre .5) _ _ (hit (c .before .before .before .before .before)) _ _ _ (c .before .before .before .before .before .before .before .before .before .before .visit .ensures .0) (c .before .before .before .before .before .before .before .before .before .before .visit .ensures .1) (c .before .before .before .before .if1 .taken) (c .before .mark .ensures),
-  sym (step-told (c .before .before .before .before .before .before .before .before .before .before .before .before .before .before .before .before .before .before .before .args .pace) (c .before .before .before .before .before .before .before .before .before .before .before .before .before .before .before .before .before .before .before .args .path) (c .before .before .before .before .before .before .before .before .before .before .before .before .before .before .before .before .before .before .before .args .i) _ _ _ _ (fell (c .before .before .before .before .before .before .before .before .before .before .before .before .before .before)) .is-z),
-)
-
-same-length-4 : tie.Need-same-length-4
-same-length-4 c = search needs
-
-same-length-5 : tie.Need-same-length-5
-same-length-5 c = search needs
-
-returns-3 : tie.Need-returns-3
-returns-3 c = (
-  write-plain _ _ _ _ _ _ _ _ (c .before .before .before .before .before .before .before .before .before .before .before .before .before .before .before .pre .5) _ _ (hit (c .before)) _ _ _ (c .before .before .before .before .before .before .visit .ensures .0) (c .before .before .before .before .before .before .visit .ensures .1) (c .if1 .left) refl,
-  sym (step-told (c .before .before .before .before .before .before .before .before .before .before .before .before .before .before .before .args .pace) (c .before .before .before .before .before .before .before .before .before .before .before .before .before .before .before .args .path) (c .before .before .before .before .before .before .before .before .before .before .before .before .before .before .before .args .i) _ _ _ _ (fell (c .before .before .before .before .before .before .before .before .before .before)) .is-z),
+  write-hit _ _ _ _ _ _ _ _ (c .before .before .before .before .before .before .before .before .before .before .before .before .before .before .before .before .before .before .pre .5) _ _ (hit (c .before .before .before .before)) _ _ _ (c .before .before .before .before .before .before .before .before .before .visit .ensures .0) (c .before .before .before .before .before .before .before .before .before .visit .ensures .1) (c .before .mark-if .ensures),
+  sym (step-told (c .before .before .before .before .before .before .before .before .before .before .before .before .before .before .before .before .before .before .args .pace) (c .before .before .before .before .before .before .before .before .before .before .before .before .before .before .before .before .before .before .args .path) (c .before .before .before .before .before .before .before .before .before .before .before .before .before .before .before .before .before .before .args .i) _ _ _ _ (fell (c .before .before .before .before .before .before .before .before .before .before .before .before .before)) .is-z),
 )
 
 pub write-step-spec : {M : Type 1} → statement M
@@ -108,13 +93,9 @@ write-step-spec =
     returns
     visit-requires
     crosses-requires
-    cast-mark
-    add-mark
-    mark-requires
+    cast-mark-if
+    mark-if-requires
     same-length
     same-length-2
     same-length-3
-    returns-2
-    same-length-4
-    same-length-5
-    returns-3)
+    returns-2)

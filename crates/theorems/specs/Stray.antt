@@ -1,0 +1,59 @@
+-- No stray piece: what is claimed of the writes of tiling. Definitions only.
+use mathlib.Core.Path.{_≡_}
+use mathlib.Core.Logic.{_≢_}
+use mathlib.Core.List.{List, map}
+use Prim.Native.Nat.{ℕ, _+_, _*_, _≤_, _<_}
+use lib.ListN.{length, getD}
+use lib.Ieee.{Float, nan}
+use Rattle.lists.specs.Run.{All}
+use Rattle.lists.specs.Sums.{first, from}
+use Rattle.lists.specs.Occ.{occ}
+use Rattle.lists.specs.Tally.{Distinct}
+use Rattle.panel.specs.Widths.{segmentFloats}
+use Rattle.panel.specs.Paths.{pathAt, pathCount, endOf}
+use Rattle.panel.specs.declared.kinds.Path.{Path}
+use Rattle.panel.specs.declared.kinds.Answer.the-variants.{Done, Refused}
+use Rattle.segment.specs.Clips.{InTile}
+use Rattle.path_tiling.specs.Look.{lineAt}
+use Rattle.path_tiling.specs.Tiling.{Write, Range, applied, floatsOf}
+use Rattle.theorems.specs.Refs.{refTile}
+
+-- the slots that writes go to, and the references they come from, in order
+abbrev pub writtenTo : List Write → List ℕ
+writtenTo ws = map (λ w. w .slot) ws
+
+abbrev pub writtenFrom : List Write → List ℕ
+writtenFrom ws = map (λ w. w .ref) ws
+
+-- float j of slot k
+abbrev pub slotFloat : List Float → ℕ → ℕ → Float
+slotFloat segs k j = getD segs (k * segmentFloats + j) nan
+
+-- a write is its own path's: it comes from one of the m references that counting made, of that reference's line and that line's path; the
+-- reference's tile lies in that path's range, and the slot in that tile's; both ends lie in the tile
+pub record OwnWrite (nos : List ℕ) (coords : List Float) (paths : List ℕ) (cs rs : List ℕ) (m : ℕ) (w : Write) : Type 0 where
+  pub counted : w .ref < m
+  pub line : w .line ≡ lineAt rs (w .ref)
+  pub path : w .path ≡ getD nos (w .line) 0
+  pub path-there : w .path < pathCount paths
+  pub tile-low : pathAt paths (w .path) .first ≤ refTile nos coords paths rs (w .ref)
+  pub tile-high : refTile nos coords paths rs (w .ref) < endOf (pathAt paths (w .path))
+  pub slot-low : first cs (refTile nos coords paths rs (w .ref)) ≤ w .slot
+  pub slot-high : w .slot < first cs (refTile nos coords paths rs (w .ref)) + getD cs (refTile nos coords paths rs (w .ref)) 0
+  pub from-end : InTile (w .segment .p0)
+  pub to-end : InTile (w .segment .p1)
+
+-- what the tiling of all m references came to
+pub record NoStray (nos : List ℕ) (coords : List Float) (paths : List ℕ) (cs rs : List ℕ) (m : ℕ) (segs : List Float) (r : Range) : Type 0 where
+  -- every write is its own path's
+  pub each : All (OwnWrite nos coords paths cs rs m) (r .writes)
+  -- the references are written in order and none is left out: those up to the one refused, or all
+  pub in-order : writtenFrom (r .writes) ≡ from 0 (length (r .writes))
+  pub all : r .answer ≡ Done → length (r .writes) ≡ m
+  pub before : (why item : ℕ) → r .answer ≡ Refused why item → length (r .writes) ≡ item
+  -- no slot is written twice; and where no reference was refused, each slot below their number is written once
+  pub apart : Distinct (writtenTo (r .writes))
+  pub once : r .answer ≡ Done → (k : ℕ) → k < m → occ k (writtenTo (r .writes)) ≡ 1
+  -- afterwards each slot written holds its segment, and every other slot what it held
+  pub kept : All (λ w. (j : ℕ) → j < segmentFloats → slotFloat (applied (r .writes) segs) (w .slot) j ≡ getD (floatsOf (w .segment)) j nan) (r .writes)
+  pub others : (k : ℕ) → All (λ w. k ≢ w .slot) (r .writes) → (j : ℕ) → j < segmentFloats → slotFloat (applied (r .writes) segs) k j ≡ slotFloat segs k j
