@@ -1,6 +1,6 @@
 -- Worked cases of docs/RULES.md, computed. Assumes nothing.
 use mathlib.Core.Path.{_≡_, refl}
-use mathlib.Core.List.{List, [], _∷_}
+use mathlib.Core.List.{[], _∷_}
 use lib.Ieee.{nan, inf, ofBits, ofInt, add, sub, mul, div, lt, le, round, toUnsigned}
 use mathlib.Core.Bool.{true, false}
 use Rattle.float32.specs.Meaning.{clampOf, roundOf}

@@ -2,7 +2,7 @@
 use mathlib.Core.Path.{_≡_, refl, sym, ap, subst, _∙_}
 use mathlib.Core.Bool.{Bool, true, false}
 use mathlib.Core.List.{List, []}
-use Prim.Native.Nat.{ℕ, _+_, _-_, _*_, _/_, _<_, _≤_}
+use Prim.Native.Nat.{ℕ, _+_, _-_, _/_, _<_, _≤_}
 use native.Mathlib.Omega.{arith}
 use lib.Dec.{leb}
 use lib.IntN.{ℤ}
@@ -11,14 +11,14 @@ use lib.Ieee.{Float, nan}
 use borrow.Author.Tests.{leb-true}
 use Rattle.util.specs.Constants as Number
 use Rattle.lists.specs.Grid.{mapi, tabulate}
-use Rattle.lists.specs.GridLaws.{mapi-is, mapi-mapi, getD-mapi, length-mapi}
+use Rattle.lists.specs.GridLaws.{mapi-is, getD-mapi, length-mapi}
 use Rattle.panel.specs.Refusals.{pastEnd}
 use Rattle.panel.specs.Widths.{segmentFloats}
 use Rattle.coverage.specs.Tile.{tileSize}
 use Rattle.coverage.specs.Coverage.{pixelOf, coverageOf}
 use Rattle.coverage.proofs.Laws.{mapi-over}
 use Rattle.commands.specs.Steps.{countOf, pickMove, fillMove, wholeMove, moveOf}
-use Rattle.commands.specs.Numbers.{wordsOf, fillWords}
+use Rattle.commands.specs.Numbers.{wordsOf}
 use Rattle.commands.specs.Pixel.{evenOddOf, signedOf, cover, paint, coverAll, paintAll, Within}
 use Rattle.commands.specs.declared.steps.Op.{Op}
 use Rattle.commands.specs.declared.steps.Op.the-variants as Op′

@@ -2,21 +2,19 @@
 use mathlib.Core.Path.{_≡_, refl, sym, subst}
 use mathlib.Core.Bool.{Bool, true, false}
 use mathlib.Core.List.{List}
-use Prim.Native.Nat.{ℕ, zero, suc, _+_, _/_, _<_}
+use Prim.Native.Nat.{ℕ, zero, suc, _<_}
 use lib.Dec.{T}
 use lib.IntN.{ℤ}
 use lib.ListN.{getD}
-use lib.Ieee.{Float, nan, binary32, le, fits, ne, add, ofInt, ofBits}
+use lib.Ieee.{Float, nan, binary32, le, fits, ne, ofInt, ofBits}
 use lib.Ieee.Fits.{cond-fits, add-fits, ofInt-fits}
 use lib.Ieee.Scale.{finite}
 use Rattle.float32.proofs.Laws.{cover-in}
 use Rattle.util.specs.Constants as Number
 use Rattle.lists.specs.GridLaws.{getD-tabulate}
-use Rattle.coverage.specs.Tile.{tileWidth, tileSize}
-use Rattle.coverage.specs.Segment.{segmentAt}
-use Rattle.coverage.specs.Row.{wayOf, rowOf, reachOf, addedOf, slanted, edged, stepRow, stepWay, stepSegment}
+use Rattle.coverage.specs.Tile.{tileSize}
+use Rattle.coverage.specs.Row.{slanted, edged, stepRow, stepWay, stepSegment}
 use Rattle.coverage.specs.Coverage.{areaAfter, finishOf, sumOf, pixelOf, coverageOf}
-use Rattle.coverage.specs.declared.segment.Segment.{Segment}
 use Rattle.coverage.specs.declared.row.Way.{Way}
 use Rattle.coverage.specs.declared.row.Row.{Row}
 use Rattle.coverage.proofs.Even as Even

@@ -1,14 +1,14 @@
 -- The even-odd coverage of a finite area lies in 0..1: what `round` takes away is the nearest even number, and what is left is at most 1. Assumes nothing.
 use mathlib.Core.Path.{_≡_, refl, sym, ap, subst, _∙_}
-use mathlib.Core.Bool.{Bool, true, false, not, cond, _&&_, _||_, Bool·beq, true≢false}
+use mathlib.Core.Bool.{Bool, true, false, not, cond, _&&_, _||_}
 use mathlib.Core.Logic.{_⊎_, inl, inr, ⊎-elim}
-use Prim.Native.Nat.{ℕ, zero, suc, _+_, _-_, _*_, _/_, _%_, _^_, _<_, _≤_, zero-le, compare}
-use native.Mathlib.Nat.{zero-mul, add-mul, mul-add, mul-le-mul-left, mul-le-mul, eq-of-mul-eq-mul-right, le-mul-of-pos-right, div-eq-of-lt, div-add-mod, mod-lt, div-eq-of-lt-le, lt-of-lt-of-le, lt-of-le-of-lt, mul-lt-mul-of-pos-right, mul-comm, mul-assoc, mul-right-comm, mul-left-comm, mul-one, one-mul, le-trans, le-of-eq, mul-le-mul-right, le-of-mul-le-mul-right, mul-pos}
+use Prim.Native.Nat.{ℕ, zero, suc, _+_, _-_, _*_, _%_, _^_, _<_, _≤_, zero-le}
+use native.Mathlib.Nat.{zero-mul, add-mul, eq-of-mul-eq-mul-right, le-mul-of-pos-right, div-eq-of-lt, div-add-mod, mod-lt, div-eq-of-lt-le, lt-of-lt-of-le, mul-comm, mul-assoc, mul-right-comm, mul-left-comm, mul-one, one-mul, le-trans, le-of-eq, mul-le-mul-right, le-of-mul-le-mul-right, mul-pos}
 use native.Mathlib.Omega.{arith}
 use lib.Dec.{T, leb, ltb, eqb, ltb→lt}
 use native.Mathlib.Numerals.{add-one}
 use lib.IntN.{ℤ, pos, negsuc}
-use lib.Ieee.{mul, fits, Float, nan, inf, fin, Format, binary32, prec, emax, low, round, units, odd, size, nearest, add, sub, neg, sum, le, lt, eq, up, down, ofBits}
+use lib.Ieee.{mul, fits, Float, nan, inf, fin, Format, binary32, prec, emax, low, round, units, odd, add, sub, neg, sum, le, up, down}
 use lib.Ieee.Fits.{down-pos}
 use lib.Ieee.Exact.{HasValue}
 use lib.Ieee.Order.{round-mono}
@@ -19,7 +19,7 @@ use lib.Dec.{lit<, lit≤}
 use lib.Ieee.Nearest.{div-same}
 use lib.Ieee.Scale.{finite}
 use Rattle.float32.specs.Meaning.{absOf, roundOf, near-div}
-use borrow.Author.Tests.{ltb-true, ltb-false, le-ltb, ne-eqb}
+use borrow.Author.Tests.{le-ltb, ne-eqb}
 
 le-or-lt : (a b : ℕ) → (a ≤ b) ⊎ (b < a)
 le-or-lt zero b = inl zero-le

@@ -1,17 +1,13 @@
 -- Worked cases of docs/RULES.md, computed. Assumes nothing.
-use mathlib.Core.Path.{_≡_, refl, ap, sym, _∙_}
+use mathlib.Core.Path.{_≡_, refl}
 use mathlib.Core.Bool.{true, false}
-use mathlib.Core.List.{List, []}
+use mathlib.Core.List.{[]}
 use Prim.Native.Nat.{ℕ}
-use lib.Dec.{T}
 use lib.IntN.{pos, negsuc}
-use lib.Ieee.{Float, binary32, isNan, ofBits, ofInt, add, sub, mul, neg, lt, le, round}
-use lib.Ieee.Scale.{finite}
-use Rattle.float32.specs.Meaning.{minOf, absOf, roundOf, clampOf, signumOf}
+use lib.Ieee.{Float, binary32, isNan, ofBits, ofInt, add, sub, mul, lt, round}
+use Rattle.float32.specs.Meaning.{minOf, absOf, roundOf}
 use Rattle.util.specs.Constants as Number
-use Rattle.coverage.specs.Row.{wayOf, rowOf}
 use Rattle.coverage.specs.Coverage.{areaAfter, finishOf, sumOf, pixelOf}
-use Rattle.coverage.specs.declared.segment.Segment.{Segment}
 
 -- a backdrop of 2 and no segments: even-odd 0, non-zero 1, at every pixel and wherever the tile lies
 pub two-even-odd : (k : ℕ) (xt yt : Float) → pixelOf [] 0 0 true (pos 2) xt yt k ≡ Number.zero

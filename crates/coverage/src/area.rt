@@ -17,10 +17,9 @@ use float32::round;
 ghost use mathlib.Core.Path.{_≡_};
 ghost use Prim.Native.Nat.{_+_, _*_, _≤_, _<_};
 ghost use lib.ListN.{length};
-ghost use lib.Ieee.{binary32, add};
 ghost use Rattle.lists.specs.Grid.{mapi, within};
 ghost use Rattle.panel.specs.Widths.{segmentFloats};
-ghost use Rattle.coverage.specs.Tile.{tileWidth, tileHeight, tileSize, rowStart, rowEnd};
+ghost use Rattle.coverage.specs.Tile.{tileHeight, tileSize, rowStart, rowEnd};
 ghost use Rattle.coverage.specs.Row.{slanted, edged, stepWay};
 ghost use Rattle.coverage.specs.Coverage.{areaAfter, finishOf, coverageOf};
 

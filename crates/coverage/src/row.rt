@@ -1,8 +1,6 @@
 // What a segment does to one row of pixels, and to one pixel of it: fine.rs, lines 60 to 90. The
 // divisions and signs that are the same in every row stand before the rows.
 use crate::segment::Segment;
-use crate::tile::TILE_HEIGHT;
-use crate::tile::TILE_WIDTH;
 use float32::clamp;
 use float32::max;
 use float32::min;

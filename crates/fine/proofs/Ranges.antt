@@ -1,13 +1,12 @@
 -- A range of screen tiles: none, the first and then the rest, and two one after the other. Assumes nothing.
-use mathlib.Core.Path.{_≡_, refl, sym, ap, subst, _∙_}
-use mathlib.Core.List.{List, []}
+use mathlib.Core.Path.{_≡_, sym, ap, subst, _∙_}
+use mathlib.Core.List.{List}
 use Prim.Native.Nat.{ℕ, zero, suc, _+_, _-_, _*_, _/_, _%_, _<_, _≤_}
 use native.Mathlib.Nat.{mul-comm, zero-mul, mul-le-mul-left, mod-lt, mod-le, div-le-self, div-lt-iff-lt-mul, not-suc-le-zero}
 use native.Mathlib.Numerals.{add-one}
 use native.Mathlib.Omega.{arith}
-use lib.ListN.{length}
 use lib.Ieee.{Float}
-use Rattle.lists.specs.Run.{Step, taken, halted, Ran, done, refused, andThen, onStep, run, run-append}
+use Rattle.lists.specs.Run.{done, refused, andThen, onStep, run, run-append}
 use Rattle.lists.specs.Sums as Numbers
 use Rattle.panel.specs.Limits.{mostTiles}
 use Rattle.panel.specs.declared.kinds.Verdict.{Verdict}

@@ -1,20 +1,19 @@
 -- What a call keeps: every pixel outside its tiles, and two consecutive ranges come to the same as one. Assumes nothing.
-use mathlib.Core.Path.{_≡_, refl, sym, ap, subst, _∙_}
+use mathlib.Core.Path.{_≡_, refl, sym, ap, _∙_}
 use mathlib.Core.Bool.{Bool, true, false, cond}
 use mathlib.Core.List.{List, [], _∷_}
-use Prim.Native.Nat.{ℕ, zero, suc, _+_, _-_, _*_, _/_, _%_, _<_, _≤_}
+use Prim.Native.Nat.{ℕ, _-_, _*_, _/_, _%_, _<_, _≤_}
 use native.Mathlib.Nat.{le-trans}
 use native.Mathlib.Omega.{arith}
-use lib.Dec.{leb, eqb}
 use lib.ListN.{length, getD}
 use lib.Ieee.{Float}
 use borrow.Author.Tests.{le-leb, leb-true}
-use Rattle.lists.specs.Run.{Step, taken, halted, Ran, done, refused, left, andThen, run, run-keeps}
+use Rattle.lists.specs.Run.{taken, Ran, done, refused, left, andThen, run-keeps}
 use Rattle.lists.specs.Sums as Numbers
 use Rattle.lists.specs.GridLaws.{getD-mapi, length-mapi}
 use Rattle.panel.specs.Checks.{firstNo}
 use Rattle.panel.proofs.CheckLaws.{all-ok, none-fails}
-use Rattle.panel.specs.declared.kinds.Answer.the-variants.{Done, Refused}
+use Rattle.panel.specs.declared.kinds.Answer.the-variants.{Done}
 use Rattle.panel.specs.declared.kinds.Verdict.{Verdict}
 use Rattle.panel.specs.declared.kinds.Verdict.the-variants.{Fine, Against}
 use Rattle.fine.specs.Screen.{inTile, putTile, packed, colourAt, endsAt, ifFine, tilePixels}

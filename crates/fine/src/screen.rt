@@ -15,7 +15,7 @@ ghost use lib.ListN.{length};
 ghost use Rattle.lists.specs.Grid.{mapi, within};
 ghost use Rattle.lists.specs.Sums as Numbers;
 ghost use Rattle.panel.specs.Limits.{mostTiles};
-ghost use Rattle.coverage.specs.Tile.{tileWidth, tileHeight, tileSize};
+ghost use Rattle.coverage.specs.Tile.{tileWidth, tileHeight};
 ghost use Rattle.fine.specs.Screen.{noColour, rowAt, fromList, putTile, endsAt, tilePixels};
 ghost use Rattle.fine.specs.Fine.{shown, tilesOf, shownOf};
 

@@ -1,6 +1,6 @@
 -- A batch's answer, and a call's.
 -- Assumes nothing.
-use mathlib.Core.Path.{_≡_, refl, sym, ap, _∙_}
+use mathlib.Core.Path.{_≡_, refl, sym, ap, ap₂, _∙_}
 use mathlib.Core.Bool.{true}
 use mathlib.Core.List.{List, [], _∷_}
 use Prim.Native.Nat.{ℕ, _+_, _-_, _*_, _/_, _%_, _<_, _≤_}
@@ -28,8 +28,11 @@ use Rattle.walk.specs.declared.lent.Walked.the-variants.{Refused as WalkRefused
 use Rattle.acts.specs.Acts.{St, stOf}
 use Rattle.acts.specs.Line.{Refusal, batchOf}
 use Rattle.acts.proofs.Lines.{batch-cut}
-use Rattle.path_count.specs.Count.{lineStep, lineRan, tallyRan, unwalkedOf, batch, Told, toldOf, batchTold, lentChecks, callAnswer, callTold, counted, Lent}
+use Rattle.panel.specs.Kinds.{runningOf}
+use Rattle.path_count.specs.Count.{paperOf, lineStep, lineRan, tallyRan, unwalkedOf, batch, Told, toldOf, batchTold, lentChecks, callAnswer, callTold, counted, Lent}
 use Rattle.path_count.specs.declared.kinds.Tallied.{Tallied}
+use Rattle.path_count.specs.declared.kinds.Counted.{Counted}
+use Rattle.path_count.specs.declared.kinds.Counted.the-variants.{Done, Refused}
 use Rattle.path_count.proofs.Lines.{line-walked}
 
 -- ---- a line with no walk
@@ -49,6 +52,21 @@ line-unwalked nos coords paths room l k bs cs rs made Skipped t h e u f =
 line-unwalked nos coords paths room l k bs cs rs made (Line w b) t h e u f = absurd u
 
 -- ---- a batch
+
+-- the paper has one answer only
+pub paper-once : (a b : Counted) → paperOf a ≡ paperOf b → a ≡ b
+paper-once (Done r) (Done s) e =
+    let p : r .lines ≡ s .lines = cc in
+    let q : r .refs ≡ s .refs = cc in
+    ap₂ (λ (l n : ℕ). Done (runningOf l n)) p q
+paper-once (Done r) (Refused n i s) e = let z : _≡_ {A = ℕ} 0 1 = cc in absurd (omega arith)
+paper-once (Refused m h r) (Done s) e = let z : _≡_ {A = ℕ} 0 1 = cc in absurd (omega arith)
+paper-once (Refused m h r) (Refused n i s) e =
+    let k : m ≡ n = cc in
+    let j : h ≡ i = cc in
+    let p : r .lines ≡ s .lines = cc in
+    let q : r .refs ≡ s .refs = cc in
+    rw (k, j) (ap₂ (λ (l x : ℕ). Refused n i (runningOf l x)) p q)
 
 pub batch-refused : (b a m n : ℕ) (s u : St) (all : Ran St Refusal) → m ≡ n → u ≡ s → refused s (record { no = n; line = a }) ≡ all
     → toldOf (m ∷ a ∷ a ∷ s .made ∷ []) u ≡ batchTold b all

@@ -136,9 +136,6 @@ module _ (room l : ℕ) (w : Walk) (b : Path) (c : Clip) (e : c ≡ clippedOf w 
 
     module _ (k : (ltb room (s .made + (c .imax - c .imin)) || ltb mostSlots (s .made + (c .imax - c .imin))) ≡ false) where
       module _ (backs counts : ℕ) (o : OnTiles b backs counts) (g : Walkable w b) (v : Verdict) (q : v ≡ checkNo (deltaOf (not (w .e .«is_down»))) (planActs (planBy (not (w .e .«is_down»)) (w .pace) b c)) (s .backs) (s .counts)) where
-        plan : Plan
-        plan = planBy (not (w .e .«is_down»)) (w .pace) b c
-
         pub walk-refused : (m : ℕ) → v ≡ Against m → refused s m ≡ lineRan (planStep room l (planOf w b) s) s
         walk-refused m r =
             by-clip (halted m)

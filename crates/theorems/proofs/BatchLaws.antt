@@ -51,7 +51,7 @@ pub record SameLengths (s u : St) : Type 0 where
   pub counts : length (u .counts) ≡ length (s .counts)
   pub refs : length (u .refs) ≡ length (s .refs)
 
-same-lengths : (nos : List ℕ) (coords : List Float) (paths : List ℕ) (n : ℕ) → pathsAnswer paths n ≡ Answer.Done → (room a b : ℕ) (s u : St)
+pub same-lengths : (nos : List ℕ) (coords : List Float) (paths : List ℕ) (n : ℕ) → pathsAnswer paths n ≡ Answer.Done → (room a b : ℕ) (s u : St)
     → batch nos coords paths room a b s ≡ done u → SameLengths s u
 same-lengths nos coords paths n p room a b s u e =
     let c = batch-counted nos coords paths n p room a b s u e in
@@ -120,7 +120,7 @@ told-done a b made nos coords paths bs cs rs k f e =
     go Answer.Done (done t) = e (t .made) (t .backs) (t .counts) (t .refs)
     go Answer.Done (refused t why) = refl
 
-rising-last : (a : ℕ) (es : List ℕ) → Rising a es → a ≤ lastOf a es
+pub rising-last : (a : ℕ) (es : List ℕ) → Rising a es → a ≤ lastOf a es
 rising-last a [] h = omega arith
 rising-last a (e ∷ es) h = omega (arith, rising-last e es (h .1), h .0)
 

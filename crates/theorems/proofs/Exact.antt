@@ -1,6 +1,6 @@
 -- Refusals are exact: each number is given where its ground holds, and nowhere else. Assumes nothing.
 use mathlib.Core.Path.{_≡_, refl, sym, ap, _∙_, subst}
-use mathlib.Core.Logic.{_≢_, _↔_}
+use mathlib.Core.Logic.{_≢_, _↔_, _⊎_, inl, inr}
 use mathlib.Core.Bool.{Bool, true, false, cond, _&&_, false≢true}
 use mathlib.Core.List.{List, [], _∷_, _++_}
 use Prim.Native.Nat.{ℕ, zero, suc, _+_, _-_, _≤_, _<_, min}
@@ -17,6 +17,8 @@ use Rattle.panel.specs.Limits.{mostTiles, mostLines, mostSteps, mostCount, most
 use Rattle.panel.specs.Refusals.{doneNo, notWhole, tooMany, noRoom, lineNumber, coordinate, noSuch, countOver, sumOver}
 use Rattle.panel.specs.Paths.{pathAt, pathCount}
 use Rattle.panel.specs.declared.kinds.Path.{Path}
+use Rattle.panel.specs.Checks.{Check, firstNo}
+use Rattle.panel.specs.declared.kinds.Verdict.the-variants.{Against}
 use Rattle.panel.specs.declared.kinds.Answer.the-variants.{Done, Refused}
 use Rattle.hand_out.specs.HandOut.{Out, outOf, handChecks, onFine, handOutOf, hand}
 use Rattle.util.specs.declared.Vec2.{Vec2}
@@ -32,10 +34,28 @@ use Rattle.acts.specs.Acts.{St, Act, mark, visit, stop, inI32, marked, visited,
 use Rattle.acts.specs.Line.{Plan, planActs, haltIf, tooFar, planStep}
 use Rattle.acts.proofs.Lines.{plan-far, plan-full, plan-runs}
 use Rattle.path_count.specs.Count.{planOf, walkedStep, lineStep}
-use Rattle.theorems.specs.Refusing.{HandExact, Walks, StopsAt, ActWhy, LineWhy, five, six, seven, eight, nine, stops}
+use Rattle.theorems.specs.Refusing.{RowWhy, HandExact, Walks, StopsAt, ActWhy, LineWhy, five, six, seven, eight, nine, stops}
 
 pub no-clash : {A : Type 0} → _≡_ {A = ℕ} 0 1 → A
 no-clash z = absurd (omega arith)
+
+-- ---- a row of checks
+
+pub row-exact : (n : ℕ) (cs : List Check) → (firstNo cs ≡ Against n) ↔ RowWhy n cs
+row-exact n cs = (why cs, halts cs)
+  where
+    why : (cs : List Check) → firstNo cs ≡ Against n → RowWhy n cs
+    why [] e = no-clash cc
+    why (c ∷ more) e = go (c .ok) refl e (why more)
+      where
+        go : (b : Bool) → c .ok ≡ b → cond b (firstNo more) (Against (c .no)) ≡ Against n → (firstNo more ≡ Against n → RowWhy n more) → RowWhy n (c ∷ more)
+        go true q d ih = inr (q, ih d)
+        go false q d ih = inl (q, cc)
+
+    halts : (cs : List Check) → RowWhy n cs → firstNo cs ≡ Against n
+    halts [] h = absurd h
+    halts (c ∷ more) (inl h) = rw (h .0, h .1)
+    halts (c ∷ more) (inr h) = rw (h .0) (halts more (h .1))
 
 -- ---- hand-out
 

@@ -9,11 +9,12 @@ use native.Mathlib.Numerals.{add-one}
 use native.Mathlib.Omega.{arith}
 use lib.Dec.{leb, eqb}
 use lib.ListN.{length}
+use lib.Ieee.{Float}
 use borrow.Author.Tests.{le-leb, lt-leb, leb-true, leb-false, eq-eqb, ne-eqb, eqb-true, eqb-false}
 use Rattle.panel.specs.Limits.{mostPaths, mostTiles, edgeMost}
 use Rattle.panel.specs.Refusals.{notWhole, tooMany, badBox, badRange}
 use Rattle.panel.specs.Widths.{pathWords}
-use Rattle.panel.specs.Checks.{firstNo, unless}
+use Rattle.panel.specs.Checks.{Check, firstNo, unless}
 use Rattle.panel.specs.Paths.{pathAt, pathCount, endOf, boxFits, pathChecks, pathsFrom, lentChecks, pathsAnswer}
 use Rattle.panel.specs.declared.kinds.Path.{Path}
 use Rattle.panel.specs.declared.kinds.Verdict.{Verdict}
@@ -22,22 +23,25 @@ use Rattle.panel.specs.declared.kinds.Answer.{Answer}
 use Rattle.panel.specs.declared.kinds.Answer.the-variants.{Done, Refused}
 use Rattle.panel.proofs.CheckLaws.{unless-no, unless-fine}
 use Rattle.panel.proofs.PathLaws.{box-fits, from-turn, from-no}
-use Rattle.theorems.specs.Refusing.{GoodBox, endBefore, PathGood, PathsWhole, PathsWhy, one, two, three, four}
-use Rattle.theorems.proofs.Exact.{no-clash}
+use Rattle.acts.specs.Acts.{St}
+use Rattle.path_count.specs.Count as Count
+use Rattle.path_count.specs.Count.{callAnswer}
+use Rattle.theorems.specs.Refusing.{RowWhy, GoodBox, endBefore, PathGood, PathsWhole, PathsWhy, one, two, three, four}
+use Rattle.theorems.proofs.Exact.{no-clash, row-exact}
 
 -- the panel's test of a box
 pub box-exact : (p : Path) → (boxFits p ≡ true) ↔ GoodBox p
 box-exact p = (
-    (λ e. let b = box-fits p e in record { across = b .0; right = b .1; down = b .2; bottom = b .3 }),
-    (λ g. rw (
-        le-leb (p .x0) edgeMost (omega (arith, g .across, g .right)),
-        le-leb (p .y0) edgeMost (omega (arith, g .down, g .bottom)),
-        le-leb (p .x1) edgeMost (g .right),
-        le-leb (p .y1) edgeMost (g .bottom),
-        le-leb (p .x0) (p .x1) (g .across),
-        le-leb (p .y0) (p .y1) (g .down),
-      )),
-  )
+  (λ e. let b = box-fits p e in record { across = b .0; right = b .1; down = b .2; bottom = b .3 }),
+  (λ g. rw (
+    le-leb (p .x0) edgeMost (omega (arith, g .across, g .right)),
+    le-leb (p .y0) edgeMost (omega (arith, g .down, g .bottom)),
+    le-leb (p .x1) edgeMost (g .right),
+    le-leb (p .y1) edgeMost (g .bottom),
+    le-leb (p .x0) (p .x1) (g .across),
+    le-leb (p .y0) (p .y1) (g .down),
+  )),
+)
 
 -- one path: its three checks
 path-good : (p : Path) (end tiles : ℕ) → GoodBox p → end ≤ p .first → endOf p ≤ tiles → firstNo (pathChecks p end tiles) ≡ Fine
@@ -175,3 +179,29 @@ module _ (ws : List ℕ) (tiles : ℕ) where
       halts (two p q h d) = lent-two h d ∙ rw (p, q)
       halts (three p w h g x) = at-k badBox w h g (path-three (pathAt ws k) (endBefore ws k) tiles x) ∙ rw p
       halts (four p w h g x y) = at-k badRange w h g (path-four (pathAt ws k) (endBefore ws k) tiles x y) ∙ rw p
+
+-- ---- what counting checks before its first line: 1 of the lengths lent and of the range, then the paths
+
+pub call-exact : (nos : List ℕ) (coords : List Float) (paths : List ℕ) (a b : ℕ) (s : St) (n item : ℕ)
+    → (callAnswer nos coords paths a b s ≡ Refused n item)
+    ↔ ((RowWhy n (Count.lentChecks (length nos) (length coords) (length (s .backs)) (length (s .counts)) (length (s .refs)) a b) × (item ≡ 0))
+    ⊎ ((firstNo (Count.lentChecks (length nos) (length coords) (length (s .backs)) (length (s .counts)) (length (s .refs)) a b) ≡ Fine)
+    × PathsWhy paths (length (s .counts)) n item))
+unfolding callAnswer
+call-exact nos coords paths a b s n item = (why (firstNo row) refl, halts)
+  where
+    row : List Check
+    row = Count.lentChecks (length nos) (length coords) (length (s .backs)) (length (s .counts)) (length (s .refs)) a b
+
+    why : (v : Verdict) → firstNo row ≡ v → unless v 0 (pathsAnswer paths (length (s .counts))) ≡ Refused n item
+        → (RowWhy n row × (item ≡ 0)) ⊎ ((firstNo row ≡ Fine) × PathsWhy paths (length (s .counts)) n item)
+    why Fine q e = inr (q, paths-exact paths (length (s .counts)) n item .0 e)
+    why (Against m) q e =
+        let w : m ≡ n = cc in
+        let z : 0 ≡ item = cc in
+        inl (row-exact n row .0 (q ∙ ap Against w), sym z)
+
+    halts : (RowWhy n row × (item ≡ 0)) ⊎ ((firstNo row ≡ Fine) × PathsWhy paths (length (s .counts)) n item)
+        → unless (firstNo row) 0 (pathsAnswer paths (length (s .counts))) ≡ Refused n item
+    halts (inl h) = rw (row-exact n row .1 (h .0), h .1)
+    halts (inr h) = rw (h .0) (paths-exact paths (length (s .counts)) n item .1 (h .1))

@@ -36,11 +36,11 @@ use Rattle.theorems.proofs.SumLaws.{passed, counted-all, startOf}
 -- ---- one tile seen
 
 -- what marks add at tile t
-abbrev addIf : ℕ → ℤ → ℤ → ℤ
+abbrev pub addIf : ℕ → ℤ → ℤ → ℤ
 addIf zero v w = w
 addIf (suc k) v w = w +ℤ v
 
-abbrev marksAt : ℕ → List (ℕ × ℤ) → ℤ → ℤ
+abbrev pub marksAt : ℕ → List (ℕ × ℤ) → ℤ → ℤ
 marksAt t [] w = w
 marksAt t (m ∷ ms) w = marksAt t ms (addIf (is (m .0) t) (m .1) w)
 
@@ -72,7 +72,7 @@ module _ (paths : List ℕ) (t : ℕ) where
       count-seen ds (tally c (tilesOf paths d)) (omega (arith, length-tally c (tilesOf paths d)))
       ∙ ap (actAll (λ d w. w + occ t (tilesOf paths d)) ds) (tally-at c (tilesOf paths d) t h)
 
-  back-seen : (ds : List Drawn) (b : List ℤ) → t < length b
+  pub back-seen : (ds : List Drawn) (b : List ℤ) → t < length b
       → getD (actAll (λ d. Order.mark (marksOf paths d)) ds b) t (pos 0) ≡ actAll (λ d. marksAt t (marksOf paths d)) ds (getD b t (pos 0))
   back-seen [] b h = refl
   back-seen (d ∷ ds) b h =
@@ -107,16 +107,16 @@ module _ (paths : List ℕ) (n : ℕ) (c : Checked paths n) (p t : ℕ) (tin : I
   no-visits : (ds : List Drawn) → All (OwnLine paths) ds → All (λ d. isOf p d ≡ false → (w : ℕ) → w + occ t (tilesOf paths d) ≡ w) ds
   no-visits [] o = tt
   no-visits (d ∷ ds) o = (
-      (λ e w. omega (arith, occ-none t (tilesOf paths d) (visits-apart (d .path) (eqb-false (d .path) p e) (tilesOf paths d) (o .0 .visits)))),
-      no-visits ds (o .1),
-    )
+    (λ e w. omega (arith, occ-none t (tilesOf paths d) (visits-apart (d .path) (eqb-false (d .path) p e) (tilesOf paths d) (o .0 .visits)))),
+    no-visits ds (o .1),
+  )
 
   no-marks : (ds : List Drawn) → All (OwnLine paths) ds → All (λ d. isOf p d ≡ false → (w : ℤ) → marksAt t (marksOf paths d) w ≡ w) ds
   no-marks [] o = tt
   no-marks (d ∷ ds) o = (
-      (λ e w. marks-none t (marksOf paths d) (marks-apart (d .path) (eqb-false (d .path) p e) (marksOf paths d) (o .0 .marks)) w),
-      no-marks ds (o .1),
-    )
+    (λ e w. marks-none t (marksOf paths d) (marks-apart (d .path) (eqb-false (d .path) p e) (marksOf paths d) (o .0 .marks)) w),
+    no-marks ds (o .1),
+  )
 
 -- ---- a line leaves what is not its path's alone
 
@@ -130,12 +130,11 @@ module _ (nos : List ℕ) (coords : List Float) (paths : List ℕ) (n : ℕ) (pa
       → (getD (u .counts) t 0 ≡ getD (s .counts) t 0) × (getD (u .backs) t (pos 0) ≡ getD (s .backs) t (pos 0))
   line-elsewhere t h k j =
       let r = lined nos coords paths n passed room l s u e in
-      let d = drawnAt nos coords l in
-      (
+      let d = drawnAt nos coords l in (
         ap (λ (c : List ℕ). getD c t 0) (r .counts) ∙ tally-at (s .counts) (tilesOf paths d) t k
-        ∙ omega (arith, occ-none t (tilesOf paths d) (all-not (tilesOf paths d) (r .line .visits))),
+            ∙ omega (arith, occ-none t (tilesOf paths d) (all-not (tilesOf paths d) (r .line .visits))),
         ap (λ (c : List ℤ). getD c t (pos 0)) (r .backs) ∙ marks-at t (marksOf paths d) (s .backs) j .0
-        ∙ marks-none t (marksOf paths d) (marks-not (marksOf paths d) (r .line .marks)) (getD (s .backs) t (pos 0)),
+            ∙ marks-none t (marksOf paths d) (marks-not (marksOf paths d) (r .line .marks)) (getD (s .backs) t (pos 0)),
       )
     where
       all-not : (ts : List ℕ) → All (InPath paths (getD nos l 0)) ts → All (λ v. v ≢ t) ts
@@ -148,6 +147,11 @@ module _ (nos : List ℕ) (coords : List Float) (paths : List ℕ) (n : ℕ) (pa
 
 -- ---- two runs
 
+pub zero-at : (k t : ℕ) → getD (replicate k (pos 0)) t (pos 0) ≡ pos 0
+zero-at zero t = refl
+zero-at (suc k) zero = refl
+zero-at (suc k) (suc t) = zero-at k t
+
 module _ (b : ℕ) (nos : List ℕ) (coords : List Float) (paths : List ℕ) (n : ℕ) (refs : List ℕ) (bs : List ℤ) (cs rs : List ℕ) (m : ℕ)
     (all : AllCounted b nos coords paths n refs bs cs rs m) where
   seen-count : (p t : ℕ) → InPath paths p t → t < n → getD cs t 0 ≡ actAll (λ d w. w + occ t (tilesOf paths d)) (ofPath p (drawn nos coords b)) 0
@@ -159,11 +163,6 @@ module _ (b : ℕ) (nos : List ℕ) (coords : List Float) (paths : List ℕ) (n 
       ap (λ (l : List ℕ). getD l t 0) (r .counts) ∙ count-seen paths t (drawn nos coords b) (zeros n) (omega arith)
       ∙ ap (actAll (λ d w. w + occ t (tilesOf paths d)) (drawn nos coords b)) z
       ∙ only (λ d w. w + occ t (tilesOf paths d)) (isOf p) (drawn nos coords b) (no-visits paths n c p t i (drawn nos coords b) (r .lines)) 0
-
-  zero-at : (k t : ℕ) → getD (replicate k (pos 0)) t (pos 0) ≡ pos 0
-  zero-at zero t = refl
-  zero-at (suc k) zero = refl
-  zero-at (suc k) (suc t) = zero-at k t
 
   seen-back : (p t : ℕ) → InPath paths p t → t < n → getD bs t (pos 0) ≡ actAll (λ d. marksAt t (marksOf paths d)) (ofPath p (drawn nos coords b)) (pos 0)
   seen-back p t i h =
@@ -193,11 +192,11 @@ module _
     isolated p e t i =
         let h = in-tiles b nos coords paths n refs bs cs rs m all p t i in (
           seen-count b nos coords paths n refs bs cs rs m all p t i h
-          ∙ ap (λ (ds : List Drawn). actAll (λ d w. w + occ t (tilesOf paths d)) ds 0) e
-          ∙ sym (seen-count b′ nos′ coords′ paths n refs′ bs′ cs′ rs′ m′ all′ p t i h),
+              ∙ ap (λ (ds : List Drawn). actAll (λ d w. w + occ t (tilesOf paths d)) ds 0) e
+              ∙ sym (seen-count b′ nos′ coords′ paths n refs′ bs′ cs′ rs′ m′ all′ p t i h),
           seen-back b nos coords paths n refs bs cs rs m all p t i h
-          ∙ ap (λ (ds : List Drawn). actAll (λ d. marksAt t (marksOf paths d)) ds (pos 0)) e
-          ∙ sym (seen-back b′ nos′ coords′ paths n refs′ bs′ cs′ rs′ m′ all′ p t i h),
+              ∙ ap (λ (ds : List Drawn). actAll (λ d. marksAt t (marksOf paths d)) ds (pos 0)) e
+              ∙ sym (seen-back b′ nos′ coords′ paths n refs′ bs′ cs′ rs′ m′ all′ p t i h),
         )
 
     -- and so are its backdrops after the sums, where those are done

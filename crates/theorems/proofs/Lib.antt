@@ -1,7 +1,16 @@
--- Proofs of the theorems: docs/THEOREMS.md.
---     Acts       a run of acts that goes through
---     Own        all acts of a line are on its own path's tiles; a line that is taken
---     Counting   what counting lines leaves, where none is refused
+-- Proofs of the theorems; docs/THEOREMS.md says which is which.
+--     Acts, Own, Counting   what a line and a batch that go through did, all of it on their own path's tiles
+--     Slots                 the slot of each reference: one to each, and every slot below their number is one's
+--     SumLaws               sums
+--     StrayLaws             no stray piece
+--     Isolation             beam isolation; the order of lines
+--     BatchLaws             lines and references cut into batches anywhere
+--     FineBatches           screen tiles cut into batches anywhere
+--     Calm                  the sums after a count from zeroed tiles are never refused
+--     StarredTable          the starred cases, computed
+--     OneAnswer             one answer only; the cheats
+--     Exact, ExactRuns, ExactLooks, ExactPaths, ExactStops   refusals are exact
+--     Frame                 these put together
 pub mod Acts
 pub mod Own
 pub mod Counting
@@ -10,6 +19,8 @@ pub mod SumLaws
 pub mod StrayLaws
 pub mod Isolation
 pub mod BatchLaws
+pub mod FineBatches
+pub mod Calm
 pub mod StarredTable
 pub mod OneAnswer
 pub mod Exact
@@ -17,3 +28,4 @@ pub mod ExactRuns
 pub mod ExactLooks
 pub mod ExactPaths
 pub mod ExactStops
+pub mod Frame

@@ -119,10 +119,17 @@ WalkOwn (Refused n) = Unit {0}
 WalkOwn Skipped = Unit {0}
 WalkOwn (Line w b) = All (ActOwn w b) (planActs (planOf w b))
 
+-- its largest step number is within the limit
+abbrev pub NearWalk : Walked → Type 0
+NearWalk (Refused n) = Unit {0}
+NearWalk Skipped = Unit {0}
+NearWalk (Line w b) = tooFar (planOf w b) ≡ false
+
 pub record Took (nos : List ℕ) (coords : List Float) (paths : List ℕ) (room l : ℕ) (s u : St) : Type 0 where
   pub below : l < mostLines
   pub ran : runActs (deltaBy (walkAt nos coords paths l)) l (actsBy (walkAt nos coords paths l)) s ≡ done u
   pub own : WalkOwn (walkAt nos coords paths l)
+  pub near : NearWalk (walkAt nos coords paths l)
   pub fits : s .made ≤ min room mostSlots → u .made ≤ min room mostSlots
 
 go-on : (b : Bool) (n : ℕ) (o : Step St ℕ) (u : St) → haltIf b n o ≡ taken u → (b ≡ false) × (o ≡ taken u)
@@ -153,13 +160,14 @@ module _ (nos : List ℕ) (coords : List Float) (paths : List ℕ) (tiles : ℕ)
       go h (Refused n) q f = let z : _≡_ {A = ℕ} 0 1 = cc in absurd (omega arith)
       go h Skipped q f =
           let g : s ≡ u = cc in
-          record { below = h; ran = rw q (ap done g); own = rw q tt; fits = λ p. omega (arith, ap (λ (v : St). v .made) g) }
+          record { below = h; ran = rw q (ap done g); own = rw q tt; near = rw q tt; fits = λ p. omega (arith, ap (λ (v : St). v .made) g) }
       go h (Line w b) q f =
           let r = plan-taken room l (planOf w b) s u f in
           let x = line-box l w b q in
           record {
             below = h;
             ran = rw q (r .0);
+            near = rw q (not-far room l (planOf w b) s u f);
             own = rw q (plan-own w b (x .0) (x .1) (not-far room l (planOf w b) s u f));
             fits = λ p. omega (arith, r .1, plan-refs (planOf w b), Rattle.acts.proofs.Whole.run-made (deltaOf (planOf w b .up)) l (planActs (planOf w b)) s u (r .0));
           }

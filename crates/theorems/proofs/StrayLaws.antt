@@ -142,9 +142,9 @@ applied-kept : (ws : List Write) (segs : List Float) → Distinct (writtenTo ws)
     → All (λ w. (j : ℕ) → j < segmentFloats → slotFloat (applied ws segs) (w .slot) j ≡ getD (floatsOf (w .segment)) j nan) ws
 applied-kept [] segs d h = tt
 applied-kept (w ∷ ws) segs d h = (
-    (λ j q. applied-other ws segs′ (w .slot) (none-later ws (w .slot) (d .0)) j q ∙ put-same (w .slot) (w .segment) segs (h .0) j q),
-    applied-kept ws segs′ (d .1) (grown ws (h .1)),
-  )
+  (λ j q. applied-other ws segs′ (w .slot) (none-later ws (w .slot) (d .0)) j q ∙ put-same (w .slot) (w .segment) segs (h .0) j q),
+  applied-kept ws segs′ (d .1) (grown ws (h .1)),
+)
   where
     segs′ : List Float
     segs′ = putOf (w .slot) (w .segment) segs

@@ -133,7 +133,7 @@ zeros-length n = length-replicate n 0
 
 module _ (b : ℕ) (nos : List ℕ) (coords : List Float) (paths : List ℕ) (n : ℕ) (refs : List ℕ) (bs : List ℤ) (cs rs : List ℕ) (m : ℕ)
     (all : AllCounted b nos coords paths n refs bs cs rs m) where
-  went : Through 0 b nos coords paths (startOf n refs) (stOf bs cs rs m)
+  pub went : Through 0 b nos coords paths (startOf n refs) (stOf bs cs rs m)
   went = through 0 b b nos coords paths (startOf n refs) (stOf bs cs rs m) all .0
 
   pub passed : pathsAnswer paths n ≡ Answer.Done

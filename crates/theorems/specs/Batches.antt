@@ -11,7 +11,7 @@ use Rattle.path_count.specs.Count.{Told, toldOf, paperOf, counted}
 use Rattle.path_count.specs.declared.kinds.Counted.the-variants.{Done}
 use Rattle.path_tiling.specs.Look.{Lent}
 use Rattle.path_tiling.specs.Tiling.{Tiled, tiledOf}
-use Rattle.panel.specs.Kinds as Kinds
+use Rattle.fine.specs.Fine.{Shown, shown, fineOf}
 use Rattle.panel.specs.declared.kinds.Answer.the-variants as Answer
 
 -- the ends of batches, from a on: none lies before the one before it; a batch may be empty
@@ -53,3 +53,16 @@ onTiled (n ∷ item ∷ more) t k = t
 abbrev pub inRanges : ℕ → List ℕ → Lent → List Float → Tiled
 inRanges from [] L segs = Rattle.path_tiling.specs.Tiling.tiled Answer.Done segs
 inRanges from (e ∷ es) L segs = onTiled (tiledOf from e L segs .paper) (tiledOf from e L segs) (λ segs′. inRanges e es L segs′)
+
+-- ---- fine: the screen tiles up to each end, over the pixels that the call before left
+
+abbrev pub onShown : List ℕ → Shown → (List ℕ → Shown) → Shown
+onShown [] t k = t
+onShown (n ∷ []) t k = k (t .pixels)
+onShown (n ∷ item ∷ more) t k = t
+
+abbrev pub inTiles : (words : List ℕ) (segs : List Float) (width cols rows : ℕ) → ℕ → List ℕ → List ℕ → Shown
+inTiles words segs width cols rows a [] pixels = shown Answer.Done pixels
+inTiles words segs width cols rows a (e ∷ es) pixels =
+    onShown (fineOf words segs width cols rows a e pixels .answer) (fineOf words segs width cols rows a e pixels)
+    (λ pixels′. inTiles words segs width cols rows e es pixels′)

@@ -1,6 +1,12 @@
 -- The words of the theorems. Definitions only.
---     Drawn     a line apart from its place in the list, and what it does
---     Events    the references of lines, in order
+--     Drawn      a line apart from its place in the list, and what it does
+--     Events     the references of lines, in order, apart from memory
+--     Refs       references as they stand in memory; what counting all lines leaves; the sums
+--     Stray      no stray piece
+--     Batches    lines, references and screen tiles cut into batches
+--     Starred    the table of starred cases
+--     Promises   the promises of the public calls, named
+--     Refusing   the ground of each refusal
 pub mod Drawn
 pub mod Events
 pub mod Refs

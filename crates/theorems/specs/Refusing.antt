@@ -12,6 +12,7 @@ use Rattle.lists.specs.Sums.{sum}
 use Rattle.panel.specs.Limits.{mostPaths, mostTiles, mostLines, mostSteps, mostCount, mostSlots, edgeMost}
 use Rattle.panel.specs.Refusals.{doneNo, notWhole, tooMany, badBox, badRange, lineNumber, coordinate, noSuch, countOver, noRoom, outside, sumOver, crooked}
 use Rattle.panel.specs.Widths.{pathWords}
+use Rattle.panel.specs.Checks.{Check}
 use Rattle.panel.specs.Paths.{pathAt, pathCount, endOf, boxFits}
 use Rattle.panel.specs.declared.kinds.Path.{Path}
 use Rattle.panel.specs.declared.kinds.Answer.the-variants.{Done}
@@ -36,6 +37,12 @@ use Rattle.path_tiling.specs.Look.{Lent, packedAt, stepNo, sliceNo, handedFrom,
 use Rattle.acts.specs.Acts.{St, Act, mark, visit, stop, inI32, runActs, deltaOf}
 use Rattle.acts.specs.Line.{Plan, planActs, Refusal}
 use Rattle.path_count.specs.Count.{planOf, lineStep, batch}
+
+-- ---- a row of checks, as each call makes it first (refusals 1, 2, 13 and 16): the ground of refusal n is the first check that fails
+
+abbrev pub RowWhy : ℕ → List Check → Type 0
+RowWhy n [] = ⊥
+RowWhy n (c ∷ more) = ((c .ok ≡ false) × (c .no ≡ n)) ⊎ ((c .ok ≡ true) × RowWhy n more)
 
 -- ---- hand-out
 

@@ -1,8 +1,7 @@
 -- `colours::composite` meets its contract. The invariant: the pixels below i are done. Assumes nothing.
-use mathlib.Core.Path.{_≡_, refl, ap, sym, _∙_}
 use mathlib.Core.List.{List, []}
-use Prim.Native.Nat.{ℕ, _+_, _-_, _≤_}
-use lib.ListN.{length, getD}
+use Prim.Native.Nat.{ℕ, _-_, _≤_}
+use lib.ListN.{getD}
 use denote.Ref.{now}
 use lib.Ieee.{Float, nan}
 use Rattle.coverage.specs.Tile.{tileSize}

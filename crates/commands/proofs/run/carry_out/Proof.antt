@@ -1,16 +1,15 @@
 -- `commands::run::carry_out` meets its contract: an arm for each command. Assumes nothing.
-use mathlib.Core.Path.{_≡_, refl, sym, ap, subst, _∙_}
+use mathlib.Core.Path.{_≡_, sym, ap, subst, _∙_}
 use mathlib.Core.List.{List}
-use Prim.Native.Nat.{ℕ}
 use lib.ListN.{length}
 use denote.Ref.{now}
 use lib.Ieee.{Float}
 use mir.Syntax.{w32}
 use mir.ValLaws.{toZ-ofZ}
-use Rattle.colours.specs.Colour.{compositeOf, colourOf}
-use Rattle.commands.specs.Pixel.{signedOf, cover, paint, coverAll, paintAll, Within}
+use Rattle.colours.specs.Colour.{compositeOf}
+use Rattle.commands.specs.Pixel.{cover, paint, coverAll, paintAll, Within}
 use Rattle.commands.specs.declared.steps.Act.{Act}
-use Rattle.commands.specs.declared.steps.Act.the-variants.{Fill, Solid, Color, Jump}
+use Rattle.commands.specs.declared.steps.Act.the-variants.{Solid, Jump}
 use Rattle.commands.proofs.Acts.{by-fill, fill-paints, solid-paints, color-covers, jump-covers, jump-paints}
 use borrow.Author.Needs.{needs}
 use Rattle.commands.proofs.run.carry_out.Statement.{statement}

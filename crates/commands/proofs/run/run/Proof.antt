@@ -14,7 +14,6 @@ use Rattle.panel.specs.Widths.{segmentFloats}
 use Rattle.panel.specs.declared.kinds.Verdict.{Verdict}
 use Rattle.coverage.specs.Tile.{tileSize}
 use Rattle.reader.specs.Look.{lookAt, pick}
-use Rattle.reader.specs.declared.Look.{Look}
 use Rattle.reader.specs.declared.Look.the-variants.{Word, Past}
 use Rattle.commands.specs.Steps.{Trace, ends, does, traceOf}
 use Rattle.commands.specs.Pixel.{coverAll, paintAll, noArea, ran, runOf}

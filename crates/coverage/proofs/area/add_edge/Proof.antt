@@ -1,11 +1,8 @@
 -- `coverage::area::add_edge` meets its contract. The invariant: the row's pixels left of i are done. Assumes nothing.
-use mathlib.Core.Path.{_≡_, refl, ap, sym, _∙_}
-use mathlib.Core.List.{List}
-use Prim.Native.Nat.{ℕ, _+_, _-_, _*_, _%_, _≤_, _<_}
-use lib.ListN.{length, getD, set}
-use denote.Ref.{now}
-use lib.Ieee.{Float, nan, binary32, add}
-use Rattle.coverage.specs.Tile.{tileWidth, tileHeight, tileSize, rowStart}
+use mathlib.Core.Path.{refl}
+use Prim.Native.Nat.{_+_, _-_, _≤_}
+use lib.Ieee.{nan}
+use Rattle.coverage.specs.Tile.{tileWidth, rowStart}
 use Rattle.coverage.proofs.Turn.{Done, begun-at, turned-at, ended-at}
 use Rattle.coverage.specs.Row.{edged}
 use native.Mathlib.Omega.{arith}

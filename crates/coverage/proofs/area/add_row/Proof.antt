@@ -1,9 +1,8 @@
 -- `coverage::area::add_row` meets its contract: its three arms are those of `stepRow`. Assumes nothing.
-use mathlib.Core.Path.{_≡_, refl, ap, sym, _∙_}
+use mathlib.Core.Path.{_≡_, ap, _∙_}
 use mathlib.Core.Bool.{true, false}
 use mathlib.Core.List.{List}
-use Prim.Native.Nat.{ℕ, _+_, _*_, _/_, _≤_, _<_}
-use denote.Ref.{now}
+use Prim.Native.Nat.{ℕ, _/_, _≤_, _<_}
 use lib.Ieee.{Float, nan, ne}
 use Rattle.util.specs.Constants.{zero}
 use Rattle.lists.specs.Grid.{mapi, within}

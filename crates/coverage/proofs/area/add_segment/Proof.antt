@@ -1,9 +1,7 @@
 -- `coverage::area::add_segment` meets its contract. The invariant: the rows above yi are done. Assumes nothing.
-use mathlib.Core.Path.{_≡_, sym, ap, subst, _∙_}
+use mathlib.Core.Path.{_≡_, subst}
 use mathlib.Core.List.{List}
-use Prim.Native.Nat.{ℕ, _+_, _-_, _*_, _≤_}
-use lib.ListN.{length}
-use denote.Ref.{now}
+use Prim.Native.Nat.{ℕ, _+_, _-_, _≤_}
 use lib.Ieee.{Float, nan}
 use Rattle.lists.specs.Grid.{mapi, within}
 use Rattle.coverage.specs.Tile.{tileHeight, tileSize, rowStart, rowEnd}

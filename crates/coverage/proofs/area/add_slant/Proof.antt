@@ -1,11 +1,10 @@
 -- `coverage::area::add_slant` meets its contract. The invariant: the row's pixels left of i are done. Assumes nothing.
-use mathlib.Core.Path.{_≡_, refl, ap, sym, _∙_}
+use mathlib.Core.Path.{_≡_, ap, _∙_}
 use mathlib.Core.List.{List}
 use Prim.Native.Nat.{ℕ, _+_, _-_, _*_, _%_, _≤_, _<_}
-use lib.ListN.{length, getD, set}
-use denote.Ref.{now}
+use lib.ListN.{getD, set}
 use lib.Ieee.{Float, nan, binary32, add}
-use Rattle.coverage.specs.Tile.{tileWidth, tileHeight, tileSize, rowStart}
+use Rattle.coverage.specs.Tile.{tileWidth, rowStart}
 use Rattle.coverage.proofs.Turn.{Done, begun-at, turned-at, ended-at}
 use Rattle.coverage.specs.Row.{addedOf, slanted}
 use Rattle.coverage.specs.declared.row.Reach.{Reach}

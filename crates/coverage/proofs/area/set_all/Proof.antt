@@ -1,10 +1,7 @@
 -- `coverage::area::set_all` meets its contract. The invariant: the pixels below i are done. Assumes nothing.
-use mathlib.Core.Path.{_≡_, refl, ap, sym, _∙_}
-use mathlib.Core.List.{List}
-use Prim.Native.Nat.{ℕ, _+_, _-_, _*_, _%_, _≤_, _<_}
-use lib.ListN.{length, getD, set}
-use denote.Ref.{now}
-use lib.Ieee.{Float, nan, binary32, add}
+use mathlib.Core.Path.{refl}
+use Prim.Native.Nat.{_-_, _≤_}
+use lib.Ieee.{nan}
 use Rattle.coverage.specs.Tile.{tileSize}
 use Rattle.coverage.proofs.Turn.{Done, begun, turned, ended}
 use native.Mathlib.Omega.{arith}

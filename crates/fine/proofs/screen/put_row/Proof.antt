@@ -1,14 +1,14 @@
 -- `fine::screen::put_row` meets its contract. The invariant: the row's pixels left of x are written. Assumes nothing.
-use mathlib.Core.Path.{_≡_, refl, sym, ap, _∙_}
+use mathlib.Core.Path.{_≡_, sym, ap, _∙_}
 use mathlib.Core.List.{List, []}
 use Prim.Native.Nat.{ℕ, _*_, _-_, _+_, _≤_, _<_}
-use lib.ListN.{length, getD, set}
+use lib.ListN.{getD, set}
 use denote.Ref.{now}
 use lib.Ieee.{Float}
 use Rattle.coverage.specs.Tile.{tileWidth, tileHeight}
 use Rattle.coverage.proofs.Turn.{Done, begun-at, turned-at, ended-at}
 use Rattle.colours.specs.Colour.{packOf}
-use Rattle.fine.specs.Screen.{rowAt, placeOf, fromList}
+use Rattle.fine.specs.Screen.{rowAt, fromList}
 use Rattle.fine.proofs.Places.{place-in-row}
 use native.Mathlib.Omega.{arith}
 use borrow.Author.Needs.{needs}

@@ -1,12 +1,11 @@
 -- `fine::screen::put_tile` meets its contract. The invariant: the tile's rows above y are written. Assumes nothing.
-use mathlib.Core.Path.{_≡_, refl, sym, ap, subst, _∙_}
-use mathlib.Core.List.{List}
+use mathlib.Core.Path.{_≡_, refl, sym, subst, _∙_}
 use Prim.Native.Nat.{ℕ, _*_, _-_, _+_, _≤_}
 use lib.ListN.{length}
 use denote.Ref.{now}
 use Rattle.lists.specs.Grid.{mapi}
-use Rattle.coverage.specs.Tile.{tileWidth, tileHeight}
-use Rattle.fine.specs.Screen.{rowAt, fromList}
+use Rattle.coverage.specs.Tile.{tileHeight}
+use Rattle.fine.specs.Screen.{fromList}
 use Rattle.fine.proofs.Places.{rows, row-room, no-rows, row-more, all-rows}
 use native.Mathlib.Omega.{arith}
 use borrow.Author.Needs.{needs}

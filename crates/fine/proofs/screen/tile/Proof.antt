@@ -1,15 +1,13 @@
 -- `fine::screen::tile` meets its contract. Assumes nothing.
-use mathlib.Core.Path.{_≡_, refl, sym, ap, _∙_}
+use mathlib.Core.Path.{_≡_, sym, ap, _∙_}
 use mathlib.Core.Bool.{cond}
 use mathlib.Core.List.{List, []}
 use Prim.Native.Nat.{ℕ, _+_, _*_, _/_, _%_, _<_}
-use native.Mathlib.Nat.{mod-lt}
 use native.Mathlib.Omega.{arith}
-use lib.ListN.{getD}
 use denote.Ref.{now}
 use lib.Ieee.{Float}
 use Rattle.util.specs.Constants.{zero}
-use Rattle.lists.specs.Grid.{mapi, tabulate}
+use Rattle.lists.specs.Grid.{tabulate}
 use Rattle.lists.specs.GridLaws.{mapi-replicate, getD-tabulate}
 use Rattle.panel.specs.declared.kinds.Verdict.{Verdict}
 use Rattle.panel.specs.declared.kinds.Verdict.the-variants.{Fine, Against}

@@ -6,11 +6,10 @@ use lib.ListN.{length}
 use denote.Ref.{now}
 use lib.Ieee.{Float}
 use Rattle.lists.specs.Run as Walk
-use Rattle.panel.specs.declared.kinds.Answer.{Answer}
 use Rattle.panel.specs.declared.kinds.Answer.the-variants.{Done, Refused}
 use Rattle.panel.specs.declared.kinds.Verdict.{Verdict}
 use Rattle.panel.specs.declared.kinds.Verdict.the-variants.{Fine, Against}
-use Rattle.coverage.specs.Tile.{tileWidth, tileHeight}
+use Rattle.coverage.specs.Tile.{tileHeight}
 use Rattle.fine.specs.Screen.{endsAt, ifFine, putTile, packed, colourAt, tilePixels}
 use Rattle.fine.specs.Fine.{shown, shownOf, tilesOf}
 use Rattle.fine.proofs.Ranges.{some, on-screen, no-tiles, tile-stops, tile-goes}

@@ -1,0 +1,133 @@
+// Kind 4: path_nos, coords, paths, indices, refs, segments*; from, to.
+use super::places;
+use super::places::Row;
+use super::rooms;
+use super::rows;
+use super::rows::Seen;
+use hexlist::words::word;
+
+struct Parts {
+    path_nos: Row,
+    coords: Row,
+    paths: Row,
+    indices: Row,
+    refs: Row,
+    segments: Row,
+    answer: usize,
+    later: Row,
+}
+
+fn parts_at(words: &[u32], at: usize) -> Parts {
+    let path_nos = places::first(words, at, 1, 9);
+    let coords = places::follow(words, at, 2, path_nos);
+    let paths = places::follow(words, at, 3, coords);
+    let indices = places::follow(words, at, 4, paths);
+    let refs = places::follow(words, at, 5, indices);
+    let segments = places::follow(words, at, 6, refs);
+    let answer = places::after(words, segments);
+    let later = places::first(words, answer, 2, 3);
+    Parts {
+        path_nos,
+        coords,
+        paths,
+        indices,
+        refs,
+        segments,
+        answer,
+        later,
+    }
+}
+
+// Whether the stage answers so, once path_nos, coords and paths are there.
+fn right(
+    words: &[u32],
+    head: usize,
+    at: Parts,
+    path_nos: &[u32],
+    coords: &[f32],
+    paths: &[u32],
+    indices: &mut [u32],
+    refs: &mut [u32],
+    segments: &mut [f32],
+) -> bool {
+    let whole = rows::put_words(words, at.indices, indices)
+        & rows::put_words(words, at.refs, refs)
+        & rows::put_floats(words, at.segments, segments);
+    let a = path_tiling::tile(
+        word(words, head, 7),
+        word(words, head, 8),
+        path_nos,
+        coords,
+        paths,
+        indices,
+        refs,
+        segments,
+    );
+    whole
+        & rows::answers(words, at.answer, a)
+        & rows::same_floats(words, at.segments, at.later, segments)
+}
+
+// The same, with rooms for the other three.
+fn right_of(
+    words: &[u32],
+    head: usize,
+    at: Parts,
+    path_nos: &[u32],
+    coords: &[f32],
+    paths: &[u32],
+) -> bool {
+    let mut indices = rooms::words();
+    let mut refs = rooms::words();
+    let mut segments = rooms::floats();
+    let ni = rooms::of_words(at.indices, &indices);
+    let nr = rooms::of_words(at.refs, &refs);
+    let ns = rooms::of_floats(at.segments, &segments);
+    right(
+        words,
+        head,
+        at,
+        path_nos,
+        coords,
+        paths,
+        &mut indices[..ni],
+        &mut refs[..nr],
+        &mut segments[..ns],
+    )
+}
+
+// Fills path_nos, coords and paths.
+fn lines_right(
+    words: &[u32],
+    head: usize,
+    at: Parts,
+    path_nos: &mut [u32],
+    coords: &mut [f32],
+    paths: &mut [u32],
+) -> bool {
+    let whole = rows::put_words(words, at.path_nos, path_nos)
+        & rows::put_floats(words, at.coords, coords)
+        & rows::put_words(words, at.paths, paths);
+    whole & right_of(words, head, at, path_nos, coords, paths)
+}
+
+pub fn case(words: &[u32], at: usize) -> Seen {
+    let p = parts_at(words, at);
+    let mut path_nos = rooms::words();
+    let mut coords = rooms::floats();
+    let mut paths = rooms::words();
+    let nn = rooms::of_words(p.path_nos, &path_nos);
+    let nc = rooms::of_floats(p.coords, &coords);
+    let np = rooms::of_words(p.paths, &paths);
+    Seen {
+        next: places::after(words, p.later),
+        equal: lines_right(
+            words,
+            at,
+            p,
+            &mut path_nos[..nn],
+            &mut coords[..nc],
+            &mut paths[..np],
+        ),
+    }
+}
