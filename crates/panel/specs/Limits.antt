@@ -37,6 +37,10 @@ coordWhole = 16384
 abbrev pub coordMost : Float
 coordMost = ofBits binary32 0x4680_0000
 
+-- a picture's width, and its height, in pixels
+abbrev pub sideMost : ℕ
+sideMost = 16384
+
 -- all of them, the coordinate's apart
 abbrev pub limits : List ℕ
 limits =
@@ -48,4 +52,5 @@ limits =
     ∷ mostCount
     ∷ mostSlots
     ∷ mostCommands
+    ∷ sideMost
     ∷ []

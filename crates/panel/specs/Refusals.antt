@@ -53,6 +53,12 @@ tooLong = 15
 abbrev pub badScreen : ℕ
 badScreen = 16
 
+abbrev pub badSize : ℕ
+badSize = 17
+
+abbrev pub badFile : ℕ
+badFile = 18
+
 -- all of them, in order
 abbrev pub refusalNumbers : List ℕ
 refusalNumbers =
@@ -73,4 +79,6 @@ refusalNumbers =
     ∷ unknown
     ∷ tooLong
     ∷ badScreen
+    ∷ badSize
+    ∷ badFile
     ∷ []

@@ -24,11 +24,14 @@ pub const MOST_SLOTS: u32 = 16777216;
 // Commands on one screen tile, END not counted.
 pub const MOST_COMMANDS: u32 = 4096;
 
+// A picture's width, and its height, in pixels.
+pub const SIDE_MOST: u32 = 16384;
+
 // A coordinate's size.
 pub const COORD_MOST: f32 = 16384.0;
 
 // All of them, the coordinate's apart.
-pub fn all() -> [u32; 8]
+pub fn all() -> [u32; 9]
     ensures { λ r. ⌜ r ≡ limits ⌝ }
 {
     [
@@ -40,6 +43,7 @@ pub fn all() -> [u32; 8]
         MOST_COUNT,
         MOST_SLOTS,
         MOST_COMMANDS,
+        SIDE_MOST,
     ]
 }
 

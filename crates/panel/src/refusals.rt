@@ -53,8 +53,14 @@ pub const TOO_LONG: u32 = 15;
 // 16: a screen too narrow, or too few pixels
 pub const BAD_SCREEN: u32 = 16;
 
+// 17: a picture's width or height outside 1..SIDE_MOST
+pub const BAD_SIZE: u32 = 17;
+
+// 18: no P6 file: another header, or bytes missing or left over
+pub const BAD_FILE: u32 = 18;
+
 // All of them, in order.
-pub fn all() -> [u32; 17]
+pub fn all() -> [u32; 19]
     ensures { λ r. ⌜ r ≡ refusalNumbers ⌝ }
 {
     [
@@ -75,5 +81,7 @@ pub fn all() -> [u32; 17]
         UNKNOWN,
         TOO_LONG,
         BAD_SCREEN,
+        BAD_SIZE,
+        BAD_FILE,
     ]
 }

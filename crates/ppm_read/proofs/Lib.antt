@@ -1,0 +1,9 @@
+-- The reader's laws.
+pub mod Held
+pub mod Steps
+pub mod Parts
+pub mod Headers
+pub mod Answers
+pub mod RoundTrip
+pub mod ByteKinds
+pub mod Language
