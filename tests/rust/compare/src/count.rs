@@ -95,7 +95,7 @@ fn spoil(rng: &mut Rng, case: &mut Case) {
 }
 
 /// A long list over clear tiles with room for all, few of its lines refused.
-fn long_list(rng: &mut Rng) -> Case {
+pub fn long_list(rng: &mut Rng) -> Case {
     let most = rng.pick(&[6, 12, 24]);
     let n_paths = rng.range(1, 3) as usize;
     let (paths, tiles) = boxes::table(rng, n_paths, most);

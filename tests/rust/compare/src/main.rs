@@ -20,6 +20,7 @@ mod hand_out;
 mod hostile;
 mod limits;
 mod lists;
+mod order;
 mod stage;
 mod table;
 mod tiling;
@@ -96,6 +97,9 @@ fn stages(args: &Args) -> bool {
     well &= run(&tiling::Tile, args, ours::has::TILE, 18.0);
     well &= run(&fill::Fill, args, ours::has::FILL, 6.0);
     well &= run(&fine::Fine, args, ours::has::FINE, 12.0);
+    if ours::has::COUNT && ours::has::BACKDROP && args.mode != "rules-vs-oracle" && args.only.as_deref().is_none_or(|o| o == "order") {
+        well &= order::run(args.seconds.unwrap_or(3.0 * args.longer), args.seed);
+    }
     well &= hostile(args);
     let whole = args.only.is_none();
     well & (!whole || limits::run(args.mode != "rules-vs-oracle", false))
