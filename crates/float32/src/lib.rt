@@ -190,16 +190,13 @@ pub fn to_i32(x: f32) -> i32
     }
 }
 
-// How many of n's lowest binary digits an `f32`, which keeps 24, has no room for. The powers are
-// tried one by one.
+// How many of n's lowest binary digits an `f32`, which keeps 24, has no room for. The zeros above
+// n's top bit tell: there are 8 above 24 digits, and each one fewer is a digit lost.
 fn lost(n: u32) -> u32
     ensures { λ r. ⌜ r ≡ lostOf n ⌝ }
 {
-    let mut k: u32 = 0;
-    while 0x100_0000 <= n >> k {
-        k += 1;
-    }
-    k
+    let zeros: u32 = u32::leading_zeros(n);
+    if zeros < 8 { 8 - zeros } else { 0 }
 }
 
 // n rounded once: to the nearest number of units of 2^k, the even one of two that are as near. The
