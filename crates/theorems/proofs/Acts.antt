@@ -1,48 +1,24 @@
 -- What a line that is taken did: its acts ran, all of them on its own path's tiles. Assumes nothing.
-use mathlib.Core.Path.{_≡_, refl, sym, ap, _∙_, subst}
-use mathlib.Core.Bool.{Bool, true, false, _&&_, false≢true}
-use mathlib.Core.List.{List, [], _∷_, _++_}
-use Prim.Native.Nat.{ℕ, zero, suc, _+_, _-_, _*_, _≤_, _<_, min}
+use mathlib.Core.Path.{_≡_, refl, ap, _∙_}
+use mathlib.Core.Bool.{Bool, true, false}
+use mathlib.Core.List.{List, [], _∷_}
+use Prim.Native.Nat.{ℕ, suc, _+_, _*_}
 use native.Mathlib.Omega.{arith}
-use lib.Dec.{ltb, leb}
-use lib.ListN.{length, getD, set}
+use lib.Dec.{ltb}
+use lib.ListN.{length, getD}
 use lib.Seq.{sets}
 use lib.IntN.{ℤ, pos, _+ℤ_}
 use lib.Ieee.{Float}
-use borrow.Author.Tests.{ltb-false, leb-false}
-use Rattle.lists.specs.Run.{Step, taken, halted, Ran, done, refused, onStep, All, allOrNone}
+use Rattle.lists.specs.Run.{Ran, done, refused, onStep}
 use Rattle.lists.specs.Tally.{tally, slices}
 use Rattle.lists.specs.Order as Order
-use Rattle.panel.specs.Limits.{mostLines, mostSteps, mostCount, mostSlots}
-use Rattle.panel.specs.Refusals.{countOver, noRoom, sumOver, lineNumber}
+use Rattle.panel.specs.Limits.{mostCount}
+use Rattle.panel.specs.Refusals.{countOver, sumOver}
 use Rattle.panel.specs.Widths.{refWords}
-use Rattle.panel.specs.Paths.{endOf, widthOf}
-use Rattle.panel.specs.declared.kinds.Path.{Path}
-use Rattle.panel.specs.declared.kinds.TileNo.{TileNo}
-use Rattle.panel.proofs.PathLaws.{Holds}
-use Rattle.walk.specs.Lent.{lineAt, walkAt}
-use Rattle.walk.specs.Step.{Boxed, stepOf, lastZ, crossOf}
-use Rattle.walk.specs.declared.setup.Pace.{Pace}
-use Rattle.walk.specs.declared.setup.Walk.{Walk}
-use Rattle.walk.specs.declared.step.Step as S
-use Rattle.walk.specs.declared.step.Step.the-variants as On
-use Rattle.walk.specs.declared.lent.Walked.{Walked}
-use Rattle.walk.specs.declared.lent.Walked.the-variants.{Refused, Skipped, Line}
-use Rattle.walk.proofs.Tiles.{tile-in, mark-in}
-use Rattle.clip.specs.declared.Clip.{Clip}
-use Rattle.clip.specs.Page.{clippedOf}
-use Rattle.clip.proofs.Laws.{Left, clip-left}
-use Rattle.acts.specs.Acts.{St, Act, mark, visit, stop, Hit, on, off, rowActs, crossActs, stepActs, stepsActs, inI32, marked, visited, packed, takeIf, runActs, deltaOf}
-use Rattle.acts.specs.Rows.{RowsIn, rowsActs}
-use Rattle.acts.specs.Line.{Plan, planActs, Ref, refsOf, planRefs, haltIf, tooFar, planStep}
-use Rattle.acts.specs.declared.rows.Rows.{Rows}
-use Rattle.acts.proofs.Laws.{row-below}
-use Rattle.acts.proofs.Whole.{plan-taken, plan-refs, run-made, run-counts}
-use Rattle.path_count.specs.Steps.{hitAt, hitOf}
-use Rattle.path_count.specs.Count.{rowsBy, planBy, planOf, walkedStep, lineStep}
-use Rattle.path_count.proofs.Steps.{cross-right}
-use Rattle.theorems.specs.Drawn.{Drawn, drawnAt, walkOf, actsBy, deltaBy, tilesIn, marksIn}
-use Rattle.theorems.specs.Events.{Event, eventsIn, tilesEv, wordsEv}
+use Rattle.walk.specs.Lent.{walkAt}
+use Rattle.acts.specs.Acts.{St, Act, mark, visit, stop, inI32, marked, visited, takeIf, runActs}
+use Rattle.theorems.specs.Drawn.{drawnAt, walkOf, tilesIn, marksIn}
+use Rattle.theorems.specs.Events.{eventsIn, wordsEv}
 
 pub walk-is : (nos : List ℕ) (coords : List Float) (paths : List ℕ) (l : ℕ) → walkAt nos coords paths l ≡ walkOf paths (drawnAt nos coords l)
 unfolding walkAt walkOf

@@ -1,10 +1,8 @@
 -- Batches: lines cut anywhere come to the same as in one call; so do ranges of references. Assumes nothing.
-use mathlib.Core.Path.{_≡_, refl, sym, ap, _∙_, subst}
-use mathlib.Core.Bool.{true}
-use mathlib.Core.List.{List, [], _∷_, _++_, map}
-use Prim.Native.Nat.{ℕ, zero, suc, _+_, _-_, _*_, _/_, _%_, _≤_, _<_}
+use mathlib.Core.Path.{_≡_, refl, sym, ap, _∙_}
+use mathlib.Core.List.{List, [], _∷_, map}
+use Prim.Native.Nat.{ℕ, _-_, _/_, _≤_}
 use native.Mathlib.Omega.{arith}
-use lib.Dec.{leb, eqb}
 use lib.ListN.{length, getD, length-set}
 use lib.Seq.{length-sets}
 use lib.IntN.{ℤ, pos, _+ℤ_}
@@ -12,7 +10,7 @@ use lib.Ieee.{Float}
 use borrow.Author.Tests.{le-leb}
 use Rattle.lists.specs.Run.{Ran, done, refused, andThen, actAll, actAll-append}
 use Rattle.lists.specs.Sums.{from}
-use Rattle.lists.specs.Tally.{tally, length-tally}
+use Rattle.lists.specs.Tally.{length-tally}
 use Rattle.lists.specs.Order as Order
 use Rattle.lists.specs.Order.{addAt}
 use Rattle.panel.specs.Widths.{lineFloats, refWords}
@@ -23,7 +21,7 @@ use Rattle.panel.specs.declared.kinds.Answer.{Answer}
 use Rattle.panel.specs.declared.kinds.Answer.the-variants as Answer
 use Rattle.acts.specs.Acts.{St, stOf}
 use Rattle.acts.specs.Line.{Refusal}
-use Rattle.path_count.specs.Count.{Told, toldOf, paperOf, batch, batchTold, callAnswer, callTold, counted}
+use Rattle.path_count.specs.Count.{Told, paperOf, batch, batchTold, callAnswer, callTold, counted}
 use Rattle.path_count.specs.declared.kinds.Counted.the-variants.{Done}
 use Rattle.path_count.proofs.Batches.{batches}
 use Rattle.panel.specs.Kinds as Kinds
@@ -32,8 +30,8 @@ use Rattle.path_tiling.specs.Tiling.{Range, applied, putOf, callOf, Tiled, tile
 use Rattle.path_tiling.proofs.WriteLaws.{calls-join}
 use Rattle.theorems.specs.Drawn.{Drawn, drawnAt, marksOf}
 use Rattle.theorems.specs.Events.{eventsOf, tilesEv}
-use Rattle.theorems.specs.Batches.{Rising, lastOf, onPaper, andTold, inBatches, onTiled, inRanges}
-use Rattle.theorems.proofs.Counting.{Counted, batch-counted}
+use Rattle.theorems.specs.Batches.{Rising, lastOf, andTold, inBatches, onTiled, inRanges}
+use Rattle.theorems.proofs.Counting.{batch-counted}
 use Rattle.theorems.proofs.SumLaws.{call-fine}
 
 -- ---- a batch keeps lengths

@@ -1,28 +1,28 @@
 -- After all lines are counted into zeroed tiles and none is refused, no backdrop is far from 0: a line marks no tile twice, and the lines are few. So
 -- the sums are never refused. Assumes nothing.
-use mathlib.Core.Path.{_≡_, refl, sym, ap, _∙_, subst}
-use mathlib.Core.Logic.{_≢_, _⊎_, inl, inr, ⊎-elim}
+use mathlib.Core.Path.{_≡_, refl, ap, _∙_}
+use mathlib.Core.Logic.{_⊎_, inl, inr}
 use mathlib.Core.Bool.{Bool, true, false, not, _&&_, false≢true}
-use mathlib.Core.List.{List, [], _∷_, _++_, map}
+use mathlib.Core.List.{List, [], _∷_, map}
 use Prim.Native.Nat.{ℕ, zero, suc, _+_, _-_, _*_, _/_, _≤_, _<_, _^_}
 use native.Mathlib.Omega.{arith}
-use lib.Dec.{ltb, leb}
+use lib.Dec.{ltb}
 use lib.ListN.{length, getD, replicate, length-replicate}
 use lib.IntN.{ℤ, pos, negsuc, _+ℤ_}
-use lib.Signed.{mag, leZ}
+use lib.Signed.{mag}
 use lib.Ieee.{Float}
 use borrow.Author.Tests.{ltb-false, lt-ltb, le-leb}
-use Rattle.lists.specs.Run.{Step, taken, halted, Ran, done, run, run-cons-done, All, actAll}
+use Rattle.lists.specs.Run.{Step, taken, halted, done, run, run-cons-done, actAll}
 use Rattle.lists.specs.Sums.{from}
 use Rattle.lists.specs.Occ.{is, is-same, is-other}
 use Rattle.panel.specs.Limits.{mostLines, mostSteps, edgeMost}
 use Rattle.panel.specs.Widths.{refWords}
-use Rattle.panel.specs.Paths.{pathAt, pathCount, endOf, widthOf, heightOf, pathsAnswer}
+use Rattle.panel.specs.Paths.{pathAt, pathCount, widthOf, heightOf, pathsAnswer}
 use Rattle.panel.specs.declared.kinds.Path.{Path}
 use Rattle.panel.specs.declared.kinds.Answer.the-variants.{Done}
 use Rattle.panel.proofs.LimitLaws.{small}
 use Rattle.panel.proofs.PathLaws.{Checked, checked, Holds}
-use Rattle.backdrop.specs.Backdrop.{Out, outOf, backdropAt, pathFits, pathSums, sumPaths, backdropOf}
+use Rattle.backdrop.specs.Backdrop.{outOf, backdropAt, pathFits, pathSums, sumPaths, backdropOf}
 use Rattle.backdrop.specs.Calm.{calmOne, calmFrom}
 use Rattle.backdrop.proofs.RowLaws.{sum-mag}
 use Rattle.backdrop.proofs.CalmLaws.{calm-path}
@@ -34,17 +34,17 @@ use Rattle.walk.specs.declared.lent.Walked.{Walked}
 use Rattle.walk.specs.declared.lent.Walked.the-variants.{Refused, Skipped, Line}
 use Rattle.clip.specs.Page.{clippedOf}
 use Rattle.acts.specs.Acts.{St, stOf, Act, mark, visit, stop, deltaOf}
-use Rattle.acts.specs.Line.{Plan, planActs, tooFar, planStep, atLine, batchOf}
+use Rattle.acts.specs.Line.{planActs, tooFar, atLine, batchOf}
 use Rattle.acts.proofs.Once as Once
 use Rattle.acts.proofs.Once.{Free, Once}
 use Rattle.acts.proofs.Plans.{plan-marks}
 use Rattle.path_count.specs.Count.{planOf, planBy, lineStep, batch, Lent}
 use Rattle.path_count.proofs.Steps.{apart}
 use Rattle.path_count.proofs.Lines.{starts, walkable, on-tiles, left}
-use Rattle.theorems.specs.Drawn.{Drawn, drawnAt, drawn, walkOf, actsBy, deltaBy, marksIn, marksOf}
+use Rattle.theorems.specs.Drawn.{drawnAt, drawn, actsBy, deltaBy, marksIn, marksOf}
 use Rattle.theorems.specs.Refs.{AllCounted}
 use Rattle.theorems.proofs.Acts.{walk-is}
-use Rattle.theorems.proofs.Own.{took, Took, NearWalk}
+use Rattle.theorems.proofs.Own.{took, NearWalk}
 use Rattle.theorems.proofs.Isolation.{addIf, marksAt, back-seen, zero-at}
 use Rattle.theorems.proofs.BatchLaws.{same-lengths}
 use Rattle.theorems.proofs.SumLaws.{passed, went, counted-all, startOf}

@@ -1,35 +1,34 @@
 -- What counting lines leaves, where none is refused: tiles and references by the lines' events, backdrops by their marks. Assumes nothing.
-use mathlib.Core.Path.{_≡_, refl, sym, ap, _∙_, subst}
+use mathlib.Core.Path.{_≡_, refl, sym, ap, _∙_}
 use mathlib.Core.List.{List, [], _∷_, _++_, map}
-use Prim.Native.Nat.{ℕ, zero, suc, _+_, _-_, _*_, _≤_, _<_, min}
+use Prim.Native.Nat.{ℕ, suc, _+_, _-_, _*_, _≤_, _<_, min}
 use native.Mathlib.Omega.{arith}
 use lib.ListN.{length, getD, length-append}
 use lib.Seq.{sets}
 use lib.IntN.{ℤ}
 use lib.Ieee.{Float}
-use Rattle.lists.specs.Run.{Step, taken, halted, Ran, done, refused, run, run-cons-done, All, actAll}
+use Rattle.lists.specs.Run.{Step, taken, halted, done, run, run-cons-done, All, actAll}
 use Rattle.lists.specs.Sums.{from}
-use Rattle.lists.specs.Tally.{tally, slices, tally-append, slices-append, length-slices, Below}
+use Rattle.lists.specs.Tally.{tally, slices, tally-append, slices-append, length-slices}
 use Rattle.lists.specs.Cells.{sets-append}
 use Rattle.lists.specs.Order as Order
-use Rattle.panel.specs.Limits.{mostLines, mostSteps, mostSlots}
+use Rattle.panel.specs.Limits.{mostLines, mostSlots}
 use Rattle.panel.specs.Widths.{refWords}
-use Rattle.panel.specs.Paths.{endOf, pathAt, pathCount, pathsAnswer}
+use Rattle.panel.specs.Paths.{pathAt, pathCount, pathsAnswer}
 use Rattle.panel.specs.declared.kinds.Path.{Path}
 use Rattle.panel.specs.declared.kinds.Answer.the-variants.{Done}
-use Rattle.panel.proofs.PathLaws.{Holds, Checked, checked}
 use Rattle.walk.specs.Lent.{walkAt}
 use Rattle.walk.specs.declared.setup.Walk.{Walk}
 use Rattle.walk.specs.declared.lent.Walked.{Walked}
 use Rattle.walk.specs.declared.lent.Walked.the-variants.{Refused, Skipped, Line}
 use Rattle.walk.proofs.Walks.{line-told}
-use Rattle.acts.specs.Acts.{St, Act, mark, visit, stop, runActs}
-use Rattle.acts.specs.Line.{planActs, Refusal, atLine, batchOf}
+use Rattle.acts.specs.Acts.{St, Act, mark, visit, stop}
+use Rattle.acts.specs.Line.{planActs, atLine, batchOf}
 use Rattle.path_count.specs.Count.{planOf, lineStep, batch}
-use Rattle.theorems.specs.Drawn.{Drawn, drawnAt, walkOf, actsBy, deltaBy, tilesIn, marksIn, tilesOf, marksOf, InPath, OwnLine}
+use Rattle.theorems.specs.Drawn.{drawnAt, walkOf, actsBy, deltaBy, tilesIn, marksIn, tilesOf, marksOf, InPath, OwnLine}
 use Rattle.theorems.specs.Events.{Event, EventOwn, eventsIn, eventsAt, eventsOf, tilesEv, wordsEv}
 use Rattle.theorems.proofs.Acts.{walk-is, Ran-through, ran-through}
-use Rattle.theorems.proofs.Own.{all-append, ActOwn, WalkOwn, Took, took}
+use Rattle.theorems.proofs.Own.{all-append, ActOwn, WalkOwn, took}
 
 -- ---- lists of events
 

@@ -1,30 +1,28 @@
 -- Refusals are exact: each number is given where its ground holds, and nowhere else. Assumes nothing.
-use mathlib.Core.Path.{_≡_, refl, sym, ap, _∙_, subst}
-use mathlib.Core.Logic.{_≢_, _↔_, _⊎_, inl, inr}
+use mathlib.Core.Path.{_≡_, refl, sym, ap, _∙_}
+use mathlib.Core.Logic.{_≢_, _↔_, inl, inr}
 use mathlib.Core.Bool.{Bool, true, false, cond, _&&_, false≢true}
-use mathlib.Core.List.{List, [], _∷_, _++_}
-use Prim.Native.Nat.{ℕ, zero, suc, _+_, _-_, _≤_, _<_, min}
+use mathlib.Core.List.{List, [], _∷_}
+use Prim.Native.Nat.{ℕ, _+_, _-_, _≤_, _<_, min}
 use native.Mathlib.Omega.{arith}
 use native.Mathlib.Decide.{decLt, ℕ-discrete}
-use lib.Dec.{ltb, leb, eqb}
+use lib.Dec.{ltb}
 use lib.ListN.{length, getD}
 use lib.IntN.{ℤ, pos, _+ℤ_}
 use lib.Ieee.{Float}
-use borrow.Author.Tests.{lt-ltb, le-ltb, le-leb, lt-leb, eq-eqb, ne-eqb, ltb-true, ltb-false, leb-true, leb-false}
-use Rattle.lists.specs.Run.{Step, taken, halted, Ran, done, refused, run, onStep, allOrNone, run-refused, run-stopped, Stopped}
+use borrow.Author.Tests.{lt-ltb, le-ltb, le-leb, lt-leb, eq-eqb, ne-eqb, ltb-true, ltb-false}
+use Rattle.lists.specs.Run.{Step, halted, Ran, done, refused, allOrNone, run-refused, run-stopped}
 use Rattle.lists.specs.Sums.{sum}
 use Rattle.panel.specs.Limits.{mostTiles, mostLines, mostSteps, mostCount, mostSlots}
-use Rattle.panel.specs.Refusals.{doneNo, notWhole, tooMany, noRoom, lineNumber, coordinate, noSuch, countOver, sumOver}
+use Rattle.panel.specs.Refusals.{notWhole, tooMany, noRoom, lineNumber, coordinate, noSuch, countOver, sumOver}
 use Rattle.panel.specs.Paths.{pathAt, pathCount}
 use Rattle.panel.specs.declared.kinds.Path.{Path}
 use Rattle.panel.specs.Checks.{Check, firstNo}
 use Rattle.panel.specs.declared.kinds.Verdict.the-variants.{Against}
 use Rattle.panel.specs.declared.kinds.Answer.the-variants.{Done, Refused}
-use Rattle.hand_out.specs.HandOut.{Out, outOf, handChecks, onFine, handOutOf, hand}
+use Rattle.hand_out.specs.HandOut.{outOf, handOutOf, hand}
 use Rattle.util.specs.declared.Vec2.{Vec2}
 use Rattle.walk.specs.Page.{lineOf}
-use Rattle.walk.specs.Setup.{endsOf}
-use Rattle.walk.specs.Skip.{flatOf, pastOf}
 use Rattle.walk.proofs.Lines.{skipped}
 use Rattle.walk.specs.Lent.{lineAt, reachedOf, walkedOf, walkAt}
 use Rattle.walk.specs.declared.setup.Walk.{Walk}

@@ -1,19 +1,16 @@
 -- Refusals are exact: of a reference, when tiling. Assumes nothing.
-use mathlib.Core.Path.{_≡_, refl, sym, ap, _∙_, subst}
-use mathlib.Core.Logic.{_≢_, _↔_, _⊎_, inl, inr, ⊎-elim}
+use mathlib.Core.Path.{_≡_, refl, sym, ap, _∙_}
+use mathlib.Core.Logic.{_↔_, _⊎_, inl, inr, ⊎-elim}
 use mathlib.Core.Bool.{Bool, true, false, cond}
-use mathlib.Core.List.{List, [], _∷_}
 use Prim.Native.Nat.{ℕ, _+_, _≤_, _<_}
 use native.Mathlib.Decide.{decLt}
 use native.Mathlib.Omega.{arith}
 use lib.Dec.{ltb}
 use lib.ListN.{length, getD}
-use lib.Ieee.{Float}
 use borrow.Author.Tests.{lt-ltb, le-ltb, ltb-true, ltb-false}
 use Rattle.panel.specs.Refusals.{coordinate, noSuch, noRoom, outside, crooked}
 use Rattle.panel.specs.Paths.{pathAt, pathCount}
 use Rattle.panel.specs.declared.kinds.Path.{Path}
-use Rattle.panel.specs.declared.kinds.TileNo.{TileNo}
 use Rattle.util.specs.declared.Vec2.{Vec2}
 use Rattle.walk.specs.Step.{stepOf}
 use Rattle.walk.specs.Lent.{lineAt, reachedOf, walkedOf, walkAt}
@@ -27,9 +24,8 @@ use Rattle.segment.specs.declared.Piece.{Piece}
 use Rattle.segment.specs.declared.Piece.the-variants.{Kept, Crooked}
 use Rattle.path_tiling.specs.Look as Look
 use Rattle.path_tiling.specs.Look.{Lent, packedAt, stepNo, sliceNo, handedFrom, slotOf, pieceTo, wordTo, stepTo, foundTo, foundOf, lookOf}
-use Rattle.path_tiling.specs.declared.look.Look as L
-use Rattle.path_tiling.specs.declared.look.Look.the-variants.{Put, Empty, Against}
-use Rattle.theorems.specs.Refusing.{RefWalks, RefOn, refSlot, LookWhy, sevenLine, sixLine, sevenPath, sevenSkipped, ten, nineSlot, twelve}
+use Rattle.path_tiling.specs.declared.look.Look.the-variants.{Empty, Against}
+use Rattle.theorems.specs.Refusing.{RefWalks, RefOn, LookWhy, sevenLine, sixLine, sevenPath, sevenSkipped, ten, nineSlot, twelve}
 use Rattle.theorems.proofs.Exact.{no-clash, never}
 
 -- a tile's word

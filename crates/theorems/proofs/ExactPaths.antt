@@ -1,16 +1,16 @@
--- Refusals are exact: 1 to 4, of the paths lent. Assumes nothing.
-use mathlib.Core.Path.{_≡_, refl, sym, ap, _∙_, subst}
-use mathlib.Core.Logic.{_≢_, _↔_, _⊎_, inl, inr, ⊎-elim}
-use mathlib.Core.Bool.{Bool, true, false, cond, _&&_, false≢true}
+-- Refusals are exact: 1 to 4, of the paths lent, and what each call checks first. Assumes nothing.
+use mathlib.Core.Path.{_≡_, refl, sym, ap, _∙_}
+use mathlib.Core.Logic.{_≢_, _↔_, _⊎_, inl, inr}
+use mathlib.Core.Bool.{Bool, true, false, cond, false≢true}
 use mathlib.Core.List.{List, [], _∷_}
-use Prim.Native.Nat.{ℕ, zero, suc, _+_, _-_, _*_, _/_, _%_, _≤_, _<_}
+use Prim.Native.Nat.{ℕ, zero, suc, _+_, _-_, _%_, _≤_, _<_}
 use native.Mathlib.Decide.{decLt, ℕ-discrete}
-use native.Mathlib.Numerals.{add-one}
 use native.Mathlib.Omega.{arith}
 use lib.Dec.{leb, eqb}
 use lib.ListN.{length}
+use lib.IntN.{ℤ}
 use lib.Ieee.{Float}
-use borrow.Author.Tests.{le-leb, lt-leb, leb-true, leb-false, eq-eqb, ne-eqb, eqb-true, eqb-false}
+use borrow.Author.Tests.{le-leb, lt-leb, leb-true, leb-false, eq-eqb, ne-eqb}
 use Rattle.panel.specs.Limits.{mostPaths, mostTiles, edgeMost}
 use Rattle.panel.specs.Refusals.{notWhole, tooMany, badBox, badRange}
 use Rattle.panel.specs.Widths.{pathWords}
@@ -19,11 +19,14 @@ use Rattle.panel.specs.Paths.{pathAt, pathCount, endOf, boxFits, pathChecks, pa
 use Rattle.panel.specs.declared.kinds.Path.{Path}
 use Rattle.panel.specs.declared.kinds.Verdict.{Verdict}
 use Rattle.panel.specs.declared.kinds.Verdict.the-variants.{Fine, Against}
-use Rattle.panel.specs.declared.kinds.Answer.{Answer}
 use Rattle.panel.specs.declared.kinds.Answer.the-variants.{Done, Refused}
-use Rattle.panel.proofs.CheckLaws.{unless-no, unless-fine}
 use Rattle.panel.proofs.PathLaws.{box-fits, from-turn, from-no}
+use Rattle.panel.specs.Kinds.{paperOf}
 use Rattle.acts.specs.Acts.{St}
+use Rattle.path_tiling.specs.Look.{Lent}
+use Rattle.path_tiling.specs.Tiling.{checksOf}
+use Rattle.path_tiling.proofs.CallLaws.{Whole}
+use Rattle.coverage.specs.Fill.{fillChecks, fillOf}
 use Rattle.path_count.specs.Count as Count
 use Rattle.path_count.specs.Count.{callAnswer}
 use Rattle.theorems.specs.Refusing.{RowWhy, GoodBox, endBefore, PathGood, PathsWhole, PathsWhy, one, two, three, four}
@@ -205,3 +208,41 @@ call-exact nos coords paths a b s n item = (why (firstNo row) refl, halts)
         → unless (firstNo row) 0 (pathsAnswer paths (length (s .counts))) ≡ Refused n item
     halts (inl h) = rw (row-exact n row .1 (h .0), h .1)
     halts (inr h) = rw (h .0) (paths-exact paths (length (s .counts)) n item .1 (h .1))
+
+-- ---- what tiling checks before its first reference: 1 of the lengths lent and of the range, then the paths
+
+pub tiling-exact : (from to : ℕ) (L : Lent) (segs : List Float) (n item : ℕ)
+    → (checksOf from to L segs ≡ Refused n item)
+    ↔ (((Whole from to L segs ≡ false) × (n ≡ notWhole) × (item ≡ 0)) ⊎ ((Whole from to L segs ≡ true) × PathsWhy (L .paths) (length (L .indices)) n item))
+unfolding checksOf
+tiling-exact from to L segs n item = (why (Whole from to L segs) refl, halts)
+  where
+    why : (b : Bool) → Whole from to L segs ≡ b → cond b (pathsAnswer (L .paths) (length (L .indices))) (Refused notWhole 0) ≡ Refused n item
+        → ((Whole from to L segs ≡ false) × (n ≡ notWhole) × (item ≡ 0)) ⊎ ((Whole from to L segs ≡ true) × PathsWhy (L .paths) (length (L .indices)) n item)
+    why true q e = inr (q, paths-exact (L .paths) (length (L .indices)) n item .0 e)
+    why false q e =
+        let w : notWhole ≡ n = cc in
+        let z : 0 ≡ item = cc in
+        inl (q, sym w, sym z)
+
+    halts : ((Whole from to L segs ≡ false) × (n ≡ notWhole) × (item ≡ 0)) ⊎ ((Whole from to L segs ≡ true) × PathsWhy (L .paths) (length (L .indices)) n item)
+        → cond (Whole from to L segs) (pathsAnswer (L .paths) (length (L .indices))) (Refused notWhole 0) ≡ Refused n item
+    halts (inl h) = rw (h .0, h .1, h .2)
+    halts (inr h) = rw (h .0) (paths-exact (L .paths) (length (L .indices)) n item .1 (h .1))
+
+-- ---- coverage: 1, then 13
+
+pub fill-exact : (segs : List Float) (first m : ℕ) (evenOdd : Bool) (backdrop : ℤ) (x y : Float) (area : List Float) (n : ℕ)
+    → (fillOf segs first m evenOdd backdrop x y area .answer ≡ n ∷ 0 ∷ []) ↔ RowWhy n (fillChecks (length segs) (length area) first m)
+unfolding fillOf
+fill-exact segs first m evenOdd backdrop x y area n = (why (firstNo row) refl, halts)
+  where
+    row : List Check
+    row = fillChecks (length segs) (length area) first m
+
+    why : (v : Verdict) → firstNo row ≡ v → paperOf (unless v 0 Done) ≡ n ∷ 0 ∷ [] → RowWhy n row
+    why Fine q e = no-clash cc
+    why (Against k) q e = let w : k ≡ n = cc in row-exact n row .0 (q ∙ ap Against w)
+
+    halts : RowWhy n row → paperOf (unless (firstNo row) 0 Done) ≡ n ∷ 0 ∷ []
+    halts h = rw (row-exact n row .1 h)

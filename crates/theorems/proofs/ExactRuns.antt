@@ -1,20 +1,16 @@
 -- Refusals are exact: a batch of counting stops before the first line refused; the only stop in a walk is 10; backdrop stops before the first path
 -- with 11. Assumes nothing.
-use mathlib.Core.Path.{_≡_, refl, sym, ap, _∙_, subst}
-use mathlib.Core.Logic.{_≢_, _↔_}
-use mathlib.Core.Bool.{Bool, true, false, cond}
+use mathlib.Core.Path.{_≡_, refl, sym, ap, _∙_}
+use mathlib.Core.Logic.{_↔_}
+use mathlib.Core.Bool.{true, false}
 use mathlib.Core.List.{List, [], _∷_, _++_}
-use Prim.Native.Nat.{ℕ, zero, suc, _+_, _-_, _≤_, _<_}
+use Prim.Native.Nat.{ℕ, zero, suc, _+_, _-_, _<_}
 use native.Mathlib.Omega.{arith}
-use native.Mathlib.Numerals.{add-one}
-use lib.ListN.{length}
 use lib.IntN.{ℤ}
 use lib.Ieee.{Float}
 use Rattle.lists.specs.Run.{Step, taken, halted, Ran, done, refused, run, onStep, andThen, All}
 use Rattle.lists.specs.Sums.{from}
-use Rattle.panel.specs.Refusals.{outside, sumOver}
-use Rattle.panel.specs.Paths.{pathAt, pathCount}
-use Rattle.panel.specs.declared.kinds.Answer.the-variants.{Done, Refused}
+use Rattle.panel.specs.Refusals.{outside}
 use Rattle.acts.specs.Acts.{St, Act, mark, visit, stop, Hit, on, off, rowActs, stepActs, stepsActs}
 use Rattle.acts.specs.Rows.{rowsActs}
 use Rattle.acts.specs.Line.{Plan, planActs, Refusal, atLine, batchOf}

@@ -1,8 +1,8 @@
 -- Refusals are exact: where backdrop, a range of references and a range of screen tiles stop. Assumes nothing.
-use mathlib.Core.Path.{_≡_, refl, sym, ap, _∙_, subst}
+use mathlib.Core.Path.{_≡_, refl, sym, ap, _∙_}
 use mathlib.Core.Logic.{_≢_, _↔_}
 use mathlib.Core.Bool.{Bool, true, false, cond}
-use mathlib.Core.List.{List, [], _∷_}
+use mathlib.Core.List.{List}
 use Prim.Native.Nat.{ℕ, zero, suc, _+_, _-_, _%_, _/_, _≤_, _<_}
 use native.Mathlib.Decide.{ℕ-discrete}
 use native.Mathlib.Omega.{arith}
@@ -11,16 +11,16 @@ use lib.IntN.{ℤ}
 use lib.Ieee.{Float}
 use Rattle.lists.specs.Run.{Step, taken, halted, Ran, done, refused, run, onStep, andThen, run-append}
 use Rattle.lists.specs.Sums.{from, from-add}
-use Rattle.panel.specs.Refusals.{notWhole, tooMany, badBox, badRange, sumOver}
+use Rattle.panel.specs.Refusals.{sumOver}
 use Rattle.panel.specs.Paths.{pathAt, pathCount, pathsAnswer}
 use Rattle.panel.specs.declared.kinds.Answer.{Answer}
 use Rattle.panel.specs.declared.kinds.Answer.the-variants.{Done, Refused}
 use Rattle.panel.specs.declared.kinds.Verdict.{Verdict}
 use Rattle.panel.specs.declared.kinds.Verdict.the-variants as Verdict
-use Rattle.backdrop.specs.Backdrop.{Out, outOf, pathFits, pathSums, sumPaths, onDone, backdropOf}
+use Rattle.backdrop.specs.Backdrop.{outOf, pathFits, pathSums, sumPaths, onDone, backdropOf}
 use Rattle.backdrop.proofs.CellLaws.{out-once}
 use Rattle.path_tiling.specs.Look.{Lent, lookOf}
-use Rattle.path_tiling.specs.Tiling.{Range, range, lookThen, rangeOf}
+use Rattle.path_tiling.specs.Tiling.{lookThen, rangeOf}
 use Rattle.path_tiling.specs.declared.look.Look as Lk
 use Rattle.path_tiling.specs.declared.look.Look.the-variants.{Put, Empty, Against}
 use Rattle.fine.specs.Screen.{endsAt, tilePixels}

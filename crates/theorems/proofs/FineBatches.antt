@@ -1,20 +1,17 @@
 -- Screen tiles cut into batches anywhere come to the same as in one call. Assumes nothing.
-use mathlib.Core.Path.{_≡_, refl, sym, ap, _∙_}
-use mathlib.Core.Bool.{true}
+use mathlib.Core.Path.{_≡_, refl, _∙_}
 use mathlib.Core.List.{List, [], _∷_}
-use Prim.Native.Nat.{ℕ, _+_, _-_, _*_, _≤_, _<_}
+use Prim.Native.Nat.{ℕ, _*_, _≤_}
 use native.Mathlib.Omega.{arith}
-use lib.Dec.{leb}
 use lib.ListN.{length}
 use lib.Ieee.{Float}
 use borrow.Author.Tests.{le-leb}
-use Rattle.lists.specs.Run.{Ran, done, refused, andThen, left}
+use Rattle.lists.specs.Run.{Ran, done, refused, left}
 use Rattle.panel.specs.Checks.{firstNo}
-use Rattle.panel.specs.Kinds.{paperOf}
 use Rattle.panel.specs.declared.kinds.Answer.the-variants.{Done, Refused}
 use Rattle.panel.specs.declared.kinds.Verdict.{Verdict}
 use Rattle.panel.specs.declared.kinds.Verdict.the-variants.{Fine, Against}
-use Rattle.fine.specs.Fine.{Shown, shown, fineChecks, No, tilesOf, shownOf, unlessNo, fineOf}
+use Rattle.fine.specs.Fine.{shown, fineChecks, No, tilesOf, fineOf}
 use Rattle.fine.proofs.Ranges.{two-ranges}
 use Rattle.fine.proofs.Screens.{next-range}
 use Rattle.theorems.specs.Batches.{Rising, lastOf, onShown, inTiles}

@@ -1,10 +1,10 @@
 -- The theorems put together: lines counted in batches, references tiled in ranges, backdrops after the sums. Assumes nothing.
-use mathlib.Core.Path.{_≡_, refl, sym, ap, _∙_}
+use mathlib.Core.Path.{_≡_, sym, ap, _∙_}
 use mathlib.Core.List.{List, [], _∷_}
-use Prim.Native.Nat.{ℕ, _+_, _-_, _*_, _/_, _≤_, _<_}
+use Prim.Native.Nat.{ℕ, _/_, _≤_, _<_}
 use native.Mathlib.Omega.{arith}
 use lib.ListN.{length, replicate}
-use lib.IntN.{ℤ, pos}
+use lib.IntN.{ℤ, pos, negsuc}
 use lib.Ieee.{Float}
 use Rattle.lists.specs.Tally.{zeros}
 use Rattle.panel.specs.Widths.{lineFloats, refWords}
@@ -20,9 +20,11 @@ use Rattle.path_count.specs.declared.kinds.Counted.the-variants.{Done}
 use Rattle.path_tiling.specs.Look.{lent}
 use Rattle.path_tiling.specs.Tiling.{callOf, rangeTiled}
 use Rattle.theorems.specs.Drawn.{drawn, ofPath}
-use Rattle.theorems.specs.Refs.{AllCounted, Sums}
+use Rattle.theorems.specs.Refs.{AllCounted}
 use Rattle.theorems.specs.Stray.{NoStray}
 use Rattle.theorems.specs.Batches.{Rising, lastOf, inBatches, inRanges}
+use Rattle.theorems.specs.Starred.{floatsOf}
+use Rattle.theorems.proofs.StarredTable.{starred}
 use Rattle.theorems.proofs.SumLaws.{sums}
 use Rattle.theorems.proofs.StrayLaws.{no-stray}
 use Rattle.theorems.proofs.BatchLaws.{many-batches, many-ranges}
@@ -65,3 +67,8 @@ isolated-after paths n b nos coords refs bs cs rs m b′ nos′ coords′ refs�
     ap (λ (o : Out). backdropAt (o .tiles) t) (d .1)
     ∙ isolated-sums paths n b nos coords refs bs cs rs m b′ nos′ coords′ refs′ bs′ cs′ rs′ m′ all all′ p e k (d .0) (d′ .0) (d .1) (d′ .1) x y i
     ∙ sym (ap (λ (o : Out). backdropAt (o .tiles) t) (d′ .1))
+
+-- the premise is no empty one: (8,8)-(8,24) over the box 0,0,2,2
+pub an-instance : AllCounted 1 (0 ∷ []) (floatsOf (8 ∷ 8 ∷ 8 ∷ 24 ∷ [])) (0 ∷ 0 ∷ 2 ∷ 2 ∷ 0 ∷ []) 4 (0 ∷ 0 ∷ 0 ∷ 0 ∷ [])
+    (pos 0 ∷ pos 0 ∷ pos 0 ∷ negsuc 0 ∷ []) (1 ∷ 0 ∷ 1 ∷ 0 ∷ []) (0 ∷ 0 ∷ 0 ∷ 1 ∷ []) 2
+an-instance = starred .0

@@ -1,37 +1,33 @@
 -- Beam isolation: a line changes no tile but its own path's, so a path's counts and backdrops hang on its own lines alone. And the order of lines:
 -- it changes neither. Assumes nothing.
-use mathlib.Core.Path.{_≡_, refl, sym, ap, _∙_, subst}
+use mathlib.Core.Path.{_≡_, refl, sym, ap, _∙_}
 use mathlib.Core.Logic.{_≢_}
 use mathlib.Core.Bool.{Bool, true, false}
-use mathlib.Core.List.{List, [], _∷_, _++_, map, Perm}
-use Prim.Native.Nat.{ℕ, zero, suc, _+_, _-_, _/_, _≤_, _<_}
+use mathlib.Core.List.{List, [], _∷_, Perm}
+use Prim.Native.Nat.{ℕ, zero, suc, _+_, _-_, _<_}
 use native.Mathlib.Decide.{ℕ-discrete}
 use native.Mathlib.Omega.{arith}
-use lib.Dec.{eqb}
-use lib.ListN.{length, getD, set, replicate, length-set, length-replicate}
+use lib.ListN.{length, getD, replicate, length-set, length-replicate}
 use lib.Seq.{getD-set-same, getD-set-other}
 use lib.IntN.{ℤ, pos, _+ℤ_}
 use lib.Ieee.{Float}
 use borrow.Author.Tests.{eqb-false}
-use Rattle.lists.specs.Run.{Step, taken, All, actAll, sift, keepIf}
-use Rattle.lists.specs.Sums.{from}
+use Rattle.lists.specs.Run.{taken, All, actAll, sift, keepIf}
 use Rattle.lists.specs.Occ.{is, occ, is-same, is-other, occ-none}
 use Rattle.lists.specs.Tally.{tally, tally-at, length-tally, zeros}
 use Rattle.lists.specs.Order as Order
-use Rattle.lists.specs.Order.{addAt, addAll, counts-any-order, backs-any-order}
-use Rattle.panel.specs.Widths.{refWords}
-use Rattle.panel.specs.Paths.{pathAt, pathCount, endOf, tileOf, pathsAnswer}
-use Rattle.panel.specs.declared.kinds.Path.{Path}
+use Rattle.lists.specs.Order.{addAt, counts-any-order, backs-any-order}
+use Rattle.panel.specs.Paths.{pathAt, pathCount, tileOf, pathsAnswer}
 use Rattle.panel.specs.declared.kinds.Answer.the-variants.{Done}
-use Rattle.panel.proofs.PathLaws.{Checked, checked, one-path, InBox, own-tile}
+use Rattle.panel.proofs.PathLaws.{Checked, checked, one-path, InBox}
 use Rattle.backdrop.specs.Backdrop.{backdropAt, backdropOf, outOf}
-use Rattle.backdrop.proofs.CellLaws.{sumOf, backdrop-cell, sumOf-same, rowStart, row-held}
-use Rattle.acts.specs.Acts.{St, stOf}
+use Rattle.backdrop.proofs.CellLaws.{backdrop-cell, sumOf-same, rowStart, row-held}
+use Rattle.acts.specs.Acts.{St}
 use Rattle.path_count.specs.Count.{lineStep}
 use Rattle.theorems.specs.Drawn.{Drawn, drawnAt, drawn, tilesOf, marksOf, isOf, ofPath, InPath, OwnLine}
 use Rattle.theorems.specs.Refs.{AllCounted}
-use Rattle.theorems.proofs.Counting.{Counted, Lined, lined}
-use Rattle.theorems.proofs.SumLaws.{passed, counted-all, startOf}
+use Rattle.theorems.proofs.Counting.{lined}
+use Rattle.theorems.proofs.SumLaws.{passed, counted-all}
 
 -- ---- one tile seen
 

@@ -9,7 +9,7 @@
 --     Calm                  the sums after a count from zeroed tiles are never refused
 --     StarredTable          the starred cases, computed
 --     OneAnswer             one answer only; the cheats
---     Exact, ExactRuns, ExactLooks, ExactPaths, ExactStops   refusals are exact
+--     Exact, ExactRuns, ExactLooks, ExactPaths, ExactStops, ExactCommands   refusals are exact
 --     Frame                 these put together
 pub mod Acts
 pub mod Own
@@ -28,4 +28,5 @@ pub mod ExactRuns
 pub mod ExactLooks
 pub mod ExactPaths
 pub mod ExactStops
+pub mod ExactCommands
 pub mod Frame

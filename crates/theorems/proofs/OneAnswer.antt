@@ -4,15 +4,14 @@ use mathlib.Core.Path.{_≡_, refl, sym, ap, _∙_}
 use mathlib.Core.Logic.{_≢_}
 use mathlib.Core.Bool.{Bool}
 use mathlib.Core.List.{List, [], _∷_}
-use Prim.Native.Nat.{ℕ, _+_}
+use Prim.Native.Nat.{ℕ}
 use native.Mathlib.Omega.{arith}
-use lib.ListN.{getD, replicate}
+use lib.ListN.{replicate}
 use lib.IntN.{ℤ, pos, negsuc}
 use lib.Ieee.{Float}
 use Rattle.lists.specs.Sums.{sum}
 use Rattle.lists.specs.Tally.{zeros}
 use Rattle.panel.specs.Kinds.{runningOf}
-use Rattle.panel.specs.Kinds as Kinds
 use Rattle.panel.specs.declared.kinds.Running.{Running}
 use Rattle.panel.specs.declared.kinds.Answer.{Answer}
 use Rattle.panel.proofs.KindLaws.{paper-once}
@@ -27,7 +26,6 @@ use Rattle.path_tiling.specs.Tiling.{Tiled}
 use Rattle.coverage.specs.Fill.{Filled}
 use Rattle.fine.specs.Fine.{Shown}
 use Rattle.theorems.specs.Promises.{CountMet, BackdropMet, HandMet, TileMet, FillMet, FineMet}
-use Rattle.theorems.specs.Refs.{Sums}
 use Rattle.theorems.specs.Starred.{floatsOf}
 use Rattle.theorems.proofs.SumLaws.{startOf, through, sums}
 use Rattle.theorems.proofs.StarredTable.{starred, computing}

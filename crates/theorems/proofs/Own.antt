@@ -1,24 +1,22 @@
 -- All acts of a line are on its own path's tiles; and what a line that is taken did. Assumes nothing.
-use mathlib.Core.Path.{_≡_, refl, sym, ap, _∙_, subst}
+use mathlib.Core.Path.{_≡_, refl, sym, ap, subst}
 use mathlib.Core.Bool.{Bool, true, false, not, cond, _&&_, false≢true}
 use mathlib.Core.List.{List, [], _∷_, _++_}
-use Prim.Native.Nat.{ℕ, zero, suc, _+_, _-_, _*_, _≤_, _<_, min}
+use Prim.Native.Nat.{ℕ, zero, suc, _+_, _-_, _≤_, _<_, min}
 use native.Mathlib.Omega.{arith}
 use lib.Dec.{ltb, leb, eqb}
-use lib.ListN.{length, getD}
+use lib.ListN.{getD}
 use lib.Ieee.{Float, eq}
 use borrow.Author.Tests.{ltb-true, ltb-false, leb-false, lt-ltb}
-use Rattle.lists.specs.Run.{Step, taken, halted, Ran, done, All}
+use Rattle.lists.specs.Run.{Step, taken, done, All}
 use Rattle.panel.specs.Limits.{mostLines, mostSteps, mostSlots}
 use Rattle.panel.specs.Refusals.{countOver, lineNumber}
-use Rattle.panel.specs.Paths.{endOf, widthOf, pathAt, pathCount, pathsAnswer}
+use Rattle.panel.specs.Paths.{endOf, widthOf, pathAt, pathsAnswer}
 use Rattle.panel.specs.declared.kinds.Path.{Path}
-use Rattle.panel.specs.declared.kinds.TileNo.{TileNo}
 use Rattle.panel.specs.declared.kinds.Answer.the-variants.{Done}
-use Rattle.panel.proofs.PathLaws.{Holds, Checked, checked}
+use Rattle.panel.proofs.PathLaws.{Holds, checked}
 use Rattle.walk.specs.Lent.{walkAt}
 use Rattle.walk.specs.Step.{Boxed, stepOf, lastZ, crossOf}
-use Rattle.walk.specs.declared.setup.Pace.{Pace}
 use Rattle.walk.specs.declared.setup.Walk.{Walk}
 use Rattle.walk.specs.declared.step.Step as S
 use Rattle.walk.specs.declared.step.Step.the-variants as On
@@ -26,20 +24,20 @@ use Rattle.walk.specs.declared.lent.Walked.{Walked}
 use Rattle.walk.specs.declared.lent.Walked.the-variants.{Refused, Skipped, Line}
 use Rattle.walk.proofs.Boxes.{fits-boxed}
 use Rattle.walk.proofs.Tiles.{tile-in, mark-in}
-use Rattle.walk.proofs.Walks.{LineTold, line-told}
+use Rattle.walk.proofs.Walks.{line-told}
 use Rattle.clip.specs.declared.Clip.{Clip}
 use Rattle.clip.specs.Page.{clippedOf}
 use Rattle.clip.proofs.Laws.{Left, clip-left}
-use Rattle.acts.specs.Acts.{St, Act, mark, visit, stop, Hit, on, off, rowActs, crossActs, stepActs, stepsActs, runActs, deltaOf}
+use Rattle.acts.specs.Acts.{St, Act, mark, visit, stop, rowActs, crossActs, stepActs, stepsActs, runActs, deltaOf}
 use Rattle.acts.specs.Rows.{RowsIn, rowsActs}
 use Rattle.acts.specs.Line.{Plan, planActs, haltIf, tooFar, planStep}
 use Rattle.acts.specs.declared.rows.Rows.{Rows}
 use Rattle.acts.proofs.Laws.{row-below}
-use Rattle.acts.proofs.Whole.{plan-taken, plan-refs, plan-made}
+use Rattle.acts.proofs.Whole.{plan-taken, plan-refs}
 use Rattle.path_count.specs.Steps.{hitAt, hitOf}
 use Rattle.path_count.specs.Count.{rowsBy, planBy, planOf, walkedStep, lineStep}
-use Rattle.theorems.specs.Drawn.{Drawn, drawnAt, walkOf, actsBy, deltaBy, tilesIn, marksIn}
-use Rattle.theorems.specs.Events.{Event, eventsIn, StepOn}
+use Rattle.theorems.specs.Drawn.{actsBy, deltaBy}
+use Rattle.theorems.specs.Events.{StepOn}
 
 pub all-append : {A : Type 0} (P : A → Type 0) (xs ys : List A) → All P xs → All P ys → All P (xs ++ ys)
 all-append P [] ys p q = q

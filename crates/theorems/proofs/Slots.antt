@@ -2,16 +2,16 @@
 -- slot of one reference, and that is one of the tile whose range has the slot. Assumes nothing.
 use mathlib.Core.Path.{_≡_, refl, sym, ap, _∙_}
 use mathlib.Core.Logic.{_≢_}
-use mathlib.Core.List.{List, [], _∷_, _++_, map}
+use mathlib.Core.List.{List, map}
 use Prim.Native.Nat.{ℕ, zero, suc, _+_, _-_, _≤_, _<_}
 use native.Mathlib.Decide.{decLt}
 use native.Mathlib.Omega.{arith}
 use lib.ListN.{length, getD, take, length-replicate}
 use Rattle.lists.specs.Run.{All}
-use Rattle.lists.specs.Sums.{sum, first, first-apart, first-within, Placed, placed, placed-once, from}
-use Rattle.lists.specs.Occ.{is, occ, occ-take-lt, occ-take-within, Nth, nth}
-use Rattle.lists.specs.Tally.{tally, slices, zeros, Below, below-at, length-tally, count-is-occ, count-sum, slice-is-occ, Distinct}
-use Rattle.lists.specs.Cells.{never, once}
+use Rattle.lists.specs.Sums.{first, first-within, Placed, placed, placed-once, from}
+use Rattle.lists.specs.Occ.{occ, occ-take-lt, occ-take-within, Nth, nth}
+use Rattle.lists.specs.Tally.{zeros, Below, below-at, length-tally, count-is-occ, count-sum, slice-is-occ, Distinct}
+use Rattle.lists.specs.Cells.{once}
 use Rattle.theorems.specs.Events.{countsOf, sliceOf, slotOf}
 
 -- the reference that has slot k

@@ -1,7 +1,7 @@
 -- The starred table holds, by computation. Assumes nothing.
-use mathlib.Core.Path.{_≡_, refl}
+use mathlib.Core.Path.{refl}
 use Prim.Native.Nat.{ℕ}
-use lib.Ieee.{binary32, add, sub, mul, div, neg, le, lt, eq, ne, ofInt, ofBits, toSigned, toUnsigned, isNan, round}
+use lib.Ieee.{add, sub, mul, div, neg, le, lt, eq, ne, ofInt, ofBits, toSigned, toUnsigned, isNan, round}
 use Rattle.float32.specs.Meaning.{floorOf, ceilOf, roundOf, absOf, minOf, maxOf, clampOf, signed, signOf}
 use Rattle.util.specs.Span.{spanOf}
 use Rattle.lists.specs.Grid.{mapFrom}

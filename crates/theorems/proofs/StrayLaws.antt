@@ -1,9 +1,9 @@
 -- No stray piece. Assumes nothing.
-use mathlib.Core.Path.{_≡_, refl, sym, ap, _∙_, subst}
+use mathlib.Core.Path.{_≡_, refl, sym, ap, _∙_}
 use mathlib.Core.Logic.{_≢_}
 use mathlib.Core.Bool.{Bool, true, false, cond}
-use mathlib.Core.List.{List, [], _∷_, _++_, map}
-use Prim.Native.Nat.{ℕ, zero, suc, _+_, _-_, _*_, _/_, _^_, _≤_, _<_, min}
+use mathlib.Core.List.{List, [], _∷_, map}
+use Prim.Native.Nat.{ℕ, zero, suc, _+_, _-_, _*_, _/_, _^_, _≤_, _<_}
 use native.Mathlib.Nat.{not-suc-le-zero}
 use native.Mathlib.Decide.{decLt}
 use native.Mathlib.Omega.{arith}
@@ -13,18 +13,15 @@ use lib.Seq.{length-sets}
 use lib.IntN.{ℤ}
 use lib.Ieee.{Float, nan}
 use borrow.Author.Tests.{le-ltb}
-use Rattle.lists.specs.Run.{All, actAll}
+use Rattle.lists.specs.Run.{All}
 use Rattle.lists.specs.Sums.{sum, first, first-within, from}
-use Rattle.lists.specs.Occ.{occ}
-use Rattle.lists.specs.Tally.{tally, zeros, Below, below-at, length-tally, Distinct}
+use Rattle.lists.specs.Tally.{zeros, Below, below-at, length-tally, Distinct}
 use Rattle.lists.specs.Cells.{getD-sets-after, getD-sets-before, getD-sets-in}
 use Rattle.panel.specs.Limits.{mostSlots}
 use Rattle.panel.specs.Refusals.{notWhole, noSuch, noRoom}
-use Rattle.panel.specs.Widths.{refWords, segmentFloats}
+use Rattle.panel.specs.Widths.{segmentFloats}
 use Rattle.panel.specs.Kinds.{slotNoOf}
-use Rattle.panel.specs.Paths.{pathAt, pathCount, endOf, pathsAnswer}
-use Rattle.panel.specs.declared.kinds.SlotNo.{SlotNo}
-use Rattle.panel.specs.declared.kinds.Answer.{Answer}
+use Rattle.panel.specs.Paths.{pathAt, endOf, pathsAnswer}
 use Rattle.panel.specs.declared.kinds.Answer.the-variants.{Done, Refused}
 use Rattle.panel.proofs.LimitLaws.{small}
 use Rattle.panel.specs.Checks.{firstNo}
@@ -43,18 +40,17 @@ use Rattle.segment.specs.Clips.{pieceOf}
 use Rattle.segment.specs.declared.Segment.{Segment}
 use Rattle.segment.specs.declared.Piece.{Piece}
 use Rattle.segment.specs.declared.Piece.the-variants.{Kept, Crooked}
-use Rattle.path_tiling.specs.Look as Look
 use Rattle.path_tiling.specs.Look.{Lent, lent, lineAt, packedAt, stepNo, sliceNo, handedFrom, pieceTo, wordTo, stepTo, foundTo, foundOf, lookOf}
-use Rattle.path_tiling.specs.Tiling.{Write, writeOf, Range, range, lookThen, rangeOf, slotsOf, floatsOf, putOf, applied, checksOf, checkedThen, callOf, Made}
+use Rattle.path_tiling.specs.Tiling.{Write, Range, range, lookThen, rangeOf, slotsOf, floatsOf, putOf, applied, checksOf, checkedThen, callOf, Made}
 use Rattle.path_tiling.specs.declared.look.Look as L
 use Rattle.path_tiling.specs.declared.look.Look.the-variants.{Put, Empty, Against}
 use Rattle.path_tiling.proofs.PutLaws.{Good}
 use Rattle.path_tiling.proofs.CallLaws as CallLaws
 use Rattle.path_tiling.proofs.WriteLaws.{range-made, range-good}
-use Rattle.theorems.specs.Events.{Event, EventOwn, tilesEv, countsOf, sliceOf, slotOf}
-use Rattle.theorems.specs.Refs.{stepTile, walkTile, refTile, AllCounted, Sums}
+use Rattle.theorems.specs.Events.{Event, tilesEv, sliceOf, slotOf}
+use Rattle.theorems.specs.Refs.{stepTile, walkTile, AllCounted}
 use Rattle.theorems.specs.Stray.{writtenTo, writtenFrom, slotFloat, OwnWrite, NoStray}
-use Rattle.theorems.proofs.Slots.{slice-below, slot-within, slots-once, slots-differ}
+use Rattle.theorems.proofs.Slots.{slice-below, slots-once, slots-differ}
 use Rattle.theorems.proofs.SumLaws.{sums, passed, events, whole, Whole, tiles-below, ref-line, ref-step, ref-slice, ref-tile, owned, event-tile, eventAt}
 use Rattle.theorems.proofs.Counting.{length-tiles}
 

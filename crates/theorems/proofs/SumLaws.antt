@@ -1,8 +1,7 @@
 -- Sums: tiles and references after all lines are counted into zeroed tiles and none is refused. Assumes nothing.
-use mathlib.Core.Path.{_≡_, refl, sym, ap, _∙_, subst}
-use mathlib.Core.Bool.{true}
-use mathlib.Core.List.{List, [], _∷_, _++_, map}
-use Prim.Native.Nat.{ℕ, zero, suc, _+_, _-_, _*_, _/_, _%_, _≤_, _<_, min}
+use mathlib.Core.Path.{_≡_, refl, sym, ap, _∙_}
+use mathlib.Core.List.{List, [], _∷_, map}
+use Prim.Native.Nat.{ℕ, zero, suc, _+_, _-_, _*_, _/_, _≤_, _<_, min}
 use native.Mathlib.Nat.{not-suc-le-zero, le-of-suc-le-suc, zero-add}
 use native.Mathlib.Omega.{arith}
 use lib.ListN.{length, getD, replicate, length-map, length-replicate}
@@ -10,25 +9,19 @@ use lib.Seq.{sets, length-sets, ext-getD}
 use lib.IntN.{ℤ, pos}
 use lib.Ieee.{Float}
 use Rattle.lists.specs.Run.{Ran, done, refused, All}
-use Rattle.lists.specs.Sums.{sum, from, length-from}
-use Rattle.lists.specs.Occ.{occ}
-use Rattle.lists.specs.Tally.{tally, slices, zeros, ofTile, Below, below-at, count-is-occ, count-sum, slices-are-from, length-slices}
+use Rattle.lists.specs.Sums.{from, length-from}
+use Rattle.lists.specs.Tally.{slices, zeros, Below, below-at, count-is-occ, count-sum, slices-are-from, length-slices}
 use Rattle.lists.specs.Cells.{getD-sets-in}
-use Rattle.panel.specs.Limits.{mostSteps, mostSlots}
+use Rattle.panel.specs.Limits.{mostSlots}
 use Rattle.panel.specs.Refusals.{doneNo}
-use Rattle.panel.specs.Widths.{refWords, lineFloats}
+use Rattle.panel.specs.Widths.{refWords}
 use Rattle.panel.specs.Kinds.{runningOf}
 use Rattle.panel.specs.Checks.{firstNo}
-use Rattle.panel.specs.Paths.{pathAt, pathCount, endOf, pathsAnswer}
-use Rattle.panel.specs.declared.kinds.Running.{Running}
+use Rattle.panel.specs.Paths.{endOf, pathsAnswer}
 use Rattle.panel.specs.declared.kinds.Answer.{Answer}
 use Rattle.panel.specs.declared.kinds.Answer.the-variants as Answer
-use Rattle.panel.specs.declared.kinds.Verdict.the-variants.{Fine}
 use Rattle.panel.proofs.CheckLaws.{unless-done}
-use Rattle.panel.proofs.PathLaws.{Checked, checked}
-use Rattle.walk.specs.Lent.{walkAt}
-use Rattle.walk.specs.Step.{stepOf}
-use Rattle.walk.specs.declared.lent.Walked.the-variants.{Line}
+use Rattle.panel.proofs.PathLaws.{checked}
 use Rattle.acts.specs.Acts.{St, stOf, packed}
 use Rattle.acts.specs.Line.{Refusal}
 use Rattle.path_count.specs.Count.{Told, toldOf, paperOf, batch, batchTold, lentChecks, callAnswer, callTold, counted}
@@ -36,7 +29,7 @@ use Rattle.path_count.specs.declared.kinds.Counted.the-variants.{Done}
 use Rattle.path_count.proofs.Batches.{Ranged, ranged}
 use Rattle.path_tiling.specs.Look.{lineAt, packedAt, stepNo, sliceNo}
 use Rattle.theorems.specs.Events.{Event, EventOwn, eventsOf, tilesEv, wordsEv, countsOf, sliceOf}
-use Rattle.theorems.specs.Refs.{stepTile, walkTile, refTile, refTiles, refSlices, fromZero, AllCounted, Sums}
+use Rattle.theorems.specs.Refs.{refTile, refTiles, refSlices, AllCounted, Sums}
 use Rattle.theorems.proofs.Counting.{Counted, batch-counted, length-tiles, length-words}
 
 -- ---- a call that was done

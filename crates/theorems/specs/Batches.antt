@@ -1,5 +1,4 @@
 -- Lines, and references, cut into batches anywhere; the same memory is lent on. Definitions only.
-use mathlib.Core.Path.{_≡_}
 use mathlib.Core.List.{List, [], _∷_}
 use Prim.Native.Nat.{ℕ, _≤_}
 use lib.IntN.{ℤ}

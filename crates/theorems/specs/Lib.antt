@@ -7,6 +7,7 @@
 --     Starred    the table of starred cases
 --     Promises   the promises of the public calls, named
 --     Refusing   the ground of each refusal
+--     Commands   the same of a screen tile's commands
 pub mod Drawn
 pub mod Events
 pub mod Refs
@@ -15,3 +16,4 @@ pub mod Batches
 pub mod Starred
 pub mod Promises
 pub mod Refusing
+pub mod Commands

@@ -1,7 +1,7 @@
 -- References as they stand in the words lent: each one's tile is found again from its line and its step, as tiling finds it. Definitions only.
 use mathlib.Core.Path.{_≡_}
-use mathlib.Core.List.{List, [], _∷_, map}
-use Prim.Native.Nat.{ℕ, _+_, _-_, _<_, _≤_}
+use mathlib.Core.List.{List, map}
+use Prim.Native.Nat.{ℕ, _+_, _<_, _≤_}
 use lib.ListN.{length, getD, replicate}
 use lib.IntN.{ℤ, pos}
 use lib.Ieee.{Float}
@@ -9,10 +9,8 @@ use Rattle.lists.specs.Sums.{sum, from}
 use Rattle.lists.specs.Occ.{occ}
 use Rattle.lists.specs.Tally.{zeros, ofTile}
 use Rattle.panel.specs.Kinds.{runningOf}
-use Rattle.panel.specs.declared.kinds.Path.{Path}
 use Rattle.walk.specs.Step.{stepOf}
 use Rattle.walk.specs.Lent.{walkAt}
-use Rattle.walk.specs.declared.setup.Walk.{Walk}
 use Rattle.walk.specs.declared.step.Step.{Step}
 use Rattle.walk.specs.declared.step.Step.the-variants as On
 use Rattle.walk.specs.declared.lent.Walked.{Walked}

@@ -1,25 +1,25 @@
 -- When the panel says no: the ground of each refusal, in the words of docs/RULES.md. Definitions only.
 use mathlib.Core.Path.{_≡_}
 use mathlib.Core.Logic.{_≢_, _↔_, _⊎_}
-use mathlib.Core.Bool.{Bool, true, false}
+use mathlib.Core.Bool.{true, false}
 use mathlib.Core.List.{List, [], _∷_, _++_}
 use Prim.Native.Nat.{ℕ, zero, suc, _+_, _-_, _%_, _≤_, _<_, min}
 use lib.ListN.{length, getD}
 use lib.IntN.{ℤ, pos, _+ℤ_}
 use lib.Ieee.{Float}
-use Rattle.lists.specs.Run.{Step, halted, done}
+use Rattle.lists.specs.Run.{halted, done}
 use Rattle.lists.specs.Sums.{sum}
 use Rattle.panel.specs.Limits.{mostPaths, mostTiles, mostLines, mostSteps, mostCount, mostSlots, edgeMost}
 use Rattle.panel.specs.Refusals.{doneNo, notWhole, tooMany, badBox, badRange, lineNumber, coordinate, noSuch, countOver, noRoom, outside, sumOver, crooked}
 use Rattle.panel.specs.Widths.{pathWords}
 use Rattle.panel.specs.Checks.{Check}
-use Rattle.panel.specs.Paths.{pathAt, pathCount, endOf, boxFits}
+use Rattle.panel.specs.Paths.{pathAt, pathCount, endOf}
 use Rattle.panel.specs.declared.kinds.Path.{Path}
 use Rattle.panel.specs.declared.kinds.Answer.the-variants.{Done}
 use Rattle.panel.specs.declared.kinds.Verdict.the-variants.{Against}
 use Rattle.panel.specs.Paths.{pathsAnswer}
 use Rattle.backdrop.specs.Backdrop as Backdrop
-use Rattle.hand_out.specs.HandOut.{Out, handOutOf}
+use Rattle.hand_out.specs.HandOut.{Out}
 use Rattle.walk.specs.Lent.{lineAt, reachedOf, walkAt}
 use Rattle.walk.specs.declared.setup.Walk.{Walk}
 use Rattle.walk.specs.declared.lent.Walked.the-variants.{Line, Skipped}
@@ -35,7 +35,7 @@ use Rattle.fine.specs.Screen.{endsAt}
 use Rattle.fine.specs.Fine.{tilesOf}
 use Rattle.path_tiling.specs.Look.{Lent, packedAt, stepNo, sliceNo, handedFrom, slotOf}
 use Rattle.acts.specs.Acts.{St, Act, mark, visit, stop, inI32, runActs, deltaOf}
-use Rattle.acts.specs.Line.{Plan, planActs, Refusal}
+use Rattle.acts.specs.Line.{planActs, Refusal}
 use Rattle.path_count.specs.Count.{planOf, lineStep, batch}
 
 -- ---- a row of checks, as each call makes it first (refusals 1, 2, 13 and 16): the ground of refusal n is the first check that fails

@@ -11,7 +11,6 @@ use Rattle.lists.specs.Occ.{occ}
 use Rattle.lists.specs.Tally.{Distinct}
 use Rattle.panel.specs.Widths.{segmentFloats}
 use Rattle.panel.specs.Paths.{pathAt, pathCount, endOf}
-use Rattle.panel.specs.declared.kinds.Path.{Path}
 use Rattle.panel.specs.declared.kinds.Answer.the-variants.{Done, Refused}
 use Rattle.segment.specs.Clips.{InTile}
 use Rattle.path_tiling.specs.Look.{lineAt}
