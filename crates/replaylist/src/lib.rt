@@ -4,6 +4,7 @@
 mod case_backdrop;
 mod case_count;
 mod case_fill;
+mod case_fine;
 mod case_hand_out;
 mod case_tile;
 mod places;

@@ -22,6 +22,7 @@ fn case(words: &[u32], at: usize) -> Seen {
         3 => super::case_hand_out::case(words, at),
         4 => super::case_tile::case(words, at),
         5 => super::case_fill::case(words, at),
+        6 => super::case_fine::case(words, at),
         _ => Seen {
             next: words.len(),
             equal: false,

@@ -12,6 +12,19 @@ pub fn words() -> [u32; 512]
     [0; 512]
 }
 
+// Of commands.
+pub fn long_words() -> [u32; 16384]
+    ensures { λ r. ⌜ 16384 ≡ lengthOf r ⌝ }
+{
+    [0; 16384]
+}
+
+pub fn pixels() -> [u32; 2048]
+    ensures { λ r. ⌜ 2048 ≡ lengthOf r ⌝ }
+{
+    [0; 2048]
+}
+
 pub fn ints() -> [i32; 512]
     ensures { λ r. ⌜ 512 ≡ lengthOf r ⌝ }
 {
