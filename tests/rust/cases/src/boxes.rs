@@ -1,6 +1,7 @@
 //! Boxes of nine kinds, and tables of paths.
 
 use crate::Rng;
+use rules::limits::EDGE_MOST;
 
 pub const KINDS: u64 = 9;
 
@@ -18,12 +19,12 @@ pub fn of_kind(rng: &mut Rng, kind: u64, most: i64) -> [i64; 4] {
         6 => [x, y, x + 1, y + 1],
         7 => {
             let (w, h) = (small(rng), small(rng));
-            let (r, b) = (rng.range(1_020, 1_024), rng.range(1_020, 1_024));
+            let (r, b) = (rng.range(EDGE_MOST - 4, EDGE_MOST), rng.range(EDGE_MOST - 4, EDGE_MOST));
             [r - w, b - h, r, b]
         }
         _ => {
             let (w, h) = (rng.range(1, most.min(24)), rng.range(1, most.min(24)));
-            let (x, y) = (rng.range(0, 1_024 - w), rng.range(0, 1_024 - h));
+            let (x, y) = (rng.range(0, EDGE_MOST - w), rng.range(0, EDGE_MOST - h));
             [x, y, x + w, y + h]
         }
     }
@@ -60,8 +61,8 @@ pub fn spoil(rng: &mut Rng, paths: &mut [u32], tiles: usize) {
     }
     let k = rng.below(paths.len() as u64) as usize;
     paths[k] = match rng.below(9) {
-        0 => 1_024,
-        1 => 1_025,
+        0 => EDGE_MOST as u32,
+        1 => EDGE_MOST as u32 + 1,
         2 => u32::MAX,
         3 => 1 << 31,
         4 => tiles as u32,

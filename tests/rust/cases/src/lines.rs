@@ -2,6 +2,7 @@
 
 use crate::floats::{any_bits, near, ulps};
 use crate::Rng;
+use rules::limits::COORD_MOST;
 
 pub const FAMILIES: [&str; 22] = [
     "grid",
@@ -77,8 +78,8 @@ fn moved(p: [f32; 2], dx: f32, dy: f32) -> [f32; 4] {
 fn mixed(rng: &mut Rng, lo: i64, hi: i64) -> f32 {
     match rng.below(10) {
         0 => tiny(rng),
-        1 => 16_384.0 * rng.sign(),
-        2 => rng.between(-16_384.0, 16_384.0),
+        1 => COORD_MOST * rng.sign(),
+        2 => rng.between(-COORD_MOST, COORD_MOST),
         3..=4 => grid(rng, lo, hi),
         5..=6 => {
             let g = grid(rng, lo, hi);
@@ -140,9 +141,9 @@ pub fn of_family(rng: &mut Rng, family: usize, b: &[i64; 4]) -> [f32; 4] {
             let far = rng.between(0.0, 2.0);
             [near_x - dx, near_y - dy, near_x + dx * far, near_y + dy * far]
         }
-        8 => [0; 4].map(|_| rng.between(-16_384.0, 16_384.0)),
+        8 => [0; 4].map(|_| rng.between(-COORD_MOST, COORD_MOST)),
         9 => [0; 4].map(|_| {
-            let v = 16_384.0 * rng.sign();
+            let v = COORD_MOST * rng.sign();
             match rng.below(8) {
                 0 => near(rng, v, 1),
                 1..=3 => v,

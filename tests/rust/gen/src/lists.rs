@@ -6,6 +6,7 @@ use crate::SEED;
 use cases::commands::{color, fill, Command, Lists};
 use cases::memory::{as_f32, one_nan};
 use cases::{boxes, floats, lines, segments, Rng};
+use rules::limits::{COMMANDS_MOST, COORD_MOST, COUNT_MOST, EDGE_MOST, TILES_MOST};
 
 fn bits(line: [f32; 4]) -> [u32; 4] {
     line.map(|v| one_nan(v.to_bits()))
@@ -141,7 +142,8 @@ impl Counting {
 fn count_traces(list: &mut List) {
     let square = |x0: u32| Counting::new(&[x0, 0, x0 + 2, 2, 0], 4);
     let tiny = f32::from_bits(1_000);
-    let after_limit = floats::ulps(16_384.0, 1);
+    let edge = EDGE_MOST as u32;
+    let after_limit = floats::ulps(COORD_MOST, 1);
     let traces: Vec<(&str, Counting)> = vec![
         ("(8,8)-(8,24)", square(0).with(0, [8.0, 8.0, 8.0, 24.0])),
         ("(0,16)-(32,16): nothing", square(0).with(0, [0.0, 16.0, 32.0, 16.0])),
@@ -151,10 +153,10 @@ fn count_traces(list: &mut List) {
         ("and reversed", square(1).with(0, [8.0, 24.0, 8.0, 8.0])),
         ("box 0,0,6,1: 1/(dx+dy) overflows, 10", Counting::new(&[0, 0, 6, 1, 0], 6).with(0, [80.0, 0.0, 80.0, tiny])),
         ("so short, no step left: accepted", square(1).with(0, [8.0, -tiny, 8.0, tiny])),
-        ("coordinate 16,384 passes", square(0).with(0, [16_384.0, 3.0, -16_384.0, 20.0])),
+        ("coordinate 16,384 passes", square(0).with(0, [COORD_MOST, 3.0, -COORD_MOST, 20.0])),
         ("the next float is 6", square(0).with(0, [3.0, 3.0, 4.0, after_limit])),
-        ("box edge 1,024 passes", Counting::new(&[1_022, 1_022, 1_024, 1_024, 0], 4).with(0, [16_360.0, 16_360.0, 16_380.0, 16_370.0])),
-        ("1,025 is 3", Counting::new(&[1_022, 1_022, 1_025, 1_024, 0], 6)),
+        ("box edge 1,024 passes", Counting::new(&[edge - 2, edge - 2, edge, edge, 0], 4).with(0, [16_360.0, 16_360.0, 16_380.0, 16_370.0])),
+        ("1,025 is 3", Counting::new(&[edge - 2, edge - 2, edge + 1, edge, 0], 6)),
         (
             "first and last step numbers at the top of u32: accepted",
             Counting::new(&[3, 1, 4, 2, 0], 1).with(0, [12.0, 16.0, 108.0, f32::from_bits(0x417f_fffe)]),
@@ -174,7 +176,7 @@ fn count_traces(list: &mut List) {
         list.say(said);
         list.case(&case.room(16).written());
     }
-    for (said, count) in [("tile count 65,535 passes", 65_535), ("65,536 is 8", 65_536)] {
+    for (said, count) in [("tile count 65,535 passes", COUNT_MOST as u32), ("65,536 is 8", COUNT_MOST as u32 + 1)] {
         let mut case = square(0).with(0, [8.0, 8.0, 8.0, 24.0]).room(4);
         case.counts[2] = count;
         list.say(said);
@@ -323,7 +325,7 @@ fn refused_lines(list: &mut List, rng: &mut Rng, family: usize) {
             case = case.with(0, lines::of_family(rng, family, &b));
         }
         if rng.one_in(2) {
-            case.counts.iter_mut().for_each(|c| *c = rng.pick(&[0, 65_535, 65_536, 65_536]));
+            case.counts.iter_mut().for_each(|c| *c = rng.pick(&[0, COUNT_MOST as u32, COUNT_MOST as u32 + 1, COUNT_MOST as u32 + 1]));
             case.backdrops.iter_mut().for_each(|c| *c = rng.pick(&[0, i32::MAX as u32, i32::MIN as u32]));
         }
         let written = case.written();
@@ -713,9 +715,9 @@ fn fine_traces(out: &mut List) {
         out.case(&screen.written());
     }
     out.say("4,096 commands, then END, and one more");
-    out.case(&long_list(4_096, Command::End).written());
-    out.case(&long_list(4_097, Command::End).written());
-    out.case(&long_list(4_096, Command::Unknown(99)).written());
+    out.case(&long_list(COMMANDS_MOST as usize, Command::End).written());
+    out.case(&long_list(COMMANDS_MOST as usize + 1, Command::End).written());
+    out.case(&long_list(COMMANDS_MOST as usize, Command::Unknown(99)).written());
     out.say("Sizes and ranges");
     for (width, cols, rows, from, to, pixels) in [
         (15, 1, 1, 0, 1, 256),
@@ -729,7 +731,7 @@ fn fine_traces(out: &mut List) {
         (0, 0, 5, 0, 0, 0),
         (u32::MAX, u32::MAX, u32::MAX, 0, 0, 4),
         (u32::MAX, 0, u32::MAX, 0, 0, 4),
-        (16, 1_024, 1_025, 0, 0, 4),
+        (16, 1_024, TILES_MOST as u32 / 1_024 + 1, 0, 0, 4),
     ] {
         let base = Screen::one(&[Solid, Color(0x2040_60ff), End], &half);
         out.case(&Screen { width, cols, rows, from, to, pixels, ..base }.written());
