@@ -35,7 +35,7 @@ fn right(words: &[u32], at: Parts, paths: &mut [u32], backdrops: &mut [i32]) -> 
         & rows::same_ints(words, at.backdrops, at.later, backdrops)
 }
 
-pub fn case(words: &[u32], at: usize) -> Seen {
+pub(crate) fn case(words: &[u32], at: usize) -> Seen {
     let p = parts_at(words, at);
     let mut paths = rooms::words();
     let mut backdrops = rooms::ints();

@@ -51,7 +51,7 @@ fn right(words: &[u32], head: usize, at: Parts, segments: &mut [f32], area: &mut
     whole & rows::answers(words, at.answer, a) & rows::same_floats(words, at.area, at.later, area)
 }
 
-pub fn case(words: &[u32], at: usize) -> Seen {
+pub(crate) fn case(words: &[u32], at: usize) -> Seen {
     let p = parts_at(words, at);
     let mut segments = rooms::floats();
     let mut area = rooms::floats();

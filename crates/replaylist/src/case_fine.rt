@@ -68,7 +68,7 @@ fn right(
         & rows::same_words(words, at.pixels, at.later, pixels)
 }
 
-pub fn case(words: &[u32], at: usize) -> Seen {
+pub(crate) fn case(words: &[u32], at: usize) -> Seen {
     let p = parts_at(words, at);
     let mut commands = rooms::long_words();
     let mut segments = rooms::floats();

@@ -39,7 +39,7 @@ fn right(words: &[u32], at: Parts, room: u32, counts: &mut [u32], tally: &mut [u
         & rows::same_words(words, at.tally, at.tally_later, tally)
 }
 
-pub fn case(words: &[u32], at: usize) -> Seen {
+pub(crate) fn case(words: &[u32], at: usize) -> Seen {
     let p = parts_at(words, at);
     let mut counts = rooms::words();
     let mut tally = rooms::words();

@@ -19,17 +19,17 @@ fn whole(row: Row, n: usize) -> bool {
     length(row.code) == n
 }
 
-pub fn put_words(words: &[u32], row: Row, out: &mut [u32]) -> bool {
+pub(crate) fn put_words(words: &[u32], row: Row, out: &mut [u32]) -> bool {
     hexlist::rows::put_words(words, row.base, row.code, out);
     whole(row, out.len())
 }
 
-pub fn put_ints(words: &[u32], row: Row, out: &mut [i32]) -> bool {
+pub(crate) fn put_ints(words: &[u32], row: Row, out: &mut [i32]) -> bool {
     hexlist::rows::put_ints(words, row.base, row.code, out);
     whole(row, out.len())
 }
 
-pub fn put_floats(words: &[u32], row: Row, out: &mut [f32]) -> bool {
+pub(crate) fn put_floats(words: &[u32], row: Row, out: &mut [f32]) -> bool {
     hexlist::rows::put_floats(words, row.base, row.code, out);
     whole(row, out.len())
 }
@@ -43,22 +43,22 @@ fn told(before: Row, later: Row) -> Row {
     }
 }
 
-pub fn same_words(words: &[u32], before: Row, later: Row, found: &[u32]) -> bool {
+pub(crate) fn same_words(words: &[u32], before: Row, later: Row, found: &[u32]) -> bool {
     let row = told(before, later);
     whole(row, found.len()) & hexlist::rows::same_words(words, row.base, row.code, found)
 }
 
-pub fn same_ints(words: &[u32], before: Row, later: Row, found: &[i32]) -> bool {
+pub(crate) fn same_ints(words: &[u32], before: Row, later: Row, found: &[i32]) -> bool {
     let row = told(before, later);
     whole(row, found.len()) & hexlist::rows::same_ints(words, row.base, row.code, found)
 }
 
-pub fn same_floats(words: &[u32], before: Row, later: Row, found: &[f32]) -> bool {
+pub(crate) fn same_floats(words: &[u32], before: Row, later: Row, found: &[f32]) -> bool {
     let row = told(before, later);
     whole(row, found.len()) & hexlist::rows::same_floats(words, row.base, row.code, found)
 }
 
 // Whether an answer is the one at `at`: the refusal's number and the item's.
-pub fn answers(words: &[u32], at: usize, a: Answer) -> bool {
+pub(crate) fn answers(words: &[u32], at: usize, a: Answer) -> bool {
     (number(a) == word(words, at, 0)) & (item(a) == word(words, at, 1))
 }
