@@ -6,7 +6,7 @@ use crate::SEED;
 use cases::commands::{color, fill, Command, Lists};
 use cases::memory::{as_f32, one_nan};
 use cases::{boxes, floats, lines, segments, Rng};
-use rules::limits::{COMMANDS_MOST, COORD_MOST, COUNT_MOST, EDGE_MOST, TILES_MOST};
+use rules::limits::{COMMANDS_MOST, COORD_MOST, COUNT_MOST, EDGE_MOST, ROOM_MOST, TILES_MOST};
 
 fn bits(line: [f32; 4]) -> [u32; 4] {
     line.map(|v| one_nan(v.to_bits()))
@@ -389,7 +389,7 @@ pub fn hand_out() -> String {
         let counts: Vec<u32> = (0..n)
             .map(|_| match (round % 9, rng.below(5)) {
                 (0, 0) => u32::MAX,
-                (1, 0) => 16_777_216 - rng.below(3) as u32,
+                (1, 0) => ROOM_MOST as u32 - rng.below(3) as u32,
                 (_, 0..=1) => 0,
                 _ => rng.below(9) as u32,
             })
@@ -402,7 +402,7 @@ pub fn hand_out() -> String {
         let room = match rng.below(5) {
             0 => (sum as u32).wrapping_sub(1),
             1 => u32::MAX,
-            2 => 16_777_216,
+            2 => ROOM_MOST as u32,
             _ => sum as u32,
         };
         list.case(&hand_out_case(&counts, &tally, room));
