@@ -1,3 +1,4 @@
+pub mod Past
 pub mod Laws
 pub mod Turn
 pub mod Even

@@ -27,7 +27,9 @@ fn check_fill(segments: usize, area: usize, first: u32, number: u32) -> Verdict
     if area != TILE_SIZE {
         return Verdict::Against(NOT_WHOLE);
     }
-    if (first as usize) + (number as usize) > segments / SEGMENT_FLOATS {
+    // One more than the segments there are.
+    let past = segments / SEGMENT_FLOATS + 1;
+    if (first as usize) + (number as usize) >= past {
         return Verdict::Against(PAST_END);
     }
     Verdict::Fine
