@@ -12,4 +12,5 @@ mod replay;
 mod rooms;
 mod rows;
 
+pub use replay::Tally;
 pub use replay::run;

@@ -3,9 +3,10 @@ use super::rows::Seen;
 use hexlist::words::word;
 ghost use Prim.Native.Nat.{_≤_};
 
-struct Tally {
-    compared: usize,
-    equal: usize,
+// Cases compared, and those found equal.
+pub struct Tally {
+    pub compared: usize,
+    pub equal: usize,
 }
 
 fn one_if(t: bool) -> usize
@@ -31,7 +32,9 @@ fn case(words: &[u32], at: usize) -> Seen {
 }
 
 // Every case. One that doesn't go on would be the last.
-fn replay(words: &[u32]) -> Tally {
+fn replay(words: &[u32]) -> Tally
+    ensures { λ r. ⌜ r .equal ≤ r .compared ⌝ }
+{
     let mut compared = 0;
     let mut equal = 0;
     let mut at = 0;
@@ -48,8 +51,10 @@ fn replay(words: &[u32]) -> Tally {
 }
 
 // Replays standard input, and writes under the list's name how many cases were compared and how many
-// were equal.
-pub fn run(name: &[u8]) {
+// were equal. What it hands back is what it wrote.
+pub fn run(name: &[u8]) -> Tally
+    ensures { λ r. ⌜ r .equal ≤ r .compared ⌝ }
+{
     let mut words = hexlist::input::room();
     let n = hexlist::input::read(&mut words);
     let tally = replay(&words[..n]);
@@ -59,4 +64,5 @@ pub fn run(name: &[u8]) {
     io::write_all(1, b" compared, ");
     io::print_decimal(1, tally.equal as u64);
     io::write_all(1, b" equal\n");
+    tally
 }
