@@ -109,37 +109,65 @@ pub fn trunc(x: f32) -> f32
     }
 }
 
-// The largest whole number that is at most x.
-pub fn floor(x: f32) -> f32
+// Below NEAR in size x + SHIFT lies from 2^23 to 2^24, where the floats are the whole numbers: SHIFT
+// taken off again, a whole number less than 1 away from x is left. Most numbers come this way, with no
+// bits and no shift.
+const NEAR: f32 = 4194304.0;
+
+const SHIFT: f32 = 12582912.0;
+
+// The largest whole number that is at most x, at any size.
+fn floor_far(x: f32) -> f32
     ensures { λ r. ⌜ r ≡ floorOf x ⌝ }
 {
     let t = trunc(x);
     if x < t { t - 1.0 } else { t }
 }
 
+// The largest whole number that is at most x. A whole x, -0 too, is its own.
+pub fn floor(x: f32) -> f32
+    ensures { λ r. ⌜ r ≡ floorOf x ⌝ }
+{
+    if (x < NEAR) & (-NEAR < x) {
+        let r = (x + SHIFT) - SHIFT;
+        if x == r {
+            x
+        } else if x < r {
+            r - 1.0
+        } else {
+            r
+        }
+    } else {
+        floor_far(x)
+    }
+}
+
 // The smallest whole number that is at least x.
 pub fn ceil(x: f32) -> f32
     ensures { λ r. ⌜ r ≡ ceilOf x ⌝ }
 {
-    let t = trunc(x);
-    if t < x { t + 1.0 } else { t }
+    -floor(-x)
 }
 
-// The whole number nearest to x, halves away from zero. What is left of x without its whole part is
-// exact. -0 is what leaves each number as it is, a zero's sign too.
+// From here up every float is a whole number.
+const WHOLE: f32 = 8388608.0;
+
+// The whole number nearest to x, halves away from zero: of x's size, with the sign's bit put back. WHOLE
+// added and taken off again, the nearest whole number is left, of two the even one, so that one more is
+// due where a half was cut.
 pub fn round(x: f32) -> f32
     ensures { λ r. ⌜ r ≡ roundOf x ⌝ }
 {
-    let t = trunc(x);
-    let rest = x - t;
-    let step = if 0.5 <= rest {
-        1.0
-    } else if rest <= -0.5 {
-        -1.0
+    if (x < WHOLE) & (-WHOLE < x) {
+        let b: u32 = f32::to_bits(x);
+        let low: u32 = b % 0x8000_0000;
+        let size = f32::from_bits(low);
+        let even = (size + WHOLE) - WHOLE;
+        let n = if 0.5 <= size - even { even + 1.0 } else { even };
+        f32::from_bits(f32::to_bits(n) + (b - low))
     } else {
-        -0.0
-    };
-    t + step
+        x
+    }
 }
 
 // x `as u32`: cut toward zero, brought to the nearest end of the range, and 0 for a NaN. A pattern
