@@ -130,13 +130,8 @@ pub fn floor(x: f32) -> f32
 {
     if (x < NEAR) & (-NEAR < x) {
         let r = (x + SHIFT) - SHIFT;
-        if x == r {
-            x
-        } else if x < r {
-            r - 1.0
-        } else {
-            r
-        }
+        let below = if x < r { r - 1.0 } else { r };
+        if x == r { x } else { below }
     } else {
         floor_far(x)
     }
