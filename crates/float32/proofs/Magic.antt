@@ -3,18 +3,18 @@
 use mathlib.Core.Path.{_≡_, refl, sym, ap, _∙_, subst}
 use mathlib.Core.Bool.{Bool, true, false, not, _&&_, _||_, Bool·beq, cond, true≢false, false≢true}
 use mathlib.Core.Logic.{_⊎_, inl, inr}
-use Prim.Native.Nat.{ℕ, zero, suc, _+_, _-_, _*_, _/_, _%_, _^_, _≤_, _<_, compare, Ordering, Ordering·lt, Ordering·eq, Ordering·gt}
+use Prim.Native.Nat.{ℕ, zero, suc, _+_, _-_, _*_, _/_, _%_, _^_, _≤_, _<_, min, compare, Ordering, Ordering·lt, Ordering·eq, Ordering·gt}
 use native.Mathlib.Nat.{mul-div-cancel, eq-of-mul-eq-mul-right, le-refl, le-trans, le-of-eq, le-of-lt, le-antisymm, lt-of-lt-of-le, lt-of-le-of-lt, lt-irrefl, mul-one, one-mul, mul-assoc, mul-comm, mul-right-comm, mul-pos, mul-sub, add-mul, div-one, div-eq-of-lt-le, le-div-iff-mul-le, div-lt-iff-lt-mul, mul-le-mul-right, mul-lt-mul-of-pos-right, lt-of-mul-lt-mul-right, le-of-mul-le-mul-right}
 use native.Mathlib.Omega.{arith}
-use lib.Dec.{T, ltb, eqb, lit<, lit≤}
+use lib.Dec.{T, ltb, eqb, le→leb, lt→ltb, lit<, lit≤}
 use lib.Pow.{pow-pos, pow-mono}
-use lib.IntN.{ℤ, pos, negsuc}
-use lib.Ieee.{Float, nan, inf, fin, binary32, up, down, size, nearest, odd, units, round, add, sub, neg, sum, level, lt, eq, fits}
+use lib.IntN.{ℤ, pos, negsuc, negℤ}
+use lib.Ieee.{Float, nan, inf, fin, binary32, up, down, size, nearest, odd, units, round, add, sub, neg, sum, level, lt, eq, fits, inFloat, inSigned, inUnsigned, ofInt, toSigned, toUnsigned}
 use lib.Ieee.Digits.{size-lt, size-le}
 use lib.Ieee.Fits.{down-pos, core, round-is, round-fits, nearest-le}
 use lib.Ieee.Exact.{HasValue, units-val}
 use lib.Ieee.Nearest.{closest, closest-mono, closest-same}
-use lib.Ieee.Back.{whole-unique}
+use lib.Ieee.Back.{whole-unique, unsigned-back, positive-back, negative-back}
 use lib.Ieee.Scale.{round-same}
 use borrow.Author.Tests.{lt-ltb, le-ltb, ltb-true, ltb-false, eq-eqb, eqb-true}
 use Rattle.float32.specs.Meaning.{whole, unit, up-div, floorOf, ceilOf}
@@ -160,20 +160,21 @@ own s m e n h g =
     (refl, mul-one (m * up e) ∙ g ∙ ap (λ (z : ℕ). z * down e) (sym q))
     (trunc-exact s m e h)
 
-pub itself : (x r : Float) (t : Bool) (n : ℕ) → T (fits binary32 x) → HasValue r t n 1 → eq x r ≡ true → x ≡ floorOf x
-unfolding eq floorOf
-itself nan r t n h v g = absurd (false≢true g)
-itself (inf s) nan t n h v g = absurd v
-itself (inf s) (inf u) t n h v g = absurd v
-itself (inf s) (fin u k d) t n h v g = absurd (false≢true g)
-itself (fin s m e) nan t n h v g = absurd v
-itself (fin s m e) (inf u) t n h v g = absurd v
-itself (fin false m e) (fin u k d) t n h v g =
-    own false m e n h (same-size (m * up e) (down e) (k * up d) (down d) n (down-pos d) (eqb-true (m * up e * down d) (k * up d * down e) (first _ _ g)) (v .1))
-itself (fin true m e) (fin u k d) t n h v g =
-    let w : m * up e ≡ n * down e = same-size (m * up e) (down e) (k * up d) (down d) n (down-pos d) (eqb-true (m * up e * down d) (k * up d * down e) (first _ _ g)) (v .1) in
-    let q : m * up e / down e ≡ n = ap (λ (z : ℕ). z / down e) w ∙ mul-div-cancel n (down-pos e) in
-    own true m e n h w ∙ sym (ap (whole true) (up-same (m * up e) (down e) (down-pos e) (le-of-eq (w ∙ ap (λ (z : ℕ). z * down e) (sym q)))))
+pub eq-size : (s : Bool) (m : ℕ) (e : ℤ) (r : Float) (t : Bool) (n : ℕ) → HasValue r t n 1 → eq (fin s m e) r ≡ true → m * up e ≡ n * down e
+unfolding eq
+eq-size s m e nan t n v g = absurd v
+eq-size s m e (inf u) t n v g = absurd v
+eq-size s m e (fin u k d) t n v g = same-size (m * up e) (down e) (k * up d) (down d) n (down-pos d) (eqb-true (m * up e * down d) (k * up d * down e) (first _ _ g)) (v .1)
+
+whole-part : (m : ℕ) (e : ℤ) (n : ℕ) → m * up e ≡ n * down e → m * up e / down e ≡ n
+whole-part m e n w = ap (λ (z : ℕ). z / down e) w ∙ mul-div-cancel n (down-pos e)
+
+itself : (s : Bool) (m : ℕ) (e : ℤ) (r : Float) (t : Bool) (n : ℕ) → T (fits binary32 (fin s m e)) → HasValue r t n 1 → eq (fin s m e) r ≡ true → fin s m e ≡ floorOf (fin s m e)
+unfolding floorOf
+itself false m e r t n h v g = own false m e n h (eq-size false m e r t n v g)
+itself true m e r t n h v g =
+    let w = eq-size true m e r t n v g in
+    own true m e n h w ∙ sym (ap (whole true) (up-same (m * up e) (down e) (down-pos e) (le-of-eq (w ∙ ap (λ (z : ℕ). z * down e) (sym (whole-part m e n w))))))
 
 -- A / D, and A / D taken up, by what lies below and above
 pub div-is : (A D n : ℕ) → n * D ≤ A → A < n * D + D → A / D ≡ n
@@ -226,7 +227,7 @@ floor-plus m e h l =
     λ g t. one-off n (near (fin false m e)) v ∙ below A D n (ltb-true A (n * D) (sym (lt-plus m e (near (fin false m e)) n v) ∙ t)) (b .4) in
     let hi : eq (fin false m e) (near (fin false m e)) ≡ false → lt (fin false m e) (near (fin false m e)) ≡ false → near (fin false m e) ≡ whole false (A / D) =
     λ g t. b .1 ∙ ap (whole false) (sym (div-is A D n (ltb-false A (n * D) (sym (lt-plus m e (near (fin false m e)) n v) ∙ t)) (b .3))) in
-    record { same = itself (fin false m e) (near (fin false m e)) false n h v; less = lo; more = hi }
+    record { same = itself false m e (near (fin false m e)) false n h v; less = lo; more = hi }
   where
     below : (A D n : ℕ) → A < n * D → n * D < A + D → cond (ltb n 1) (whole true (1 - n)) (whole false (n - 1)) ≡ whole false (A / D)
     below A D zero u b = absurd (none A D u)
@@ -242,7 +243,7 @@ floor-plus m e h l =
 -- ---- x below 0, or -0
 near-minus : (m : ℕ) (e : ℤ) → m * up e < 2 ^ 22 * down e
     → ((near (fin true m e) ≡ whole false 0) × (m * up e < down e))
-    ⊎ ((n : ℕ) × (near (fin true m e) ≡ whole true n) × (n ≤ 2 ^ 24) × (m * up e < n * down e + down e) × (n * down e < m * up e + down e))
+    ⊎ ((n : ℕ) × (near (fin true m e) ≡ whole true n) × (n ≤ 2 ^ 24) × (m * up e < n * down e + down e) × (n * down e < m * up e + down e) × (0 < n))
 near-minus m e l =
     let A = m * up e in
     let D = down e in
@@ -256,7 +257,7 @@ near-minus m e l =
     go : (N : ℕ) → near (fin true m e) ≡ cond (ltb N 12582912) (whole true (12582912 - N)) (whole false (N - 12582912))
         → 12582912 * down e - m * up e < N * down e + down e → N * down e < 12582912 * down e - m * up e + down e → (N < 12582912) ⊎ (12582912 ≤ N)
         → ((near (fin true m e) ≡ whole false 0) × (m * up e < down e))
-        ⊎ ((n : ℕ) × (near (fin true m e) ≡ whole true n) × (n ≤ 2 ^ 24) × (m * up e < n * down e + down e) × (n * down e < m * up e + down e))
+        ⊎ ((n : ℕ) × (near (fin true m e) ≡ whole true n) × (n ≤ 2 ^ 24) × (m * up e < n * down e + down e) × (n * down e < m * up e + down e) × (0 < n))
     go N i a b (inr g) =
         let D = down e in
         let n = N - 12582912 in
@@ -271,13 +272,16 @@ near-minus m e l =
         let D = down e in
         let n = 12582912 - N in
         let j : N * D + n * D ≡ 12582912 * D = sym (add-mul N n D) ∙ ap (λ (z : ℕ). z * D) (back N g) in
-        inr (n, i ∙ rw (lt-ltb N 12582912 g) refl, less N, omega arith, omega arith)
+        inr (n, i ∙ rw (lt-ltb N 12582912 g) refl, less N, omega arith, omega arith, some N g)
       where
         back : (N : ℕ) → N < 12582912 → N + (12582912 - N) ≡ 12582912
         back N h = omega arith
 
         less : (N : ℕ) → 12582912 - N ≤ 2 ^ 24
         less N = omega arith
+
+        some : (N : ℕ) → N < 12582912 → 0 < 12582912 - N
+        some N h = omega arith
 
 zero-is : whole false 0 ≡ fin false 0 (pos 0)
 unfolding round
@@ -296,7 +300,7 @@ floor-zero m e r h i l =
     λ g t.
     let z : A ≡ 0 = none A D (ltb-false 0 (A * 1 + 0 * 1 * D) (sym (ap (λ (x : Float). lt (fin true m e) x) i) ∙ t)) in
     absurd (true≢false (sym (level-zero A D z) ∙ sym (ap (λ (x : Float). eq (fin true m e) x) i) ∙ g)) in
-    record { same = itself (fin true m e) r false 0 h v; less = lo; more = hi }
+    record { same = itself true m e r false 0 h v; less = lo; more = hi }
   where
     one : (A D : ℕ) → 0 < A * 1 + 0 * 1 * D → 1 * D < A + D
     one A D h = omega arith
@@ -318,7 +322,7 @@ unfolding floorOf
 floor-minus m e h l = go (near-minus m e l)
   where
     go : ((near (fin true m e) ≡ whole false 0) × (m * up e < down e))
-        ⊎ ((n : ℕ) × (near (fin true m e) ≡ whole true n) × (n ≤ 2 ^ 24) × (m * up e < n * down e + down e) × (n * down e < m * up e + down e))
+        ⊎ ((n : ℕ) × (near (fin true m e) ≡ whole true n) × (n ≤ 2 ^ 24) × (m * up e < n * down e + down e) × (n * down e < m * up e + down e) × (0 < n))
         → Floored (fin true m e) (near (fin true m e))
     go (inl w) = floor-zero m e (near (fin true m e)) h (w .0 ∙ zero-is) (w .1)
     go (inr b) =
@@ -331,7 +335,7 @@ floor-minus m e h l = go (near-minus m e l)
         λ g t. one-less r n v ∙ ap (whole true) (sym (more A D n (down-pos e) (ltb-true (n * D) A (sym (lt-minus m e r n v) ∙ t)) (b .3))) in
         let hi : eq (fin true m e) r ≡ false → lt (fin true m e) r ≡ false → r ≡ whole true (up-div A D) =
         λ g t. b .1 ∙ ap (whole true) (sym (up-is A D n (down-pos e) (ltb-false (n * D) A (sym (lt-minus m e r n v) ∙ t)) (b .4))) in
-        record { same = itself (fin true m e) r true n h v; less = lo; more = hi }
+        record { same = itself true m e r true n h v; less = lo; more = hi }
       where
         more : (A D n : ℕ) → 0 < D → n * D < A → A < n * D + D → up-div A D ≡ n + 1
         more A D n p u w =
@@ -349,6 +353,71 @@ floor-near (inf true) h l u = absurd (false≢true u)
 floor-near (inf false) h l u = absurd (false≢true l)
 floor-near (fin false m e) h l u = floor-plus m e h (ltb-true (m * up e) (4194304 * down e) (sym (lt-plus m e (limit false) 4194304 (refl, refl)) ∙ l))
 floor-near (fin true m e) h l u = floor-minus m e h (ltb-true (m * up e) (4194304 * down e) (sym (gt-minus m e (limit true) 4194304 (refl, refl)) ∙ u))
+
+-- ---- a whole x as an integer, by what is left
+abbrev Cast : Float → Float → Type 0
+Cast x r = T (inSigned binary32 31 r) × (toSigned 31 r ≡ toSigned 31 x)
+
+cut-is : (s : Bool) (m : ℕ) (e : ℤ) (n : ℕ) → m * up e ≡ n * down e → n ≤ 2 ^ 24 → toSigned 31 (fin s m e) ≡ cond s (negℤ (pos n)) (pos n)
+unfolding toSigned
+cut-is s m e n w l =
+    let a : min n (2 ^ 31) ≡ n = omega arith in
+    let b : min n (2 ^ 31 - 1) ≡ n = omega arith in
+    rw (whole-part m e n w, a, b) refl
+
+plus-cast : (x : Float) (n : ℕ) → n ≤ 2 ^ 24 → toSigned 31 x ≡ pos n → Cast x (whole false n)
+unfolding inFloat ofInt
+plus-cast x n l g = let b = positive-back binary32 31 n (le→leb n (2 ^ 24) l) (lt-of-le-of-lt l (lit< tt)) in (b .0, b .1 ∙ sym g)
+
+minus-cast : (x : Float) (n : ℕ) → 0 < n → n ≤ 2 ^ 24 → toSigned 31 x ≡ negℤ (pos n) → Cast x (whole true n)
+unfolding inFloat ofInt
+minus-cast x zero p l g = absurd (lt-irrefl 0 p)
+minus-cast x (suc n) p l g = let b = negative-back binary32 31 n (lt→ltb n (2 ^ 24) l) (le-trans l (lit≤ tt)) in (b .0, b .1 ∙ sym g)
+
+pub near-cast : (x : Float) → eq x (near x) ≡ true → lt x (limit false) ≡ true → lt (limit true) x ≡ true → Cast x (near x)
+unfolding lt
+near-cast nan g l u = absurd (false≢true l)
+near-cast (inf true) g l u = absurd (false≢true u)
+near-cast (inf false) g l u = absurd (false≢true l)
+near-cast (fin false m e) g l u =
+    let a : m * up e < 4194304 * down e = ltb-true (m * up e) (4194304 * down e) (sym (lt-plus m e (limit false) 4194304 (refl, refl)) ∙ l) in
+    let b = shifted-plus 3 22 m e (lit≤ tt) (omega arith) in
+    let v : HasValue (near (fin false m e)) false (b .0) 1 = subst (λ (x : Float). HasValue x false (b .0) 1) (sym (b .1)) (whole-value false (b .0) (b .2)) in
+    subst (Cast (fin false m e)) (sym (b .1)) (plus-cast (fin false m e) (b .0) (b .2) (cut-is false m e (b .0) (eq-size false m e (near (fin false m e)) false (b .0) v g) (b .2)))
+near-cast (fin true m e) g l u = go (near-minus m e (ltb-true (m * up e) (4194304 * down e) (sym (gt-minus m e (limit true) 4194304 (refl, refl)) ∙ u)))
+  where
+    go : ((near (fin true m e) ≡ whole false 0) × (m * up e < down e))
+        ⊎ ((n : ℕ) × (near (fin true m e) ≡ whole true n) × (n ≤ 2 ^ 24) × (m * up e < n * down e + down e) × (n * down e < m * up e + down e) × (0 < n))
+        → Cast (fin true m e) (near (fin true m e))
+    go (inl w) =
+        let v : HasValue (near (fin true m e)) false 0 1 = subst (λ (x : Float). HasValue x false 0 1) (sym (w .0)) (whole-value false 0 (lit≤ tt)) in
+        subst (Cast (fin true m e)) (sym (w .0)) (plus-cast (fin true m e) 0 (lit≤ tt) (cut-is true m e 0 (eq-size true m e (near (fin true m e)) false 0 v g) (lit≤ tt)))
+    go (inr b) =
+        let n = b .0 in
+        let v : HasValue (near (fin true m e)) true n 1 = subst (λ (x : Float). HasValue x true n 1) (sym (b .1)) (whole-value true n (b .2)) in
+        subst (Cast (fin true m e)) (sym (b .1)) (minus-cast (fin true m e) n (b .5) (b .2) (cut-is true m e n (eq-size true m e (near (fin true m e)) true n v g) (b .2)))
+
+count-back : (n : ℕ) → n ≤ 2 ^ 24 → T (inUnsigned binary32 32 (whole false n)) × (toUnsigned 32 (whole false n) ≡ n)
+unfolding inFloat ofInt
+count-back n l = unsigned-back binary32 32 n (le→leb n (2 ^ 24) l) (lt-of-le-of-lt l (lit< tt))
+
+-- and of one above 0 as one with no sign
+pub near-count : (x : Float) → eq x (near x) ≡ true → lt x (limit false) ≡ true → lt (fin false 0 (pos 0)) x ≡ true
+    → T (inUnsigned binary32 32 (near x)) × (toUnsigned 32 (near x) ≡ toUnsigned 32 x)
+unfolding lt toUnsigned
+near-count nan g l u = absurd (false≢true l)
+near-count (inf true) g l u = absurd (false≢true u)
+near-count (inf false) g l u = absurd (false≢true l)
+near-count (fin true m e) g l u = absurd (false≢true u)
+near-count (fin false m e) g l u =
+    let a : m * up e < 4194304 * down e = ltb-true (m * up e) (4194304 * down e) (sym (lt-plus m e (limit false) 4194304 (refl, refl)) ∙ l) in
+    let b = shifted-plus 3 22 m e (lit≤ tt) (omega arith) in
+    let n = b .0 in
+    let v : HasValue (near (fin false m e)) false n 1 = subst (λ (x : Float). HasValue x false n 1) (sym (b .1)) (whole-value false n (b .2)) in
+    let c : min n (2 ^ 32 - 1) ≡ n = omega (arith, b .2) in
+    let w : toUnsigned 32 (fin false m e) ≡ n = ap (λ (z : ℕ). min z (2 ^ 32 - 1)) (whole-part m e n (eq-size false m e (near (fin false m e)) false n v g)) ∙ c in
+    let i = count-back n (b .2) in
+    (subst (λ (r : Float). T (inUnsigned binary32 32 r)) (sym (b .1)) (i .0), ap (toUnsigned 32) (b .1) ∙ i .1 ∙ sym w)
 
 -- ---- a rounded fraction with its sign turned
 odd-turned : (d : ℕ) (s : Bool) (q k l : ℕ) → neg (odd d s q k l) ≡ odd d (not s) q k l

@@ -167,8 +167,8 @@ pub fn round(x: f32) -> f32
 
 // x `as u32`: cut toward zero, brought to the nearest end of the range, and 0 for a NaN. A pattern
 // below that of 2^31 is that of a number from 0 up: its 24 digits times 2^(e - 150). Where e is below
-// 127 that is below 1, and the shift by 31 leaves nothing.
-pub fn to_u32(x: f32) -> u32
+// 127 that is below 1, and the shift by 31 leaves nothing. At any size, by its bits.
+fn to_u32_far(x: f32) -> u32
     ensures { λ r. ⌜ r ≡ Ieee.toUnsigned 32 x ⌝ }
 {
     if x != x {
@@ -189,8 +189,21 @@ pub fn to_u32(x: f32) -> u32
     }
 }
 
-// x `as i32`: cut toward zero, brought to the nearest end of the range, and 0 for a NaN.
-pub fn to_i32(x: f32) -> i32
+// x `as u32`. A whole x near 0 is one as it is.
+pub fn to_u32(x: f32) -> u32
+    ensures { λ r. ⌜ r ≡ Ieee.toUnsigned 32 x ⌝ }
+{
+    let r = (x + SHIFT) - SHIFT;
+    if (x == r) & ((x < NEAR) & (0.0 < x)) {
+        r as u32
+    } else {
+        to_u32_far(x)
+    }
+}
+
+// x `as i32`: cut toward zero, brought to the nearest end of the range, and 0 for a NaN. At any size, by
+// its bits.
+fn to_i32_far(x: f32) -> i32
     ensures { λ r. ⌜ r ≡ Ieee.toSigned 31 x ⌝ }
 {
     if x != x {
@@ -210,6 +223,18 @@ pub fn to_i32(x: f32) -> i32
         2147483647
     } else {
         -2147483648
+    }
+}
+
+// x `as i32`. A whole x near 0, as a walk's columns and rows are, is one as it is. r is no -0.
+pub fn to_i32(x: f32) -> i32
+    ensures { λ r. ⌜ r ≡ Ieee.toSigned 31 x ⌝ }
+{
+    let r = (x + SHIFT) - SHIFT;
+    if (x == r) & ((x < NEAR) & (-NEAR < x)) {
+        r as i32
+    } else {
+        to_i32_far(x)
     }
 }
 
