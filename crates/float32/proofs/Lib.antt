@@ -8,6 +8,8 @@ pub mod Nearest
 pub mod Casts
 pub mod Order
 pub mod Laws
+pub mod Magic
+pub mod Halves
 pub mod Examples
 pub mod Finite
 pub mod Ints

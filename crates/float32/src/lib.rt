@@ -109,43 +109,66 @@ pub fn trunc(x: f32) -> f32
     }
 }
 
-// The largest whole number that is at most x.
-pub fn floor(x: f32) -> f32
+// Below NEAR in size x + SHIFT lies from 2^23 to 2^24, where the floats are the whole numbers: SHIFT
+// taken off again, a whole number less than 1 away from x is left. Most numbers come this way, with no
+// bits and no shift.
+const NEAR: f32 = 4194304.0;
+
+const SHIFT: f32 = 12582912.0;
+
+// The largest whole number that is at most x, at any size.
+fn floor_far(x: f32) -> f32
     ensures { λ r. ⌜ r ≡ floorOf x ⌝ }
 {
     let t = trunc(x);
     if x < t { t - 1.0 } else { t }
 }
 
+// The largest whole number that is at most x. A whole x, -0 too, is its own.
+pub fn floor(x: f32) -> f32
+    ensures { λ r. ⌜ r ≡ floorOf x ⌝ }
+{
+    if (x < NEAR) & (-NEAR < x) {
+        let r = (x + SHIFT) - SHIFT;
+        let below = if x < r { r - 1.0 } else { r };
+        if x == r { x } else { below }
+    } else {
+        floor_far(x)
+    }
+}
+
 // The smallest whole number that is at least x.
 pub fn ceil(x: f32) -> f32
     ensures { λ r. ⌜ r ≡ ceilOf x ⌝ }
 {
-    let t = trunc(x);
-    if t < x { t + 1.0 } else { t }
+    -floor(-x)
 }
 
-// The whole number nearest to x, halves away from zero. What is left of x without its whole part is
-// exact. -0 is what leaves each number as it is, a zero's sign too.
+// From here up every float is a whole number.
+const WHOLE: f32 = 8388608.0;
+
+// The whole number nearest to x, halves away from zero: of x's size, with the sign's bit put back. WHOLE
+// added and taken off again, the nearest whole number is left, of two the even one, so that one more is
+// due where a half was cut.
 pub fn round(x: f32) -> f32
     ensures { λ r. ⌜ r ≡ roundOf x ⌝ }
 {
-    let t = trunc(x);
-    let rest = x - t;
-    let step = if 0.5 <= rest {
-        1.0
-    } else if rest <= -0.5 {
-        -1.0
+    if (x < WHOLE) & (-WHOLE < x) {
+        let b: u32 = f32::to_bits(x);
+        let low: u32 = b % 0x8000_0000;
+        let size = f32::from_bits(low);
+        let even = (size + WHOLE) - WHOLE;
+        let n = if 0.5 <= size - even { even + 1.0 } else { even };
+        f32::from_bits(f32::to_bits(n) + (b - low))
     } else {
-        -0.0
-    };
-    t + step
+        x
+    }
 }
 
 // x `as u32`: cut toward zero, brought to the nearest end of the range, and 0 for a NaN. A pattern
 // below that of 2^31 is that of a number from 0 up: its 24 digits times 2^(e - 150). Where e is below
-// 127 that is below 1, and the shift by 31 leaves nothing.
-pub fn to_u32(x: f32) -> u32
+// 127 that is below 1, and the shift by 31 leaves nothing. At any size, by its bits.
+fn to_u32_far(x: f32) -> u32
     ensures { λ r. ⌜ r ≡ Ieee.toUnsigned 32 x ⌝ }
 {
     if x != x {
@@ -166,8 +189,21 @@ pub fn to_u32(x: f32) -> u32
     }
 }
 
-// x `as i32`: cut toward zero, brought to the nearest end of the range, and 0 for a NaN.
-pub fn to_i32(x: f32) -> i32
+// x `as u32`. A whole x near 0 is one as it is.
+pub fn to_u32(x: f32) -> u32
+    ensures { λ r. ⌜ r ≡ Ieee.toUnsigned 32 x ⌝ }
+{
+    let r = (x + SHIFT) - SHIFT;
+    if (x == r) & ((x < NEAR) & (0.0 < x)) {
+        r as u32
+    } else {
+        to_u32_far(x)
+    }
+}
+
+// x `as i32`: cut toward zero, brought to the nearest end of the range, and 0 for a NaN. At any size, by
+// its bits.
+fn to_i32_far(x: f32) -> i32
     ensures { λ r. ⌜ r ≡ Ieee.toSigned 31 x ⌝ }
 {
     if x != x {
@@ -187,6 +223,18 @@ pub fn to_i32(x: f32) -> i32
         2147483647
     } else {
         -2147483648
+    }
+}
+
+// x `as i32`. A whole x near 0, as a walk's columns and rows are, is one as it is. r is no -0.
+pub fn to_i32(x: f32) -> i32
+    ensures { λ r. ⌜ r ≡ Ieee.toSigned 31 x ⌝ }
+{
+    let r = (x + SHIFT) - SHIFT;
+    if (x == r) & ((x < NEAR) & (-NEAR < x)) {
+        r as i32
+    } else {
+        to_i32_far(x)
     }
 }
 
