@@ -64,7 +64,7 @@ pub data HandCase (room : ℕ) (ns kept : List ℕ) : Type 0 where
   over : length ns ≡ length kept → length ns ≤ mostTiles → min room mostSlots < sum ns → handOutOf room ns kept ≡ outOf (Refused noRoom 0) ns kept → HandCase room ns kept
   fine : length ns ≡ length kept → length ns ≤ mostTiles → sum ns ≤ min room mostSlots → handOutOf room ns kept ≡ outOf Done (hand 0 ns) ns → HandCase room ns kept
 
-hand-case : (room : ℕ) (ns kept : List ℕ) → HandCase room ns kept
+pub hand-case : (room : ℕ) (ns kept : List ℕ) → HandCase room ns kept
 unfolding handOutOf
 hand-case room ns kept = go (ℕ-discrete (length ns) (length kept)) (decLt mostTiles (length ns)) (decLt room (sum ns)) (decLt mostSlots (sum ns))
   where

@@ -11,6 +11,9 @@
 --     OneAnswer             one answer only; the cheats
 --     Exact, ExactRuns, ExactLooks, ExactPaths, ExactStops, ExactCommands   refusals are exact
 --     Frame                 these put together
+--     Framing               the call for a frame: its ways, what it leaves, isolation between frames, one answer
+--     FrameNumbers          which numbers each part of a frame refuses with
+--     FrameTraces           frames of one line, computed
 pub mod Acts
 pub mod Own
 pub mod Counting
@@ -30,3 +33,6 @@ pub mod ExactPaths
 pub mod ExactStops
 pub mod ExactCommands
 pub mod Frame
+pub mod Framing
+pub mod FrameNumbers
+pub mod FrameTraces

@@ -176,7 +176,7 @@ module _ (b : ℕ) (nos : List ℕ) (coords : List Float) (paths : List ℕ) (n 
   cs-long = ap length (h .counts) ∙ length-tally (zeros n) (tilesEv es) ∙ length-replicate n 0
 
   -- reference k's tile holds a word that reads back as its first slot
-  word-back : (k : ℕ) → k < m
+  pub word-back : (k : ℕ) → k < m
       → (2 ^ 31 ≤ getD (hand 0 cs) (getD (tilesEv es) k 0) 0) × (2 ^ 32 - 1 - getD (hand 0 cs) (getD (tilesEv es) k 0) 0 ≡ first cs (getD (tilesEv es) k 0))
   word-back k q =
       let t = getD (tilesEv es) k 0 in

@@ -135,7 +135,7 @@ module _ (b : ℕ) (nos : List ℕ) (coords : List Float) (paths : List ℕ) (n 
   pub in-list : b ≤ length nos
   in-list = went .ranged .numbered
 
-  pub events : List Event
+  unfoldable pub events : List Event
   events = eventsOf nos coords paths (from 0 b)
 
   pub counted-all : Counted nos coords paths n passed (length refs / refWords) (from 0 b) (startOf n refs) (stOf bs cs rs m)

@@ -3,6 +3,7 @@
 --     Events     the references of lines, in order, apart from memory
 --     Refs       references as they stand in memory; what counting all lines leaves; the sums
 --     Stray      no stray piece
+--     Framing    the ways in which a frame ends, and what stands then
 --     Batches    lines, references and screen tiles cut into batches
 --     Starred    the table of starred cases
 --     Promises   the promises of the public calls, named
@@ -12,6 +13,7 @@ pub mod Drawn
 pub mod Events
 pub mod Refs
 pub mod Stray
+pub mod Framing
 pub mod Batches
 pub mod Starred
 pub mod Promises

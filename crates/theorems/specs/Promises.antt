@@ -15,6 +15,8 @@ use Rattle.backdrop.specs.Backdrop as Backdrop
 use Rattle.hand_out.specs.HandOut as HandOut
 use Rattle.path_tiling.specs.Look.{Lent}
 use Rattle.path_tiling.specs.Tiling.{tiled, tiledOf}
+use Rattle.frame.specs.Frame as Frame
+use Rattle.frame.specs.declared.kinds.Framed.{Framed}
 use Rattle.coverage.specs.Fill.{filled, fillOf}
 use Rattle.fine.specs.Fine.{shown, fineOf}
 
@@ -33,6 +35,11 @@ HandMet room ns kept r ns′ kept′ = HandOut.outOf r ns′ kept′ ≡ HandOut
 -- tiling
 abbrev pub TileMet : ℕ → ℕ → Lent → (segs : List Float) → Answer → (segs′ : List Float) → Type 0
 TileMet from to L segs r segs′ = tiled r segs′ ≡ tiledOf from to L segs
+
+-- a frame
+abbrev pub FrameMet : (nos : List ℕ) (coords : List Float) (paths : List ℕ) (bs : List ℤ) (ts ks rs : List ℕ) (sg : List Float) → Framed
+    → (bs′ : List ℤ) (ts′ ks′ rs′ : List ℕ) (sg′ : List Float) → Type 0
+FrameMet nos coords paths bs ts ks rs sg r bs′ ts′ ks′ rs′ sg′ = Frame.outOf r bs′ ts′ ks′ rs′ sg′ ≡ Frame.frameOf nos coords paths bs ts ks rs sg
 
 -- coverage
 abbrev pub FillMet : List Float → ℕ → ℕ → Bool → ℤ → Float → Float → (area : List Float) → Answer → (area′ : List Float) → Type 0

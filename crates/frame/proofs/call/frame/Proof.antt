@@ -1,0 +1,74 @@
+-- `frame::call::frame` meets its contract: by what the checks find.
+-- Assumes nothing.
+use Rattle.frame.proofs.FrameLaws.{frame-no, frame-path, frame-goes}
+use borrow.Author.Needs.{needs}
+use Rattle.frame.proofs.call.frame.Statement.{statement}
+use Rattle.frame.proofs.call.frame.Tie as tie
+
+check-lent-requires : tie.Need-check-lent-requires
+check-lent-requires c κs = search needs
+
+enum-known-v : tie.Need-enum-known-v
+enum-known-v c = search needs
+
+returns : tie.Need-returns
+returns c =
+    frame-no _ _ _ _ _ _ _ _ (c .before .before .before .check-lent .result) (c .before .before .before .check-lent .ensures) _ (c .before .v .given .1)
+
+enum-told : tie.Need-enum-told
+enum-told c = search needs
+
+check-paths-requires : tie.Need-check-paths-requires
+check-paths-requires c κs = search needs
+
+enum-known-a : tie.Need-enum-known-a
+enum-known-a c = search needs
+
+returns-2 : tie.Need-returns-2
+returns-2 c =
+    frame-path _ _ _ _ _ _ _ _ (c .before .before .before .before .before .before .check-lent .result) (c .before .before .before .before .before .before .check-lent .ensures) (c .before .before .before .before .enum-told .given .1) (c .before .before .before .check-paths .result) (c .before .before .before .check-paths .ensures) _ _ (c .before .a .given .1)
+
+enum-told-2 : tie.Need-enum-told-2
+enum-told-2 c = search needs
+
+draw-requires : tie.Need-draw-requires
+draw-requires c κs = search needs
+
+same-length : tie.Need-same-length
+same-length c = search needs
+
+same-length-2 : tie.Need-same-length-2
+same-length-2 c = search needs
+
+same-length-3 : tie.Need-same-length-3
+same-length-3 c = search needs
+
+same-length-4 : tie.Need-same-length-4
+same-length-4 c = search needs
+
+same-length-5 : tie.Need-same-length-5
+same-length-5 c = search needs
+
+returns-3 : tie.Need-returns-3
+returns-3 c =
+    frame-goes _ _ _ _ _ _ _ _ (c .before .before .before .before .before .before .before .before .before .before .before .before .before .before .before .before .before .before .before .before .check-lent .result) (c .before .before .before .before .before .before .before .before .before .before .before .before .before .before .before .before .before .before .before .before .check-lent .ensures) (c .before .before .before .before .before .before .before .before .before .before .before .before .before .before .before .before .before .before .enum-told .given .1) (c .before .before .before .before .before .before .before .before .before .before .before .before .before .before .before .before .before .check-paths .result) (c .before .before .before .before .before .before .before .before .before .before .before .before .before .before .before .before .before .check-paths .ensures) _ (c .before .before .before .before .before .before .before .before .before .before .before .before .before .before .before .enum-told2 .given .1) (c .before .before .before .before .before .before .before .before .before .draw .ensures)
+
+pub frame-spec : {M : Type 1} → statement M
+frame-spec =
+    tie.close
+    (tie.spec
+    check-lent-requires
+    enum-known-v
+    returns
+    enum-told
+    check-paths-requires
+    enum-known-a
+    returns-2
+    enum-told-2
+    draw-requires
+    same-length
+    same-length-2
+    same-length-3
+    same-length-4
+    same-length-5
+    returns-3)

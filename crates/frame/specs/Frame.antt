@@ -1,0 +1,121 @@
+-- One call for a frame: the stages' own definitions one after another, up to the first that refuses. docs/RULES.md, "A frame". Definitions only.
+use mathlib.Core.List.{List, [], _∷_}
+use Prim.Native.Nat.{ℕ, _/_, _%_}
+use lib.Dec.{eqb}
+use lib.ListN.{length, replicate}
+use lib.IntN.{ℤ, pos}
+use lib.Ieee.{Float}
+use Rattle.panel.specs.Refusals.{doneNo, notWhole}
+use Rattle.panel.specs.Widths.{lineFloats, refWords, segmentFloats}
+use Rattle.panel.specs.Kinds.{runningOf}
+use Rattle.panel.specs.Checks.{Check, check, firstNo, unless}
+use Rattle.panel.specs.Paths.{pathsAnswer}
+use Rattle.panel.specs.declared.kinds.Running.{Running}
+use Rattle.panel.specs.declared.kinds.Answer.{Answer}
+use Rattle.panel.specs.declared.kinds.Answer.the-variants as Answer
+use Rattle.path_count.specs.Count.{counted}
+use Rattle.path_count.specs.declared.kinds.Counted.{Counted}
+use Rattle.path_count.specs.declared.kinds.Counted.the-variants as Counted
+use Rattle.backdrop.specs.Backdrop as Backdrop
+use Rattle.hand_out.specs.HandOut as HandOut
+use Rattle.path_tiling.specs.Look.{lent}
+use Rattle.path_tiling.specs.Tiling.{slotsOf, tiledOf}
+use Rattle.frame.specs.declared.kinds.Stage.{Stage}
+use Rattle.frame.specs.declared.kinds.Stage.the-variants as Stage
+use Rattle.frame.specs.declared.kinds.Framed.{Framed}
+use Rattle.frame.specs.declared.kinds.Framed.the-variants.{Done, Refused}
+
+-- ---- the answer on paper
+
+-- 0 is kept for no stage
+abbrev pub stageNo : Stage → ℕ
+stageNo Stage.Lent = 1
+stageNo Stage.Count = 2
+stageNo Stage.Backdrop = 3
+stageNo Stage.HandOut = 4
+stageNo Stage.Tile = 5
+
+-- the number, then of a refusal the stage's and the item's, then lines and references counted
+abbrev pub paperOf : Framed → List ℕ
+paperOf (Done s) = doneNo ∷ s .lines ∷ s .refs ∷ []
+paperOf (Refused at n item s) = n ∷ stageNo at ∷ item ∷ s .lines ∷ s .refs ∷ []
+
+-- with all that was lent to be changed, as it is afterwards
+pub record Out : Type 0 where
+  pub paper : List ℕ
+  pub backs : List ℤ
+  pub tiles : List ℕ
+  pub tally : List ℕ
+  pub refs : List ℕ
+  pub segments : List Float
+
+abbrev pub outOf : Framed → List ℤ → List ℕ → List ℕ → List ℕ → List Float → Out
+outOf f bs ts ks rs sg = record { paper = paperOf f; backs = bs; tiles = ts; tally = ks; refs = rs; segments = sg }
+
+-- ---- a stage's answer, read off its paper
+
+abbrev pub answerOn : List ℕ → Answer
+answerOn [] = Answer.Done
+answerOn (n ∷ []) = Answer.Done
+answerOn (n ∷ item ∷ more) = Answer.Refused n item
+
+abbrev pub countedOn : List ℕ → Counted
+countedOn [] = Counted.Done (runningOf 0 0)
+countedOn (n ∷ []) = Counted.Done (runningOf 0 0)
+countedOn (n ∷ l ∷ []) = Counted.Done (runningOf l 0)
+countedOn (n ∷ l ∷ m ∷ []) = Counted.Done (runningOf l m)
+countedOn (n ∷ item ∷ l ∷ m ∷ more) = Counted.Refused n item (runningOf l m)
+
+-- a stage that is done goes on; one that refused ends the frame, with what it left
+abbrev pub goOn : Answer → Stage → Running → (Framed → Out) → Out → Out
+goOn Answer.Done at s ends next = next
+goOn (Answer.Refused n item) at s ends next = ends (Refused at n item s)
+
+abbrev pub goOnCounted : Counted → (Framed → Out) → (Running → Out) → Out
+goOnCounted (Counted.Done s) ends next = next s
+goOnCounted (Counted.Refused n item s) ends next = ends (Refused Stage.Count n item s)
+
+-- ---- the stages
+
+-- after counting, with so many lines and references: the sums, the slots as far as there is room for segments, and a segment for each reference
+unfoldable pub placedOf : Running → (nos : List ℕ) (coords : List Float) (paths : List ℕ) (backs : List ℤ) (tiles tally refs : List ℕ) (segs : List Float) → Out
+placedOf s nos coords paths backs tiles tally refs segs =
+    let b = Backdrop.backdropOf paths backs in
+    let h = HandOut.handOutOf (slotsOf (length segs)) tiles tally in
+    let t = tiledOf 0 (s .refs) (lent nos coords paths (h .tiles) refs) segs in
+    goOn (answerOn (b .paper)) Stage.Backdrop s (λ f. outOf f (b .tiles) tiles tally refs segs)
+    (goOn (answerOn (h .paper)) Stage.HandOut s (λ f. outOf f (b .tiles) (h .tiles) (h .tally) refs segs)
+    (goOn (answerOn (t .paper)) Stage.Tile s (λ f. outOf f (b .tiles) (h .tiles) (h .tally) refs (t .segments))
+    (outOf (Done s) (b .tiles) (h .tiles) (h .tally) refs (t .segments))))
+
+-- all lines, counted into cleared tiles; then the rest
+unfoldable pub drawnOf : (nos : List ℕ) (coords : List Float) (paths : List ℕ) (backs : List ℤ) (tiles tally refs : List ℕ) (segs : List Float) → Out
+drawnOf nos coords paths backs tiles tally refs segs =
+    let c = counted (runningOf 0 0) (length nos) nos coords paths (replicate (length backs) (pos 0)) (replicate (length tiles) 0) refs in
+    goOnCounted (countedOn (c .paper)) (λ f. outOf f (c .backs) (c .counts) tally (c .refs) segs)
+    (λ s. placedOf s nos coords paths (c .backs) (c .counts) tally (c .refs) segs)
+
+-- ---- the call
+
+-- the lengths lent: path numbers, coordinates, backdrops, tiles, tally, references, segments
+abbrev pub lentChecks : (nn nc nb nt nk nr ns : ℕ) → List Check
+lentChecks nn nc nb nt nk nr ns =
+    check (eqb (nc % lineFloats) 0) notWhole
+    ∷ check (eqb nn (nc / lineFloats)) notWhole
+    ∷ check (eqb nb nt) notWhole
+    ∷ check (eqb nt nk) notWhole
+    ∷ check (eqb (nr % refWords) 0) notWhole
+    ∷ check (eqb (ns % segmentFloats) 0) notWhole
+    ∷ []
+
+-- 1 of all stages, then 1, 2, 3 and 4 of the paths
+unfoldable pub checksOf : (nos : List ℕ) (coords : List Float) (paths : List ℕ) (backs : List ℤ) (tiles tally refs : List ℕ) (segs : List Float) → Answer
+checksOf nos coords paths backs tiles tally refs segs =
+    unless (firstNo (lentChecks (length nos) (length coords) (length backs) (length tiles) (length tally) (length refs) (length segs))) 0
+    (pathsAnswer paths (length tiles))
+
+-- a refusal there changes nothing
+unfoldable pub frameOf : (nos : List ℕ) (coords : List Float) (paths : List ℕ) (backs : List ℤ) (tiles tally refs : List ℕ) (segs : List Float) → Out
+frameOf nos coords paths backs tiles tally refs segs =
+    goOn (checksOf nos coords paths backs tiles tally refs segs) Stage.Lent (runningOf 0 0) (λ f. outOf f backs tiles tally refs segs)
+    (drawnOf nos coords paths backs tiles tally refs segs)

@@ -1,0 +1,2 @@
+-- The words of a frame. Definitions only.
+pub mod Frame

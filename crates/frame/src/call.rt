@@ -1,0 +1,92 @@
+// The public call, which asks nothing of its caller.
+ghost use mathlib.Core.Path.{_≡_};
+ghost use Rattle.panel.specs.Checks.{firstNo};
+ghost use Rattle.frame.specs.Frame.{outOf, lentChecks, frameOf};
+use super::kinds::Framed;
+use super::kinds::Stage;
+use super::stages::draw;
+use panel::checks::check_paths;
+use panel::kinds::Answer;
+use panel::kinds::Running;
+use panel::kinds::Verdict;
+use panel::refusals::NOT_WHOLE;
+use panel::widths::LINE_FLOATS;
+use panel::widths::REF_WORDS;
+use panel::widths::SEGMENT_FLOATS;
+
+// Check 1 of the lengths lent, in the order of the parameters.
+fn check_lent(
+    nn: usize,
+    nc: usize,
+    nb: usize,
+    nt: usize,
+    nk: usize,
+    nr: usize,
+    ns: usize,
+) -> Verdict
+    ensures { λ r. ⌜ r ≡ firstNo (lentChecks nn nc nb nt nk nr ns) ⌝ }
+{
+    if nc % LINE_FLOATS != 0 {
+        return Verdict::Against(NOT_WHOLE);
+    }
+    if nn != nc / LINE_FLOATS {
+        return Verdict::Against(NOT_WHOLE);
+    }
+    if nb != nt {
+        return Verdict::Against(NOT_WHOLE);
+    }
+    if nt != nk {
+        return Verdict::Against(NOT_WHOLE);
+    }
+    if nr % REF_WORDS != 0 {
+        return Verdict::Against(NOT_WHOLE);
+    }
+    if ns % SEGMENT_FLOATS != 0 {
+        return Verdict::Against(NOT_WHOLE);
+    }
+    Verdict::Fine
+}
+
+// A frame: its lines given by their path numbers and coordinates, its tiles by backdrops, counts and
+// tally. The segments afterwards are fine's to paint.
+pub fn frame(
+    path_nos: &[u32],
+    coords: &[f32],
+    paths: &[u32],
+    backdrops: &mut [i32],
+    tiles: &mut [u32],
+    tally: &mut [u32],
+    refs: &mut [u32],
+    segments: &mut [f32],
+) -> Framed
+    ensures { λ r. ⌜ outOf r (now (backdrops .exit)) (now (tiles .exit)) (now (tally .exit)) (now (refs .exit)) (now (segments .exit))
+        ≡ frameOf (now («path_nos» .entry)) (now (coords .entry)) (now (paths .entry)) (now (backdrops .entry)) (now (tiles .entry)) (now (tally .entry)) (now (refs .entry)) (now (segments .entry)) ⌝ }
+{
+    let none = Running { lines: 0, refs: 0 };
+    let v = check_lent(
+        path_nos.len(),
+        coords.len(),
+        backdrops.len(),
+        tiles.len(),
+        tally.len(),
+        refs.len(),
+        segments.len(),
+    );
+    if let Verdict::Against(why) = v {
+        return Framed::Refused(Stage::Lent, why, 0, none);
+    }
+    let a = check_paths(paths, tiles.len());
+    if let Answer::Refused(why, item) = a {
+        return Framed::Refused(Stage::Lent, why, item, none);
+    }
+    draw(
+        path_nos,
+        coords,
+        paths,
+        backdrops,
+        tiles,
+        tally,
+        refs,
+        segments,
+    )
+}
