@@ -4,16 +4,19 @@ use mathlib.Core.Bool.{Bool, true, false, _&&_}
 use mathlib.Core.List.{List, [], _∷_, _++_, append-assoc}
 use Prim.Native.Nat.{ℕ, zero, suc, _+_, _-_, _*_, _≤_, _<_}
 use native.Mathlib.Omega.{arith}
-use lib.ListN.{length, length-set}
+use borrow.Author.Tests.{leb-true}
+use lib.Dec.{leb}
+use lib.ListN.{length, set}
 use lib.Seq.{sets, length-sets}
 use Rattle.lists.specs.Run.{actAll-append}
 use Rattle.panel.specs.Limits.{mostSlots}
 use Rattle.panel.proofs.PathLaws.{and-true}
 use Rattle.commands.specs.Numbers.{jumpWords, tileWords, endNo}
-use Rattle.write_lists.specs.Layout.{Chunk, chunk, pairSize, pairWords, fits, jumpIf, turned, past, after, pairChunks, laid, jumpCount, leftAt, leftAfter, jumpsOf, written, begun, penAfter}
+use Rattle.write_lists.specs.Layout.{Chunk, chunk, penAt, pairSize, pairWords, fits, jumpIf, turned, past, after, pairChunks, laid, jumpCount, leftAt, leftAfter, jumpsOf, written, begun, penAfter}
 use Rattle.write_lists.specs.Lists.{slotsFit, allFit, wordsNamed}
 use Rattle.write_lists.specs.Ready.{Room}
 use Rattle.write_lists.specs.declared.pairs.Pair.{Pair}
+use Rattle.write_lists.specs.declared.pairs.Pair.the-variants.{Fill}
 use Rattle.write_lists.specs.declared.lay.Pen.{Pen}
 use Rattle.write_lists.proofs.SizeLaws.{pair-small, left-fits}
 
@@ -113,14 +116,68 @@ pub lays-start : (ps : List Pair) (pen : Pen) (words : List ℕ) → Room pen ps
 lays-start ps pen words r s = record { same = refl; room = r; slots = s; fresh = refl; memory = refl }
 
 module _ (ps : List Pair) (pen₀ : Pen) (words₀ : List ℕ) where
-  pub lays-turn : (as qs : List Pair) (pen pen′ : Pen) (words words′ : List ℕ) → Lays (as ++ qs) pen words ps pen₀ words₀
-      → pen′ ≡ penAfter pen as → words′ ≡ written (begun pen as) words → Lays qs pen′ words′ ps pen₀ words₀
-  lays-turn as qs pen pen′ words words′ l e f =
+  pub lays-turn : (hs qs : List Pair) (pen pen′ : Pen) (words words′ : List ℕ) → Lays (hs ++ qs) pen words ps pen₀ words₀
+      → pen′ ≡ penAfter pen hs → words′ ≡ written (begun pen hs) words → Lays qs pen′ words′ ps pen₀ words₀
+  lays-turn hs qs pen pen′ words words′ l e f =
       rw (e, f)
       (record {
-        same = length-written (begun pen as) words ∙ l .same;
-        room = room-after as qs pen (length words₀) (l .room);
-        slots = all-fit-append mostSlots as qs (l .slots) .1;
-        fresh = fresh-sum as qs pen ∙ l .fresh;
-        memory = sym (written-append (begun pen as) (laid (penAfter pen as) qs) words) ∙ ap (λ (cs : List Chunk). written cs words) (sym (laid-append as qs pen)) ∙ l .memory;
+        same = length-written (begun pen hs) words ∙ l .same;
+        room = room-after hs qs pen (length words₀) (l .room);
+        slots = all-fit-append mostSlots hs qs (l .slots) .1;
+        fresh = fresh-sum hs qs pen ∙ l .fresh;
+        memory = sym (written-append (begun pen hs) (laid (penAfter pen hs) qs) words) ∙ ap (λ (cs : List Chunk). written cs words) (sym (laid-append hs qs pen)) ∙ l .memory;
       })
+
+-- ---- a pair's words, one by one
+
+pub fill-stores : (l : List ℕ) (i a b c d e f : ℕ)
+    → set (set (set (set (set (set l i a) (i + 1) b) (i + 2) c) (i + 3) d) (i + 4) e) (i + 4 + 1) f ≡ sets l i (a ∷ b ∷ c ∷ d ∷ e ∷ f ∷ [])
+fill-stores l i a b c d e f =
+    let one : i + 1 ≡ suc i = omega arith in
+    let two : i + 2 ≡ suc (suc i) = omega arith in
+    let three : i + 3 ≡ suc (suc (suc i)) = omega arith in
+    let five : i + 4 + 1 ≡ suc (suc (suc (suc (suc i)))) = omega arith in
+    let four : i + 4 ≡ suc (suc (suc (suc i))) = omega arith in
+    rw (one, two, three, five, four)
+
+pub solid-stores : (l : List ℕ) (i a b c d : ℕ) → set (set (set (set l i a) (i + 1) b) (i + 2) c) (i + 2 + 1) d ≡ sets l i (a ∷ b ∷ c ∷ d ∷ [])
+solid-stores l i a b c d =
+    let one : i + 1 ≡ suc i = omega arith in
+    let three : i + 2 + 1 ≡ suc (suc (suc i)) = omega arith in
+    let two : i + 2 ≡ suc (suc i) = omega arith in
+    rw (one, three, two)
+
+pub jump-stores : (l : List ℕ) (i a b : ℕ) → set (set l i a) (i + 1) b ≡ sets l i (a ∷ b ∷ [])
+jump-stores l i a b =
+    let one : i + 1 ≡ suc i = omega arith in
+    rw one
+
+-- a FILL whose slots fit has few segments
+pub fill-few : (p : Pair) (count rule first backdrop colour : ℕ) → p ≡ Fill count rule first backdrop colour → slotsFit mostSlots p ≡ true → count ≤ mostSlots
+fill-few p count rule first backdrop colour e h =
+    let f = and-true (leb (first + count) mostSlots) (leb (first + count) mostSlots) (sym (ap (slotsFit mostSlots) e) ∙ h) in
+    omega (arith, leb-true (first + count) mostSlots (f .0))
+
+-- ---- one pair, by its parts
+
+pub pair-laid : (p : Pair) (pen here : Pen) (words words′ words″ : List ℕ) (ok : Bool) (size : ℕ) → ok ≡ fits p (pen .left) → size ≡ pairSize p
+    → here ≡ turned ok pen → words′ ≡ written (jumpIf ok pen) words → words″ ≡ sets words′ (here .at) (pairWords p)
+    → (penAt (here .at + size) (here .left - size) (here .fresh) ≡ after p pen) × (words″ ≡ written (pairChunks p pen) words)
+pair-laid p pen here words words′ words″ ok size e f g h k =
+    let to : here ≡ turned (fits p (pen .left)) pen = g ∙ ap (λ (b : Bool). turned b pen) e in
+    let jumped : words′ ≡ written (jumpIf (fits p (pen .left)) pen) words = h ∙ ap (λ (b : Bool). written (jumpIf b pen) words) e in
+    (rw (to, f), k ∙ rw (jumped, to) (sym (written-append (jumpIf (fits p (pen .left)) pen) (chunk (turned (fits p (pen .left)) pen .at) (pairWords p) ∷ []) words)))
+
+pub begun-one : (p : Pair) (pen : Pen) (words : List ℕ) → written (begun pen (p ∷ [])) words ≡ written (pairChunks p pen) words
+begun-one p pen words = written-append (pairChunks p pen) [] words
+
+-- what a pair's parts lean on
+module _ (p : Pair) (pen : Pen) (n : ℕ) (r : Room pen (p ∷ []) n) (ok : Bool) (e : ok ≡ fits p (pen .left)) where
+  pub jump-named : pen .fresh + tileWords * jumpCount ok ≤ wordsNamed
+  jump-named = omega (arith, ap jumpCount e, r .named)
+
+  pub pair-there : turned ok pen .at + pairSize p ≤ n
+  pair-there = rw e (let h = room-here p pen n r in omega (arith, h .0, h .1))
+
+  pub pair-left : pairSize p ≤ turned ok pen .left
+  pair-left = rw e (omega (arith, room-here p pen n r .1))

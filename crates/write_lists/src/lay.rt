@@ -21,10 +21,10 @@ ghost use Prim.Native.Nat.{_+_, _*_, _<_, _≤_};
 ghost use lib.ListN.{length};
 ghost use lib.Seq.{sets};
 ghost use Rattle.panel.specs.Limits.{mostSlots, mostTiles};
-ghost use Rattle.commands.specs.Numbers.{tileWords};
+ghost use Rattle.commands.specs.Numbers.{jumpWords, tileWords};
 ghost use Rattle.write_lists.specs.Pairs.{tables, tilePairs, putList};
-ghost use Rattle.write_lists.specs.Layout.{pairWords, pairSize, jumpIf, turned, after, pairChunks, begun, penAfter, laid, jumpsOf, ownWords, penOf, written};
-ghost use Rattle.write_lists.specs.Lists.{slotsFit, allFit};
+ghost use Rattle.write_lists.specs.Layout.{pairWords, pairSize, jumpIf, turned, after, pairChunks, jumpCount, begun, penAfter, laid, jumpsOf, ownWords, penOf, written};
+ghost use Rattle.write_lists.specs.Lists.{slotsFit, allFit, wordsNamed};
 ghost use Rattle.write_lists.specs.Ready.{Ready, Room};
 
 // Where the next word goes, how many words are left in its region, and where the next fresh region
@@ -66,7 +66,7 @@ fn put_pair(words: &mut [u32], at: usize, pair: Pair)
 
 // Where the next pair doesn't fit: a JUMP to the fresh region's first word, and on from there.
 fn turn(words: &mut [u32], pen: Pen, fits: bool) -> Pen
-    requires { ⌜ Room pen [] (length (now words)) ⌝ }
+    requires { ⌜ (pen .at + jumpWords ≤ length (now words)) × (pen .fresh + tileWords * jumpCount fits ≤ wordsNamed) ⌝ }
     ensures { λ r. ⌜ (r ≡ turned fits pen) × (now (words .exit) ≡ written (jumpIf fits pen) (now (words .entry))) ⌝ }
 {
     if fits {

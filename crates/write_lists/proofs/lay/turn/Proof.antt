@@ -1,48 +1,46 @@
+-- `write_lists::lay::turn` meets its contract. Assumes nothing.
+use mathlib.Core.Path.{_≡_, refl, ap}
+use native.Mathlib.Omega.{arith}
+use lib.ListN.{length-set}
+use Rattle.write_lists.specs.Layout.{jumpCount}
+use Rattle.write_lists.proofs.LayLaws.{jump-stores}
 use borrow.Author.Needs.{needs}
 use Rattle.write_lists.proofs.lay.turn.Statement.{statement}
 use Rattle.write_lists.proofs.lay.turn.Tie as tie
-use Rattle.write_lists.proofs.lay.turn.Reads as reads
-use Rattle.write_lists.proofs.lay.turn.Lts as lts
 
--- src/lay.rt:73:9
 returns : tie.Need-returns
-returns c = search needs
+returns c = rw (c .if1 .taken) (refl, refl)
 
--- src/lay.rt:77:5
 mul-words : tie.Need-mul-words
 mul-words c = search needs
 
--- src/lay.rt:77:5
 slice-write-words : tie.Need-slice-write-words
 slice-write-words c = search needs
 
--- src/lay.rt:78:21
 cast-words : tie.Need-cast-words
-cast-words c = ?
+cast-words c =
+    let k : jumpCount (c .before .args .fits) ≡ 1 = ap jumpCount (c .if1 .left) in
+    record { fits = omega (arith, k, c .before .pre .1) }
 
--- src/lay.rt:78:11
 add-words : tie.Need-add-words
 add-words c = search needs
 
--- src/lay.rt:78:5
 mul-words-2 : tie.Need-mul-words-2
 mul-words-2 c = search needs
 
--- src/lay.rt:78:5
 slice-write-words-2 : tie.Need-slice-write-words-2
-slice-write-words-2 c = ?
+slice-write-words-2 c = simp length-set (omega (arith, c .before .pre .0))
 
--- src/lay.rt:82:16
 add-t7 : tie.Need-add-t7
-add-t7 c = search needs
+add-t7 c =
+    let k : jumpCount (c .before .args .fits) ≡ 1 = ap jumpCount (c .if1 .left) in
+    record { fits = omega (arith, k, c .before .pre .1) }
 
--- src/lay.rt:68:1
 same-length : tie.Need-same-length
 same-length c = search needs
 
--- src/lay.rt:68:1
 returns-2 : tie.Need-returns-2
-returns-2 c = ?
+returns-2 c = rw (c .if1 .left) (refl, jump-stores (c .before .args .words .now) (c .before .args .pen .at) _ _)
 
 pub turn-spec : {M : Type 1} → statement M
 turn-spec =
