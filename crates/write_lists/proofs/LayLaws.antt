@@ -12,11 +12,14 @@ use Rattle.lists.specs.Run.{actAll-append}
 use Rattle.panel.specs.Limits.{mostSlots}
 use Rattle.panel.proofs.PathLaws.{and-true}
 use Rattle.commands.specs.Numbers.{jumpWords, tileWords, endNo}
+use Rattle.write_lists.specs.Pairs.{putList}
 use Rattle.write_lists.specs.Layout.{Chunk, chunk, penAt, pairSize, pairWords, fits, jumpIf, turned, past, after, pairChunks, laid, jumpCount, leftAt, leftAfter, jumpsOf, written, begun, penAfter}
 use Rattle.write_lists.specs.Lists.{slotsFit, allFit, wordsNamed}
 use Rattle.write_lists.specs.Ready.{Room}
 use Rattle.write_lists.specs.declared.pairs.Pair.{Pair}
 use Rattle.write_lists.specs.declared.pairs.Pair.the-variants.{Fill}
+use Rattle.write_lists.specs.declared.pairs.Put.{Put}
+use Rattle.write_lists.specs.declared.pairs.Put.the-variants.{Puts}
 use Rattle.write_lists.specs.declared.lay.Pen.{Pen}
 use Rattle.write_lists.proofs.SizeLaws.{pair-small, left-fits}
 
@@ -168,7 +171,7 @@ pair-laid p pen here words words′ words″ ok size e f g h k =
     let jumped : words′ ≡ written (jumpIf (fits p (pen .left)) pen) words = h ∙ ap (λ (b : Bool). written (jumpIf b pen) words) e in
     (rw (to, f), k ∙ rw (jumped, to) (sym (written-append (jumpIf (fits p (pen .left)) pen) (chunk (turned (fits p (pen .left)) pen .at) (pairWords p) ∷ []) words)))
 
-pub begun-one : (p : Pair) (pen : Pen) (words : List ℕ) → written (begun pen (p ∷ [])) words ≡ written (pairChunks p pen) words
+begun-one : (p : Pair) (pen : Pen) (words : List ℕ) → written (begun pen (p ∷ [])) words ≡ written (pairChunks p pen) words
 begun-one p pen words = written-append (pairChunks p pen) [] words
 
 -- what a pair's parts lean on
@@ -181,3 +184,7 @@ module _ (p : Pair) (pen : Pen) (n : ℕ) (r : Room pen (p ∷ []) n) (ok : Bool
 
   pub pair-left : pairSize p ≤ turned ok pen .left
   pair-left = rw e (omega (arith, room-here p pen n r .1))
+
+pub put-laid : (put : Put) (p : Pair) (pen pen′ : Pen) (words words′ : List ℕ) → put ≡ Puts p → pen′ ≡ after p pen → words′ ≡ written (pairChunks p pen) words
+    → (pen′ ≡ penAfter pen (putList put)) × (words′ ≡ written (begun pen (putList put)) words)
+put-laid put p pen pen′ words words′ e f g = rw e (f, g ∙ sym (begun-one p pen words))

@@ -4,4 +4,5 @@ pub mod SizeLaws
 pub mod PairLaws
 pub mod WeighLaws
 pub mod LayLaws
+pub mod TileLaws
 pub mod Example

@@ -18,11 +18,11 @@ use Rattle.write_lists.specs.declared.pairs.Put.the-variants.{Nothing, P
 use Rattle.write_lists.specs.declared.weigh.Weight.{Weight}
 use Rattle.write_lists.proofs.SizeLaws.{jump-small, left-small}
 
-and-all : (a : Bool) → a && true ≡ a
+pub and-all : (a : Bool) → a && true ≡ a
 and-all true = refl
 and-all false = refl
 
-and-assoc : (a b c : Bool) → (a && b) && c ≡ a && (b && c)
+pub and-assoc : (a b c : Bool) → (a && b) && c ≡ a && (b && c)
 and-assoc true b c = refl
 and-assoc false b c = refl
 

@@ -96,7 +96,7 @@ fn check_call(
 
 // Whether so many regions fit the words lent, and all FILLs' slots fit.
 fn check_room(regions: u64, lent: usize, slots: bool) -> Verdict
-    requires { ⌜ regions < 2 ^ 54 ⌝ }
+    requires { ⌜ regions < 2 ^ 57 ⌝ }
     ensures { λ r. ⌜ r ≡ firstNo (roomChecks regions lent slots) ⌝ }
 {
     let need = TILE_WORDS as u64 * regions;

@@ -1,5 +1,5 @@
 -- `write_lists::lay::lay_put` meets its contract. Assumes nothing.
-use mathlib.Core.Path.{_≡_, ap, sym, subst, _∙_}
+use mathlib.Core.Path.{_≡_, ap, subst}
 use mathlib.Core.Bool.{true}
 use mathlib.Core.List.{List, [], _∷_}
 use lib.ListN.{length}
@@ -9,7 +9,7 @@ use Rattle.write_lists.specs.Pairs.{putList}
 use Rattle.write_lists.specs.Lists.{slotsFit, allFit}
 use Rattle.write_lists.specs.Ready.{Room}
 use Rattle.write_lists.specs.declared.pairs.Pair.{Pair}
-use Rattle.write_lists.proofs.LayLaws.{begun-one}
+use Rattle.write_lists.proofs.LayLaws.{put-laid}
 use borrow.Author.Needs.{needs}
 use Rattle.write_lists.proofs.lay.lay_put.Statement.{statement}
 use Rattle.write_lists.proofs.lay.lay_put.Tie as tie
@@ -37,7 +37,7 @@ same-length c = search needs
 returns-2 : tie.Need-returns-2
 returns-2 c =
     let a = c .before .before .before .before .before .before .before .before .args in
-    rw (c .before .before .before .before .before .put .given .1) (c .before .before .lay-pair .ensures .0, c .before .before .lay-pair .ensures .1 ∙ sym (begun-one _ (a .pen) (a .words .now)))
+    put-laid _ _ (a .pen) _ (a .words .now) _ (c .before .before .before .before .before .put .given .1) (c .before .before .lay-pair .ensures .0) (c .before .before .lay-pair .ensures .1)
 
 pub lay-put-spec : {M : Type 1} → statement M
 lay-put-spec =

@@ -106,9 +106,11 @@ loop-again c =
     let rest = pairsOf s x y (from (l .p + 1) (n - (l .p + 1))) in
     let all = pairsOf s x y (from 0 n) in
     let e = pairs-turn s x y n (l .p) (c .before .before .before .before .before .loop-test .taken) (putList put) (c .before .before .before .before .on-path .ensures) in
-    let i = subst (λ (ps : List Pair). Lays ps (l .pen) (l .words) all (penOf (a .t) (a .fresh)) (a .words .now)) e (l .inv .2) in
-    (omega (arith, c .before .before .before .before .before .loop-test .taken), l .inv .1,
-    lays-turn all (penOf (a .t) (a .fresh)) (a .words .now) (putList put) rest (l .pen) (c .before .before .lay-put .result) (l .words) (c .before .before .lay-put .last .0) i (c .before .before .lay-put .ensures .0) (c .before .before .lay-put .ensures .1))
+    let i = subst (λ (ps : List Pair). Lays ps (l .pen) (l .words) all (penOf (a .t) (a .fresh)) (a .words .now)) e (l .inv .2) in (
+      omega (arith, c .before .before .before .before .before .loop-test .taken),
+      l .inv .1,
+      lays-turn all (penOf (a .t) (a .fresh)) (a .words .now) (putList put) rest (l .pen) (c .before .before .lay-put .result) (l .words) (c .before .before .lay-put .last .0) i (c .before .before .lay-put .ensures .0) (c .before .before .lay-put .ensures .1),
+    )
 
 mul-words : tie.Need-mul-words Inv-loop μ-loop
 mul-words c = search needs

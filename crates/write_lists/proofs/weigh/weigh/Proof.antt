@@ -85,9 +85,12 @@ loop-again c =
     let put = c .before .on-path .result in
     let n = pathCount (s .paths) in
     let x = a .t % a .cols in
-    let y = a .t / a .cols in
-    (omega (arith, c .before .before .loop-test .taken), l .inv .1, rw (c .weigh-put .ensures) (put-light (a .room) (l .p) put (l .w) (l .inv .2)),
-    weigh-turn s x y n (l .p) (a .room) (putList put) (l .w) (c .weigh-put .result) (c .before .before .loop-test .taken) (c .before .on-path .ensures) (c .weigh-put .ensures) ∙ l .inv .3)
+    let y = a .t / a .cols in (
+      omega (arith, c .before .before .loop-test .taken),
+      l .inv .1,
+      rw (c .weigh-put .ensures) (put-light (a .room) (l .p) put (l .w) (l .inv .2)),
+      weigh-turn s x y n (l .p) (a .room) (putList put) (l .w) (c .weigh-put .result) (c .before .before .loop-test .taken) (c .before .on-path .ensures) (c .weigh-put .ensures) ∙ l .inv .3,
+    )
 
 returns : tie.Need-returns Inv-loop μ-loop
 unfolding tilePairs
