@@ -27,6 +27,9 @@ ghost use Rattle.write_lists.specs.Layout.{pairWords, pairSize, jumpIf, 
 ghost use Rattle.write_lists.specs.Lists.{slotsFit, allFit, wordsNamed};
 ghost use Rattle.write_lists.specs.Ready.{Ready, Room};
 
+// The word of a fresh region that a list goes on at: its first. A tile's own list starts at LIST_START.
+const FRESH_START: usize = 0;
+
 // Where the next word goes, how many words are left in its region, and where the next fresh region
 // is.
 pub struct Pen {
@@ -74,10 +77,11 @@ fn turn(words: &mut [u32], pen: Pen, fits: bool) -> Pen
     }
     let at = pen.at;
     let fresh = pen.fresh;
+    let to = fresh + FRESH_START;
     words[at] = JUMP;
-    words[at + 1] = fresh as u32;
+    words[at + 1] = to as u32;
     Pen {
-        at: fresh,
+        at: to,
         left: TILE_WORDS,
         fresh: fresh + TILE_WORDS,
     }
