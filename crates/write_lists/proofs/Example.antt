@@ -1,8 +1,7 @@
 -- Lists computed from the definition. Assumes nothing.
 use mathlib.Core.Path.{_≡_, refl}
-use mathlib.Core.List.{List, [], _∷_, _++_}
-use Prim.Native.Nat.{ℕ}
-use lib.IntN.{ℤ, pos, negsuc}
+use mathlib.Core.List.{[], _∷_, _++_}
+use lib.IntN.{pos, negsuc}
 use lib.ListN.{replicate, drop}
 use Rattle.panel.specs.Paths.{pathAt, pathsFrom, pathsAnswer}
 use Rattle.write_lists.specs.Pairs.{tables, onTile, onPath, tilePairs}

@@ -1,8 +1,8 @@
 -- Lists laid out and written, pair by pair: what is left from here comes to the same as all of it. Assumes nothing.
-use mathlib.Core.Path.{_≡_, refl, sym, ap, subst, _∙_}
-use mathlib.Core.Bool.{Bool, true, false, _&&_}
+use mathlib.Core.Path.{_≡_, refl, sym, ap, _∙_}
+use mathlib.Core.Bool.{Bool, true, false}
 use mathlib.Core.List.{List, [], _∷_, _++_, append-assoc}
-use Prim.Native.Nat.{ℕ, zero, suc, _+_, _-_, _*_, _≤_, _<_}
+use Prim.Native.Nat.{ℕ, suc, _+_, _-_, _*_, _≤_}
 use native.Mathlib.Omega.{arith}
 use borrow.Author.Tests.{leb-true}
 use lib.Dec.{leb}
@@ -13,7 +13,7 @@ use Rattle.panel.specs.Limits.{mostSlots}
 use Rattle.panel.proofs.PathLaws.{and-true}
 use Rattle.commands.specs.Numbers.{jumpNo, jumpWords, tileWords}
 use Rattle.write_lists.specs.Pairs.{putList}
-use Rattle.write_lists.specs.Layout.{Chunk, chunk, penAt, pairSize, pairWords, fits, jumpIf, turned, past, after, pairChunks, laid, jumpCount, leftAt, leftAfter, jumpsOf, written, begun, penAfter}
+use Rattle.write_lists.specs.Layout.{Chunk, chunk, penAt, pairSize, pairWords, fits, jumpIf, turned, after, pairChunks, laid, jumpCount, leftAt, leftAfter, jumpsOf, written, begun, penAfter}
 use Rattle.write_lists.specs.Lists.{slotsFit, allFit, wordsNamed}
 use Rattle.write_lists.specs.Ready.{Room}
 use Rattle.write_lists.specs.declared.pairs.Pair.{Pair}
@@ -21,7 +21,7 @@ use Rattle.write_lists.specs.declared.pairs.Pair.the-variants.{Fill}
 use Rattle.write_lists.specs.declared.pairs.Put.{Put}
 use Rattle.write_lists.specs.declared.pairs.Put.the-variants.{Puts}
 use Rattle.write_lists.specs.declared.lay.Pen.{Pen}
-use Rattle.write_lists.proofs.SizeLaws.{pair-small, left-fits}
+use Rattle.write_lists.proofs.SizeLaws.{left-fits}
 
 -- ---- memory
 

@@ -116,7 +116,7 @@ fn lay_put(words: &mut [u32], pen: Pen, put: Put) -> Pen
 }
 
 // Screen tile t's list; where the next fresh region is after it.
-pub fn lay_tile(
+pub(crate) fn lay_tile(
     paths: &[u32],
     paints: &[u32],
     backdrops: &[i32],
