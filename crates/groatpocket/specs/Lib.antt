@@ -2,3 +2,4 @@
 pub mod Seen
 pub mod Calls
 pub mod CallFrame
+pub mod CallLists
