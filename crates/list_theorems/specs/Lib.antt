@@ -1,5 +1,5 @@
 -- The words of the theorems. Definitions only.
---     Stands     words that stand at a place of memory
---     Painted    the paths painted one after another, with no list
-pub mod Stands
+--     Painted    the paths painted one after another, with no list; and the screen's pixels by their tiles' colours
+--     Traced     the commands of a list written, in order
 pub mod Painted
+pub mod Traced

@@ -16,7 +16,7 @@ use Rattle.commands.specs.declared.steps.Op.the-variants as Op
 use Rattle.commands.specs.declared.steps.Act.the-variants.{Fill, Solid, Color, Jump}
 use Rattle.commands.specs.declared.steps.Move.the-variants.{Goes}
 use Rattle.commands.proofs.Traced.{trace-end, trace-goes}
-use Rattle.list_theorems.specs.Stands.{Stands}
+use Rattle.list_theorems.proofs.Writes.{Stands}
 
 module _ (ws : List ℕ) (room at : ℕ) where
   -- the first of the words that stand there
