@@ -1,5 +1,5 @@
 -- The chunks of all screen tiles' lists lie in the regions that are theirs, no two of them over each other. Assumes nothing.
-use mathlib.Core.Path.{_≡_, refl, sym, ap, subst, _∙_}
+use mathlib.Core.Path.{_≡_, refl, subst}
 use mathlib.Core.Bool.{Bool, true, false}
 use mathlib.Core.Logic.{_⊎_, inl, inr, ⊎-elim}
 use mathlib.Core.List.{List, [], _∷_, _++_}
@@ -10,13 +10,13 @@ use lib.ListN.{length}
 use borrow.Author.Tests.{leb-true}
 use Rattle.lists.specs.Run.{All}
 use Rattle.lists.specs.Sums.{from}
-use Rattle.commands.specs.Numbers.{endNo, jumpNo, jumpWords, tileWords, startOf}
+use Rattle.commands.specs.Numbers.{jumpNo, jumpWords, tileWords, startOf}
 use Rattle.write_lists.specs.Pairs.{Tables, tilePairs}
-use Rattle.write_lists.specs.Layout.{pairWords, pairSize, Chunk, chunk, penAt, fits, jumpIf, turned, past, laid, jumpCount, leftAt, jumpsOf, ownWords, penOf, written}
+use Rattle.write_lists.specs.Layout.{pairWords, pairSize, Chunk, chunk, penAt, fits, jumpIf, turned, past, laid, jumpCount, leftAt, jumpsOf, ownWords, penOf}
 use Rattle.write_lists.specs.Lists.{freshOf, listsFrom}
 use Rattle.write_lists.specs.declared.pairs.Pair.{Pair}
 use Rattle.write_lists.specs.declared.pairs.Pair.the-variants.{Fill, Solid}
-use Rattle.list_theorems.proofs.Regions.{ChunkStands, Apart, AllApart, InWords}
+use Rattle.list_theorems.proofs.Regions.{Apart, AllApart}
 
 -- ---- lists of chunks
 

@@ -1,6 +1,6 @@
 -- What a call that is done has been checked for, and what it left. Assumes nothing.
-use mathlib.Core.Path.{_≡_, refl, sym, ap, subst, _∙_}
-use mathlib.Core.Bool.{Bool, true, false, cond, _&&_}
+use mathlib.Core.Path.{_≡_, refl, sym, ap, subst}
+use mathlib.Core.Bool.{Bool, true, false, cond}
 use mathlib.Core.List.{List, [], _∷_}
 use Prim.Native.Nat.{ℕ, zero, suc, _+_, _-_, _*_, _≤_, _<_}
 use native.Mathlib.Decide.{ℕ-discrete}
@@ -12,7 +12,6 @@ use Rattle.lists.specs.Run.{All}
 use Rattle.lists.specs.Sums.{from}
 use Rattle.panel.specs.Limits.{mostTiles, mostSlots, mostCommands}
 use Rattle.panel.specs.Refusals.{tooLong}
-use Rattle.panel.specs.Checks.{firstNo}
 use Rattle.panel.specs.Paths.{pathsAnswer}
 use Rattle.panel.specs.declared.kinds.Answer.{Answer}
 use Rattle.panel.specs.declared.kinds.Answer.the-variants.{Done, Refused}

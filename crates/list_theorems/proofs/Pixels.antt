@@ -1,16 +1,16 @@
 -- What a list's commands make of a pixel is what the paths make of it, painted in order. Assumes nothing.
-use mathlib.Core.Path.{_≡_, refl, sym, ap, subst, _∙_}
-use mathlib.Core.Bool.{Bool, true, false, cond, _&&_}
-use mathlib.Core.List.{List, [], _∷_, _++_}
-use Prim.Native.Nat.{ℕ, zero, suc, _+_, _-_, _*_, _/_, _%_, _^_, _≤_, _<_}
+use mathlib.Core.Path.{_≡_, refl, ap, _∙_}
+use mathlib.Core.Bool.{Bool, true, false, cond}
+use mathlib.Core.List.{List, [], _∷_}
+use Prim.Native.Nat.{ℕ, zero, suc, _-_, _/_, _%_, _^_, _≤_}
 use native.Mathlib.Omega.{arith}
-use lib.Dec.{leb, ltb, eqb}
+use lib.Dec.{leb, ltb}
 use lib.IntN.{ℤ, pos, negsuc}
-use lib.ListN.{length, getD}
+use lib.ListN.{getD}
 use lib.Ieee.{Float}
 use borrow.Author.Tests.{lt-ltb, le-ltb, leb-true}
 use Rattle.util.specs.Constants as Number
-use Rattle.lists.specs.Run.{All, actAll, actAll-append}
+use Rattle.lists.specs.Run.{actAll, actAll-append}
 use Rattle.lists.specs.Sums.{from}
 use Rattle.panel.specs.Paths.{pathAt, pathCount, tileOf}
 use Rattle.panel.specs.Slots.{not32}
@@ -19,16 +19,16 @@ use Rattle.panel.proofs.PathLaws.{and-true}
 use Rattle.backdrop.specs.Backdrop.{inI32}
 use Rattle.coverage.specs.Coverage.{pixelOf}
 use Rattle.colours.specs.Colour as Colour
-use Rattle.commands.specs.Steps.{countOf, Trace, does, endOf}
+use Rattle.commands.specs.Steps.{countOf, Trace, endOf}
 use Rattle.commands.specs.Pixel.{signedOf, evenOddOf, cover, paint, Point, point, pointOf}
-use Rattle.commands.specs.declared.steps.Act.the-variants as Act
 use Rattle.fine.specs.Screen.{clear}
 use Rattle.write_lists.specs.Pairs.{Tables, colourAt, ruleAt, inBox, covers, bitsOf, onTile, byPath, onPath, pairsOf, tilePairs, fillRule, coverOf, colourOf}
 use Rattle.write_lists.specs.Layout.{fits, leftAfter}
 use Rattle.write_lists.specs.declared.pairs.Pair.{Pair}
 use Rattle.write_lists.specs.declared.pairs.Pair.the-variants.{Fill, Solid}
-use Rattle.list_theorems.specs.Painted.{paintTile, paintPath, painted, AllI32}
+use Rattle.list_theorems.specs.Painted.{paintTile, paintPath, painted}
 use Rattle.list_theorems.specs.Traced.{jumpThen, pairThen, listTrace}
+use Rattle.list_theorems.specs.Written.{AllI32}
 
 -- ---- the list ends
 

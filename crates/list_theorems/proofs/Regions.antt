@@ -3,20 +3,19 @@ use mathlib.Core.Path.{_≡_, refl, sym, ap, subst, _∙_}
 use mathlib.Core.Bool.{Bool, true, false}
 use mathlib.Core.Logic.{_⊎_, inl, inr}
 use mathlib.Core.List.{List, [], _∷_, _++_}
-use Prim.Native.Nat.{ℕ, zero, suc, _+_, _-_, _*_, _≤_, _<_}
+use Prim.Native.Nat.{ℕ, suc, _+_, _-_, _*_, _≤_, _<_}
 use native.Mathlib.Omega.{arith}
-use lib.ListN.{length}
+use lib.ListN.{length, getD}
 use lib.Seq.{sets, length-sets}
-use borrow.Author.Tests.{leb-true, leb-false}
+use Rattle.lists.specs.Cells.{getD-sets-before, getD-sets-after}
 use Rattle.lists.specs.Run.{All}
-use Rattle.commands.specs.Numbers.{endNo, fillNo, solidNo, colorNo, jumpNo, fillWords, solidWords, colorWords, jumpWords, tileWords}
-use Rattle.commands.specs.Steps.{countOf, Trace, does, traceOf}
+use Rattle.commands.specs.Numbers.{fillNo, solidNo, colorNo, fillWords, solidWords, colorWords, tileWords}
+use Rattle.commands.specs.Steps.{does, traceOf}
 use Rattle.commands.specs.declared.steps.Act.the-variants as Act
-use Rattle.write_lists.specs.Pairs.{fillRule, coverOf, colourOf}
-use Rattle.write_lists.specs.Layout.{pairWords, pairSize, Chunk, chunk, penAt, fits, jumpIf, turned, past, before, after, pairChunks, laid, jumpCount, leftAt, leftAfter, jumpsOf, written}
+use Rattle.write_lists.specs.Pairs.{fillRule}
+use Rattle.write_lists.specs.Layout.{pairWords, pairSize, Chunk, chunk, penAt, fits, jumpIf, turned, past, laid, jumpCount, leftAt, jumpsOf, written}
 use Rattle.write_lists.specs.declared.pairs.Pair.{Pair}
 use Rattle.write_lists.specs.declared.pairs.Pair.the-variants.{Fill, Solid}
-use Rattle.write_lists.specs.declared.lay.Pen.{Pen}
 use Rattle.list_theorems.specs.Traced.{jumpThen, pairThen, listTrace}
 use Rattle.list_theorems.proofs.Writes.{Stands, written-stands, other-stands, first-stands, then-stands}
 use Rattle.list_theorems.proofs.Steps.{at-end, at-jump, at-fill, at-solid, at-color}
@@ -47,6 +46,18 @@ all-stand (c ∷ cs) ws a h =
       stays c cs ws′ (a .0) (written-stands ws (c .place) (c .words) (h .0)),
       all-stand cs ws′ (a .1) (subst (λ (n : ℕ). All (InWords n) cs) (sym (length-sets ws (c .place) (c .words))) (h .1)),
     )
+
+-- a word that no chunk is over
+abbrev pub Off : ℕ → Chunk → Type 0
+Off i c = (i < c .place) ⊎ (c .place + length (c .words) ≤ i)
+
+pub word-stays : (cs : List Chunk) (ws : List ℕ) (i : ℕ) → All (Off i) cs → getD (written cs ws) i 0 ≡ getD ws i 0
+word-stays [] ws i h = refl
+word-stays (c ∷ cs) ws i h = word-stays cs (sets ws (c .place) (c .words)) i (h .1) ∙ go (h .0)
+  where
+    go : Off i c → getD (sets ws (c .place) (c .words)) i 0 ≡ getD ws i 0
+    go (inl b) = getD-sets-before (c .words) ws (c .place) i 0 b
+    go (inr b) = getD-sets-after (c .words) ws (c .place) i 0 b
 
 -- ---- the commands of chunks that stand
 

@@ -1,5 +1,5 @@
 -- Tiles put on the screen one after another, none refused: each pixel shows its own tile's colour, and those off the tiles stay. Assumes nothing.
-use mathlib.Core.Path.{_≡_, refl, sym, ap, subst, _∙_}
+use mathlib.Core.Path.{_≡_, refl, sym, ap, _∙_}
 use mathlib.Core.Bool.{Bool, true, false, cond, _&&_}
 use mathlib.Core.List.{List}
 use Prim.Native.Nat.{ℕ, zero, suc, _+_, _-_, _*_, _/_, _%_, _<_, _≤_}
@@ -10,17 +10,16 @@ use native.Mathlib.Omega.{arith}
 use lib.Dec.{ltb, eqb}
 use lib.Ieee.{Float}
 use borrow.Author.Tests.{lt-ltb, le-ltb, eq-eqb, ne-eqb, eqb-true}
-use Rattle.lists.specs.Run.{Ran, done}
+use Rattle.lists.specs.Run.{done}
 use Rattle.lists.specs.Grid.{mapi}
 use Rattle.lists.specs.GridLaws.{mapi-mapi}
 use Rattle.panel.specs.declared.kinds.Verdict.{Verdict}
 use Rattle.panel.specs.declared.kinds.Verdict.the-variants.{Fine}
-use Rattle.coverage.specs.Tile.{tileWidth, tileHeight}
 use Rattle.colours.specs.Colour.{packOf}
 use Rattle.commands.proofs.Acts.{mapi-cong, unchanged}
 use Rattle.fine.specs.Screen.{inTile, placeOf, putTile, packed, colourAt, endsAt, ifFine, tilePixels}
-use Rattle.fine.specs.Fine.{No, tilesOf}
-use Rattle.fine.proofs.Ranges.{some, no-tiles, tile-goes}
+use Rattle.fine.specs.Fine.{tilesOf}
+use Rattle.fine.proofs.Ranges.{no-tiles, tile-goes}
 use Rattle.list_theorems.specs.Painted.{columnOf, rowOf, showsAt, screenOf}
 
 -- ---- a tile's number, its column and its row

@@ -1,17 +1,16 @@
 -- A command whose words stand at a place is the trace's next step there. Assumes nothing.
-use mathlib.Core.Path.{_≡_, refl, sym, ap, _∙_}
+use mathlib.Core.Path.{_≡_, refl}
 use mathlib.Core.List.{List, [], _∷_}
-use Prim.Native.Nat.{ℕ, zero, suc, _+_, _-_, _≤_, _<_}
+use Prim.Native.Nat.{ℕ, suc, _+_, _-_, _≤_}
 use native.Mathlib.Nat.{add-zero}
 use native.Mathlib.Omega.{arith}
-use lib.Dec.{leb}
 use lib.ListN.{length, getD}
 use borrow.Author.Tests.{lt-ltb, le-leb}
 use Rattle.panel.specs.declared.kinds.Verdict.the-variants.{Fine}
 use Rattle.reader.specs.Look.{lookAt}
 use Rattle.reader.specs.declared.Look.the-variants.{Word}
 use Rattle.commands.specs.Numbers.{endNo, fillNo, solidNo, colorNo, jumpNo, fillWords, solidWords, colorWords}
-use Rattle.commands.specs.Steps.{opOf, countOf, fillMove, wholeMove, moveOf, Trace, ends, does, traceOf}
+use Rattle.commands.specs.Steps.{opOf, countOf, fillMove, wholeMove, moveOf, ends, does, traceOf}
 use Rattle.commands.specs.declared.steps.Op.the-variants as Op
 use Rattle.commands.specs.declared.steps.Act.the-variants.{Fill, Solid, Color, Jump}
 use Rattle.commands.specs.declared.steps.Move.the-variants.{Goes}

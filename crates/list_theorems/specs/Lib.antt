@@ -1,5 +1,7 @@
 -- The words of the theorems. Definitions only.
 --     Painted    the paths painted one after another, with no list; and the screen's pixels by their tiles' colours
 --     Traced     the commands of a list written, in order
+--     Written    the premises, and what follows
 pub mod Painted
 pub mod Traced
+pub mod Written

@@ -1,7 +1,6 @@
 -- The paths painted one after another, with no list and no commands: the colour of each pixel, and the screen's pixels. docs/THEOREMS.md, "Lists
 -- written". Definitions only.
-use mathlib.Core.Path.{_≡_}
-use mathlib.Core.Bool.{true, cond, _&&_}
+use mathlib.Core.Bool.{cond, _&&_}
 use mathlib.Core.List.{List}
 use Prim.Native.Nat.{ℕ, _/_, _%_}
 use lib.Dec.{ltb}
@@ -10,11 +9,10 @@ use lib.ListN.{getD}
 use lib.Ieee.{Float}
 use Rattle.util.specs.Constants.{zero, one}
 use Rattle.lists.specs.Grid.{mapi}
-use Rattle.lists.specs.Run.{All, actAll}
+use Rattle.lists.specs.Run.{actAll}
 use Rattle.lists.specs.Sums.{from}
 use Rattle.panel.specs.Paths.{pathAt, pathCount, tileOf}
 use Rattle.panel.specs.Slots.{not32}
-use Rattle.backdrop.specs.Backdrop.{inI32}
 use Rattle.coverage.specs.Tile.{tileWidth, tileHeight}
 use Rattle.coverage.specs.Coverage.{pixelOf}
 use Rattle.colours.specs.Colour.{colourOf, overOf, packOf}
@@ -61,7 +59,3 @@ showsAt colour width cols rows p old =
 
 unfoldable pub screenOf : (ℕ → ℕ → ℕ → List Float) → ℕ → ℕ → ℕ → List ℕ → List ℕ
 screenOf colour width cols rows pixels = mapi (showsAt colour width cols rows) pixels
-
--- ---- the one premise on numbers: backdrops are i32, as all that are lent are
-abbrev pub AllI32 : List ℤ → Type 0
-AllI32 bs = All (λ b. inI32 b ≡ true) bs
