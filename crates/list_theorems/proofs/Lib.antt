@@ -8,6 +8,7 @@
 --     Screens     tiles put on the screen one after another, pixel by pixel
 --     Handed      tables as hand-out leaves them
 --     Written     the theorems
+--     Exact       refusals are exact
 --     Instance    their premises can be met
 pub mod Writes
 pub mod Steps
@@ -18,4 +19,5 @@ pub mod Pixels
 pub mod Screens
 pub mod Handed
 pub mod Written
+pub mod Exact
 pub mod Instance

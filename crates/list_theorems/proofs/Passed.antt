@@ -28,7 +28,7 @@ use Rattle.list_theorems.proofs.Regions.{Filled}
 
 -- ---- one check after another
 
-not-done : {P : Type 0} (n i : ℕ) → Refused n i ≡ Done → P
+pub not-done : {P : Type 0} (n i : ℕ) → Refused n i ≡ Done → P
 not-done n i e = let z : _≡_ {A = ℕ} 0 1 = cc in absurd (omega arith)
 
 then-done : (a b : Answer) → thenCheck a b ≡ Done → (a ≡ Done) × (b ≡ Done)
@@ -50,7 +50,7 @@ all-filled room [] e = tt
 all-filled room (p ∷ ps) e = let f = and-true (slotsFit room p) (allFit room ps) e in (slots-filled room p (f .0), all-filled room ps (f .1))
 
 module _ (s : Tables) (cols : ℕ) where
-  few-commands : (n t u : ℕ) → t ≤ u → u < t + n → longFrom s cols (from t n) ≡ Done → commandsOf (tilePairs s cols u) ≤ mostCommands
+  pub few-commands : (n t u : ℕ) → t ≤ u → u < t + n → longFrom s cols (from t n) ≡ Done → commandsOf (tilePairs s cols u) ≤ mostCommands
   few-commands zero t u h k e = absurd (omega arith)
   few-commands (suc n) t u h k e = go (ℕ-discrete t u) (few-commands n (suc t) u) (long-done (leb (commandsOf (tilePairs s cols t)) mostCommands) (longFrom s cols (from (suc t) n)) t e)
     where
