@@ -83,7 +83,7 @@ module _ (room : ℕ) where
 
 -- ---- 15: the first tile that is too long
 
-abbrev commandsAt : Tables → ℕ → ℕ → ℕ
+abbrev pub commandsAt : Tables → ℕ → ℕ → ℕ
 commandsAt s cols t = commandsOf (tilePairs s cols t)
 
 module _ (s : Tables) (cols : ℕ) where
@@ -116,7 +116,7 @@ module _ (s : Tables) (cols : ℕ) where
       go (yes d) ih = rw (d, lt-leb (commandsAt s cols u) mostCommands h)
       go (no d) ih = rw (le-leb (commandsAt s cols t) mostCommands (f t (omega arith) (omega arith))) (ih (omega arith) (omega arith) h (λ v x y. f v (omega arith) y))
 
-  short-done : (n t : ℕ) → ((v : ℕ) → t ≤ v → v < t + n → commandsAt s cols v ≤ mostCommands) → longFrom s cols (from t n) ≡ Done
+  pub short-done : (n t : ℕ) → ((v : ℕ) → t ≤ v → v < t + n → commandsAt s cols v ≤ mostCommands) → longFrom s cols (from t n) ≡ Done
   short-done zero t f = refl
   short-done (suc n) t f = rw (le-leb (commandsAt s cols t) mostCommands (f t (omega arith) (omega arith))) (short-done n (suc t) (λ v x y. f v (omega arith) (omega arith)))
 

@@ -15,6 +15,7 @@ use Rattle.write_lists.specs.Pairs.{Tables, tables, onTile, onPath, tilePairs}
 use Rattle.write_lists.specs.Lists.{callAnswer, regionsOf, answerOf, listsOf, writeListsOf}
 use Rattle.list_theorems.specs.Written.{Wrote, AllI32, LikePainted}
 use Rattle.list_theorems.proofs.Written.{like-painted}
+use Rattle.list_theorems.proofs.Handed.{Handed, handed}
 
 -- ---- from hand-out on
 
@@ -22,8 +23,11 @@ handed-out : handOutOf 1 (1 ∷ 0 ∷ []) (7 ∷ 7 ∷ []) ≡ outOf Done (0xfff
 unfolding handOutOf
 handed-out = refl
 
-abbrev two : Tables
+abbrev pub two : Tables
 two = tables (0 ∷ 0 ∷ 2 ∷ 1 ∷ 0 ∷ []) (0x2040_60ff ∷ 1 ∷ []) (pos 0 ∷ negsuc 0 ∷ []) (0xffff_ffff ∷ 0 ∷ []) (1 ∷ 0 ∷ [])
+
+pub two-handed : Handed 1 (two .stored) (two .tally)
+two-handed = handed 1 (1 ∷ 0 ∷ []) (7 ∷ 7 ∷ []) (two .stored) (two .tally) handed-out
 
 pub two-words : List ℕ
 two-words =

@@ -6,10 +6,10 @@
 --     Passed      what a call that is done has been checked for
 --     Pixels      what a list's commands make of a pixel is what the paths make of it
 --     Screens     tiles put on the screen one after another, pixel by pixel
---     Handed      tables as hand-out leaves them
 --     Written     the theorems
 --     Exact       refusals are exact
---     Instance    their premises can be met
+--     Handed      tables as hand-out leaves them
+--     Instance    the premises can be met
 pub mod Writes
 pub mod Steps
 pub mod Regions
@@ -17,7 +17,7 @@ pub mod Apart
 pub mod Passed
 pub mod Pixels
 pub mod Screens
-pub mod Handed
 pub mod Written
 pub mod Exact
+pub mod Handed
 pub mod Instance

@@ -23,7 +23,7 @@ use Rattle.write_lists.specs.Pairs.{Tables, colourAt, ruleAt, inBox, covers}
 -- ---- a pixel's colour
 
 -- pixel k of a tile with this tally, stored index and backdrop, painted over px. With segments: by the coverage that they and the backdrop give; with
--- none: whole, where the backdrop covers
+-- none: whole, where the backdrop covers (not 0; under even-odd, odd)
 unfoldable pub paintTile : List Float → ℕ → (colour rule count stored : ℕ) → ℤ → List Float → List Float
 paintTile segments k colour rule count stored b px =
     cond (ltb 0 count)
