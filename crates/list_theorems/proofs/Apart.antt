@@ -5,7 +5,7 @@ use mathlib.Core.Logic.{_⊎_, inl, inr, ⊎-elim}
 use mathlib.Core.List.{List, [], _∷_, _++_}
 use Prim.Native.Nat.{ℕ, zero, suc, _+_, _-_, _*_, _≤_, _<_}
 use native.Mathlib.Omega.{arith}
-use native.Mathlib.Decide.{ℕ-discrete}
+use native.Mathlib.Decide.{decLt, ℕ-discrete}
 use lib.ListN.{length}
 use borrow.Author.Tests.{leb-true}
 use Rattle.lists.specs.Run.{All}
@@ -16,7 +16,7 @@ use Rattle.write_lists.specs.Layout.{pairWords, pairSize, Chunk, chunk, penAt, 
 use Rattle.write_lists.specs.Lists.{freshOf, listsFrom}
 use Rattle.write_lists.specs.declared.pairs.Pair.{Pair}
 use Rattle.write_lists.specs.declared.pairs.Pair.the-variants.{Fill, Solid}
-use Rattle.list_theorems.proofs.Regions.{Apart, AllApart}
+use Rattle.list_theorems.proofs.Regions.{Apart, AllApart, Off}
 
 -- ---- lists of chunks
 
@@ -144,3 +144,17 @@ module _ (s : Tables) (cols : ℕ) where
           → (f : ℕ) × All P (laid (penOf u f) (tilePairs s cols u))
       go (yes e) ih = (fresh, subst (λ (v : ℕ). All P (laid (penOf v fresh) (tilePairs s cols v))) e (all-first P (laid (penOf t fresh) (tilePairs s cols t)) (listsFrom s cols (fresh + tileWords * jumpsOf ownWords (tilePairs s cols t)) (from (suc t) n)) p))
       go (no e) ih = ih (omega arith) (omega arith) (all-then P (laid (penOf t fresh) (tilePairs s cols t)) (listsFrom s cols (fresh + tileWords * jumpsOf ownWords (tilePairs s cols t)) (from (suc t) n)) p)
+
+  -- no chunk is over the first word of a tile's own region
+  pub first-off : (n t fresh u : ℕ) → tileWords * u < fresh → All (Off (tileWords * u)) (listsFrom s cols fresh (from t n))
+  first-off zero t fresh u h = tt
+  first-off (suc n) t fresh u h =
+      let j = jumpsOf ownWords (tilePairs s cols t) in
+      all-append (Off (tileWords * u)) (laid (penOf t fresh) (tilePairs s cols t)) (listsFrom s cols (fresh + tileWords * j) (from (suc t) n))
+      (all-map _ (Off (tileWords * u)) (λ c. ⊎-elim (λ q. go c q (decLt t u)) (λ q. inl (omega arith))) (laid (penOf t fresh) (tilePairs s cols t))
+      (laid-in (tilePairs s cols t) (startOf t) ownWords fresh (omega arith)))
+      (first-off n (suc t) (fresh + tileWords * j) u (omega arith))
+    where
+      go : (c : Chunk) → (startOf t ≤ c .place) × (c .place + length (c .words) ≤ startOf t + ownWords) → Dec (t < u) → Off (tileWords * u) c
+      go c q (yes d) = inr (omega arith)
+      go c q (no d) = inl (omega arith)

@@ -29,7 +29,7 @@ use Rattle.write_lists.specs.declared.pairs.Pair.the-variants.{Fill, Solid}
 use Rattle.list_theorems.specs.Painted.{painted}
 use Rattle.list_theorems.specs.Written.{Wrote, Fills, AllI32, PairsInOrder, NeverRefused, LikePainted}
 use Rattle.list_theorems.proofs.Regions.{ChunkStands, InWords, Filled, Off, all-stand, word-stays, list-goes}
-use Rattle.list_theorems.proofs.Apart.{all-map, lists-in, lists-apart, tile-among}
+use Rattle.list_theorems.proofs.Apart.{all-map, lists-in, lists-apart, tile-among, first-off}
 use Rattle.list_theorems.proofs.Passed.{Passed, passed}
 use Rattle.list_theorems.proofs.Pixels.{list-ends, list-paints, pairs-paint}
 use Rattle.list_theorems.proofs.Screens.{tiles-shown}
@@ -61,6 +61,14 @@ module _ (s : Tables) (cols rows room : ℕ) (ws words : List ℕ) (wrote : Wrot
       let cs = listsFrom s cols (tileWords * n) (from 0 n) in
       ap (λ (l : List ℕ). getD l i 0) (p .are)
       ∙ word-stays cs ws i (all-map _ (Off i) (λ c. ⊎-elim (λ q. inr (omega arith)) (λ q. inr (omega arith))) cs (lists-in s cols n 0 (tileWords * n)))
+
+  -- so does the first word of each tile's own region
+  pub first-stays : (t : ℕ) → t < cols * rows → getD words (tileWords * t) 0 ≡ getD ws (tileWords * t) 0
+  unfolding listsOf
+  first-stays t h =
+      let n = cols * rows in
+      let cs = listsFrom s cols (tileWords * n) (from 0 n) in
+      ap (λ (l : List ℕ). getD l (tileWords * t) 0) (p .are) ∙ word-stays cs ws (tileWords * t) (first-off s cols n 0 (tileWords * n) t (omega arith))
 
   module _ (segs : List Float) (fills : Fills room segs) where
     pub pairs-in-order : PairsInOrder s cols rows words segs
