@@ -2,3 +2,4 @@
 pub mod Pairs
 pub mod Layout
 pub mod Lists
+pub mod Ready
