@@ -13,8 +13,11 @@ use Rattle.lists.specs.Run.{All}
 use Rattle.lists.specs.Sums.{from}
 use Rattle.panel.specs.Limits.{mostTiles, mostCommands}
 use Rattle.panel.specs.Widths.{segmentFloats}
+use Rattle.panel.specs.declared.kinds.Answer.{Answer}
+use Rattle.panel.specs.declared.kinds.Answer.the-variants.{Done}
 use Rattle.panel.specs.declared.kinds.Verdict.{Verdict}
 use Rattle.panel.proofs.CheckLaws.{none-fails}
+use Rattle.panel.proofs.KindLaws.{paper-once}
 use Rattle.coverage.specs.Tile.{tileWidth, tileHeight}
 use Rattle.commands.specs.Numbers.{tileWords, startOf}
 use Rattle.commands.specs.Steps.{Trace, endOf}
@@ -23,16 +26,29 @@ use Rattle.fine.specs.Screen.{clear, tileTrace, colourAt}
 use Rattle.fine.specs.Fine.{fineChecks, tilesOf, shownOf, unlessNo, fineOf}
 use Rattle.write_lists.specs.Pairs.{Tables, tilePairs}
 use Rattle.write_lists.specs.Layout.{ownWords}
-use Rattle.write_lists.specs.Lists.{freshOf, listsFrom, regionsOf, listsOf}
+use Rattle.write_lists.specs.Lists.{freshOf, listsFrom, regionsOf, listsOf, Left}
 use Rattle.write_lists.specs.declared.pairs.Pair.{Pair}
 use Rattle.write_lists.specs.declared.pairs.Pair.the-variants.{Fill, Solid}
 use Rattle.list_theorems.specs.Painted.{painted}
-use Rattle.list_theorems.specs.Written.{Wrote, Fills, AllI32, PairsInOrder, NeverRefused, LikePainted}
+use Rattle.list_theorems.specs.Written.{ListsMet, Wrote, Fills, AllI32, PairsInOrder, NeverRefused, LikePainted}
 use Rattle.list_theorems.proofs.Regions.{ChunkStands, InWords, Filled, Off, all-stand, word-stays, list-goes}
 use Rattle.list_theorems.proofs.Apart.{all-map, lists-in, lists-apart, tile-among, first-off}
 use Rattle.list_theorems.proofs.Passed.{Passed, passed}
 use Rattle.list_theorems.proofs.Pixels.{list-ends, list-paints, pairs-paint}
 use Rattle.list_theorems.proofs.Screens.{tiles-shown}
+
+-- ---- the promise
+
+-- it admits one answer only, and one content of the words
+pub one-lists : (s : Tables) (cols rows room : ℕ) (ws : List ℕ) (r r′ : Answer) (after after′ : List ℕ) → ListsMet s cols rows room ws r after → ListsMet s cols rows room ws r′ after′
+    → (r ≡ r′) × (after ≡ after′)
+one-lists s cols rows room ws r r′ after after′ p q = let e = p ∙ sym q in (paper-once r r′ (ap (λ (l : Left). l .paper) e), ap (λ (l : Left). l .words) e)
+
+-- a call that answers done has written
+pub met-wrote : (s : Tables) (cols rows room : ℕ) (ws after : List ℕ) → ListsMet s cols rows room ws Done after → Wrote s cols rows room ws after
+met-wrote s cols rows room ws after p = sym p
+
+-- ---- what was written
 
 more : {a b : ℕ} → a ≤ b → (p : Pair) → Filled a p → Filled b p
 more h (Fill count rule first backdrop colour) f = omega arith
