@@ -1,0 +1,23 @@
+-- Proofs of the theorems; docs/THEOREMS.md says which is which.
+--     Writes      words written at a place stand there, and words apart from it stay
+--     Steps       a command that stands at a place is the trace's next step
+--     Regions     a list laid out in regions: its chunks stand once written, and its commands are its pairs'
+--     Apart       the chunks of all lists lie in the regions that are theirs
+--     Passed      what a call that is done has been checked for
+--     Pixels      what a list's commands make of a pixel is what the paths make of it
+--     Screens     tiles put on the screen one after another, pixel by pixel
+--     Written     the theorems
+--     Exact       refusals are exact
+--     Handed      tables as hand-out leaves them
+--     Instance    the premises can be met
+pub mod Writes
+pub mod Steps
+pub mod Regions
+pub mod Apart
+pub mod Passed
+pub mod Pixels
+pub mod Screens
+pub mod Written
+pub mod Exact
+pub mod Handed
+pub mod Instance
