@@ -1,12 +1,19 @@
 -- Where a step of a walk falls: what its tile tells.
 -- Assumes nothing.
-use mathlib.Core.Path.{_≡_, refl, sym, ap, _∙_}
+use mathlib.Core.Path.{_≡_, refl, sym, ap, _∙_, subst}
 use mathlib.Core.Bool.{Bool, true, false, cond, _&&_, false≢true}
-use Prim.Native.Nat.{ℕ, _+_, _*_, _<_}
+use mathlib.Core.Logic.{_⊎_, inl, inr}
+use mathlib.Core.List.{List}
+use Prim.Native.Nat.{ℕ, _+_, _-_, _*_, _/_, _%_, _≤_, _<_}
+use native.Mathlib.Nat.{le-refl}
 use native.Mathlib.Omega.{arith}
-use lib.Dec.{eqb, ltb}
+use lib.Dec.{eqb, ltb, leb}
+use lib.ListN.{length, getD, set}
+use lib.Seq.{getD-set-same, getD-set-other}
+use lib.IntN.{ℤ}
 use lib.Ieee.{Float, eq}
-use borrow.Author.Tests.{ltb-true}
+use Rattle.float32.proofs.Tests.{below-or-not}
+use borrow.Author.Tests.{ltb-true, eqb-true, leb-true, leb-false}
 use Rattle.panel.specs.Limits.{mostSteps}
 use Rattle.panel.specs.Paths.{widthOf, endOf}
 use Rattle.panel.specs.declared.kinds.Path.{Path}
@@ -19,9 +26,13 @@ use Rattle.walk.specs.declared.step.Step.{Step}
 use Rattle.walk.specs.declared.step.Step.the-variants.{Tile, Refused}
 use Rattle.walk.proofs.Tiles.{tile-in, mark-in, mark-right, tile-once}
 use Rattle.walk.proofs.Walks.{StartsAt}
-use Rattle.acts.specs.Acts.{Hit, on, off}
+use Rattle.panel.specs.Refusals.{outside}
+use Rattle.acts.specs.Acts.{Hit, on, off, checkNo, stepActs, stepsActs}
+use Rattle.acts.proofs.Laws.{check-off, steps-same}
 use Rattle.acts.proofs.Plans.{Apart}
-use Rattle.path_count.specs.Steps.{hitOf, hitAt, seenOf}
+use Rattle.path_count.specs.Steps.{hitOf, hitAt, seenOf, wordOf, notedOf, hitsBy, Told, Notes, noteWords, notedTo, OnTiles}
+use Rattle.path_count.specs.declared.kinds.Noted.{Noted}
+use Rattle.path_count.specs.declared.kinds.Noted.the-variants.{Passed as NotedPassed, Against as NotedAgainst}
 use Rattle.path_count.specs.declared.kinds.Seen.{Seen}
 use Rattle.path_count.specs.declared.kinds.Seen.the-variants.{Passed, Against as SeenAgainst}
 
@@ -96,3 +107,83 @@ seen-passed (Against n) u z e = let q : _≡_ {A = ℕ} 0 1 = cc in absurd (omeg
 pub seen-against : (v : Verdict) (u : Float) (n : ℕ) → seenOf v u ≡ SeenAgainst n → v ≡ Against n
 seen-against Fine u n e = let q : _≡_ {A = ℕ} 0 1 = cc in absurd (omega arith)
 seen-against (Against m) u n e = let q : m ≡ n = cc in ap Against q
+
+-- ---- what is noted
+
+pub noted-passed : (v : Verdict) (u z : Float) (w k : ℕ) → notedOf v u w ≡ NotedPassed z k → (v ≡ Fine) × (z ≡ u) × (k ≡ w)
+noted-passed Fine u z w k e = (refl, cc, cc)
+noted-passed (Against n) u z w k e = let q : _≡_ {A = ℕ} 0 1 = cc in absurd (omega arith)
+
+pub noted-against : (v : Verdict) (u : Float) (w n : ℕ) → notedOf v u w ≡ NotedAgainst n → v ≡ Against n
+noted-against Fine u w n e = let q : _≡_ {A = ℕ} 0 1 = cc in absurd (omega arith)
+noted-against (Against m) u w n e = let q : m ≡ n = cc in ap Against q
+
+-- the word of a step on a tile says where it falls
+word-told : (t : ℕ) (c : Bool) (tiles : ℕ) → t + cond c 1 0 < tiles → Told (on t c) (wordOf (on t c)) tiles
+word-told t true tiles h =
+    let d : (t * 2 + 1) / 2 ≡ t = omega arith in
+    let r : (t * 2 + 1) % 2 ≡ 1 = omega arith in
+    record { falls = rw (d, r); below = omega arith }
+word-told t false tiles h =
+    let d : (t * 2 + 0) / 2 ≡ t = omega arith in
+    let r : (t * 2 + 0) % 2 ≡ 0 = omega arith in
+    record { falls = rw (d, r); below = omega arith }
+
+-- a step that passes its check is on a tile, and so its word tells
+pub step-noted : (w : Pace) (b : Path) (i : ℕ) (δ : ℤ) (bs : List ℤ) (cs : List ℕ) → OnTiles b (length bs) (length cs) → checkNo δ (stepActs (hitAt w b i) i) bs cs ≡ Fine
+    → Told (hitAt w b i) (wordOf (hitAt w b i)) (length bs)
+step-noted w b i δ bs cs o e = go (hitAt w b i) refl
+  where
+    below : (n : ℕ) (c : Bool) → Hitting w b i n c → n + cond c 1 0 < length bs
+    below n true a =
+        omega (arith, mark-in w b i (a .t) (a .x) (a .y) (a .z) (a .fell) (cross-right w b i (a .t) (a .x) (a .y) (a .z) (a .fell) (lastZ w i) true (a .marks) refl), a .number, o .within, o .paired)
+    below n false a = omega (arith, tile-in w b i (a .t) (a .x) (a .y) (a .z) (a .fell) .1, a .number, o .within, o .paired)
+
+    go : (h : Hit) → hitAt w b i ≡ h → Told (hitAt w b i) (wordOf (hitAt w b i)) (length bs)
+    go off f = let v : Against outside ≡ Fine = check-off δ (hitAt w b i) i bs cs f ∙ e in let q : _≡_ {A = ℕ} 0 1 = cc in absurd (omega arith)
+    go (on n c) f = subst (λ (h : Hit). Told h (wordOf h) (length bs)) (sym f) (word-told n c (length bs) (below n c (hitting w b i n c f)))
+
+-- the tile of a word's mark, or its own where it marks none
+pub word-next : (k tiles : ℕ) → k / 2 + k % 2 < tiles → cond (eqb (k % 2) 1) (k / 2 + 1) (k / 2) < tiles
+word-next k tiles h = go (eqb (k % 2) 1) refl
+  where
+    go : (c : Bool) → eqb (k % 2) 1 ≡ c → cond c (k / 2 + 1) (k / 2) < tiles
+    go true e = omega (arith, eqb-true (k % 2) 1 e)
+    go false e = omega arith
+
+-- one more word
+pub notes-more : (f : ℕ → Hit) (a n : ℕ) (ks : List ℕ) (tiles k : ℕ) → n < length ks → Notes f a n ks tiles → Told (f (a + n)) k tiles → Notes f a (n + 1) (set ks n k) tiles
+notes-more f a n ks tiles k l h t j g = go (below-or-not j n)
+  where
+    go : (j < n) ⊎ (n ≤ j) → Told (f (a + j)) (getD (set ks n k) j 0) tiles
+    go (inl p) = subst (λ (m : ℕ). Told (f (a + j)) m tiles) (sym (getD-set-other ks n j k 0 (omega arith))) (h j p)
+    go (inr p) =
+        let e : j ≡ n = omega arith in
+        subst (λ (i : ℕ). Told (f (a + i)) (getD (set ks n k) i 0) tiles) (sym e)
+        (subst (λ (m : ℕ). Told (f (a + n)) m tiles) (sym (getD-set-same ks n k 0 l)) t)
+
+pub notes-turn : (f : ℕ → Hit) (a i : ℕ) (ks : List ℕ) (tiles k : ℕ) → a ≤ i → i - a < length ks → Notes f a (i - a) ks tiles → Told (f i) k tiles → Notes f a (i + 1 - a) (set ks (i - a) k) tiles
+notes-turn f a i ks tiles k p l h t =
+    let e : a + (i - a) ≡ i = omega arith in
+    let g : i - a + 1 ≡ i + 1 - a = omega arith in
+    subst (λ (n : ℕ). Notes f a n (set ks (i - a) k) tiles) g (notes-more f a (i - a) ks tiles k l h (subst (λ (n : ℕ). Told (f n) k tiles) (sym e) t))
+
+pub not-fine : (n : ℕ) → Against n ≡ Fine → ⊥
+not-fine n e = let q : _≡_ {A = ℕ} 0 1 = cc in omega arith
+
+-- by the words noted, the steps have the same acts
+pub notes-acts : (f : ℕ → Hit) (a b : ℕ) (ks : List ℕ) (tiles : ℕ) → Notes f a (b - a) ks tiles → stepsActs f (b - a) a ≡ stepsActs (hitsBy ks a) (b - a) a
+notes-acts f a b ks tiles h = steps-same f (hitsBy ks a) (b - a) a (λ j p q. same j p q)
+  where
+    same : (j : ℕ) → a ≤ j → j < a + (b - a) → f j ≡ hitsBy ks a j
+    same j p q =
+        let e : a + (j - a) ≡ j = omega arith in
+        ap f (sym e) ∙ h (j - a) (omega arith) .falls
+
+-- the end of the steps that are noted lies in the walk
+pub noted-end : (a b : ℕ) → a ≤ b → (a ≤ notedTo a b) × (notedTo a b ≤ b) × (notedTo a b - a ≤ noteWords)
+noted-end a b h = go (leb (b - a) noteWords) refl
+  where
+    go : (c : Bool) → leb (b - a) noteWords ≡ c → (a ≤ cond c b (a + noteWords)) × (cond c b (a + noteWords) ≤ b) × (cond c b (a + noteWords) - a ≤ noteWords)
+    go true e = (h, le-refl b, leb-true (b - a) noteWords e)
+    go false e = let g = leb-false (b - a) noteWords e in (omega arith, omega arith, omega arith)

@@ -8,7 +8,7 @@ ghost use Rattle.acts.specs.Acts.{stOf};
 ghost use Rattle.path_count.specs.Count.{numberOf, batch, paperOf, madeOf, toldOf, batchTold, lentChecks, counted, Lent};
 use super::kinds::Counted;
 use super::kinds::Tallied;
-use super::line::count_line;
+use super::line::count_noted;
 use panel::checks::check_paths;
 use panel::kinds::Answer;
 use panel::kinds::LineNo;
@@ -46,16 +46,18 @@ fn count_batch(
         ≡ batchTold end (batch (now («path_nos» .entry)) (now (coords .entry)) (now (paths .entry)) (length (now (refs .entry)) / refWords) (running .lines) end
         (stOf (now (backs .entry)) (now (counts .entry)) (now (refs .entry)) (running .refs))) ⌝ }
 {
+    let mut notes = [0u32; 256];
     let mut s = running;
     while s.lines < end {
         let l = s.lines;
-        let t = count_line(
+        let t = count_noted(
             LineNo(l),
             l,
             s.refs,
             path_nos,
             coords,
             paths,
+            &mut notes,
             backs,
             counts,
             refs,

@@ -1,11 +1,15 @@
-// The check of a line's steps, path_count.rs lines 133 to 159 with nothing written: 10, 8, 11.
+// The check of a line's steps, path_count.rs lines 133 to 159 with nothing written: 10, 8, 11. The
+// first steps are noted, so that the write needn't find them again.
 ghost use mathlib.Core.Path.{_≡_};
 ghost use Prim.Native.Nat.{_-_, _<_, _≤_};
 ghost use lib.ListN.{length};
-ghost use Rattle.panel.specs.Limits.{mostSteps};
-ghost use Rattle.walk.specs.Step.{lastZ};
-ghost use Rattle.acts.specs.Acts.{checkNo, stepActs, stepsActs, deltaOf};
-ghost use Rattle.path_count.specs.Steps.{hitAt, zOf, seenOf, OnTiles};
+ghost use Rattle.exact.specs.Reach.{Starts};
+ghost use Rattle.panel.specs.Limits.{mostSteps, mostTiles};
+ghost use Rattle.panel.specs.declared.kinds.Verdict.the-variants.{Fine};
+ghost use Rattle.walk.specs.Step.{lastZ, edgesOf};
+ghost use Rattle.acts.specs.Acts.{on, checkNo, stepActs, stepsActs, deltaOf};
+ghost use Rattle.path_count.specs.Steps.{hitAt, zOf, seenOf, wordOf, notedOf, Notes, noteWords, OnTiles};
+use super::kinds::Noted;
 use super::kinds::Seen;
 use acts::leaves;
 use acts::next_if;
@@ -15,6 +19,9 @@ use panel::limits::MOST_COUNT;
 use panel::refusals::COUNT_OVER;
 use panel::refusals::OUTSIDE;
 use panel::refusals::SUM_OVER;
+use walk::edges::Edges;
+use walk::edges::edges_of;
+use walk::edges::step_by;
 use walk::setup::Pace;
 use walk::step::Step;
 use walk::step::crosses;
@@ -76,6 +83,82 @@ pub fn check_steps(
             }
             Seen::Passed(z) => {
                 last_z = z;
+            }
+        }
+        i += 1;
+    }
+    Verdict::Fine
+}
+
+// A step's tile, and whether it marks, in one word.
+fn word_of(t: u32, marks: bool) -> u32
+    requires { ⌜ t < mostTiles ⌝ }
+    ensures { λ r. ⌜ r ≡ wordOf (on t marks) ⌝ }
+{
+    if marks { t * 2 + 1 } else { t * 2 }
+}
+
+// One step of a checked line, with the word to note of it.
+fn note_step(
+    pace: Pace,
+    path: Path,
+    edges: Edges,
+    up: bool,
+    i: u32,
+    last_z: f32,
+    backs: &[i32],
+    counts: &[u32],
+) -> Noted
+    requires { ⌜ OnTiles path (length (now backs)) (length (now counts)) × (i < mostSteps) × («last_z» ≡ lastZ pace i)
+        × Starts (pace .sign) (pace .x0) (pace .y0) × (edges ≡ edgesOf path) ⌝ }
+    ensures { λ r. ⌜ r ≡ notedOf (checkNo (deltaOf up) (stepActs (hitAt pace path i) i) (now (backs .entry)) (now (counts .entry))) (zOf pace i) (wordOf (hitAt pace path i)) ⌝ }
+{
+    let Step::Tile(tile, x, _, z) = step_by(pace, path, edges, i) else {
+        return Noted::Against(OUTSIDE);
+    };
+    let t = tile.0 as usize;
+    if counts[t] >= MOST_COUNT {
+        return Noted::Against(COUNT_OVER);
+    }
+    let marks = crosses(pace.on_top, path.x1, i, last_z, x, z);
+    let q = next_if(t, marks);
+    if marks & leaves(backs[q], up) {
+        return Noted::Against(SUM_OVER);
+    }
+    Noted::Passed(z, word_of(tile.0, marks))
+}
+
+// The steps from .. to, in order, each with its note.
+pub fn note_steps(
+    pace: Pace,
+    path: Path,
+    up: bool,
+    from: u32,
+    to: u32,
+    backs: &[i32],
+    counts: &[u32],
+    notes: &mut [u32],
+) -> Verdict
+    requires { ⌜ OnTiles path (length (now backs)) (length (now counts)) × («from» < to → to ≤ mostSteps)
+        × Starts (pace .sign) (pace .x0) (pace .y0) × (to - «from» ≤ length (now notes)) × (length (now notes) ≡ noteWords) ⌝ }
+    ensures { λ r. ⌜ (r ≡ checkNo (deltaOf up) (stepsActs (hitAt pace path) (to - «from») «from») (now (backs .entry)) (now (counts .entry)))
+        × (r ≡ Fine → Notes (hitAt pace path) «from» (to - «from») (now (notes .exit)) (length (now (backs .entry)))) ⌝ }
+{
+    if to <= from {
+        return Verdict::Fine;
+    }
+    let edges = edges_of(path);
+    let mut last_z = z_at(pace.a, pace.b, from as f32 - 1.0);
+    let mut i = from;
+    while i < to {
+        let noted = note_step(pace, path, edges, up, i, last_z, backs, counts);
+        match noted {
+            Noted::Against(why) => {
+                return Verdict::Against(why);
+            }
+            Noted::Passed(z, word) => {
+                last_z = z;
+                notes[(i - from) as usize] = word;
             }
         }
         i += 1;

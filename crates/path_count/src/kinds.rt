@@ -1,9 +1,18 @@
 // What counting hands from part to part, and what it answers.
 use panel::kinds::Running;
 
+// So many steps of a line are noted by its check; those past them are walked again by its write.
+pub const NOTE_WORDS: u32 = 256;
+
 // A step that passes its check, with its z; or the number of its refusal.
 pub enum Seen {
     Passed(f32),
+    Against(u32),
+}
+
+// The same, with the word that is noted of it: its tile, and whether it marks the tile right of it.
+pub enum Noted {
+    Passed(f32, u32),
     Against(u32),
 }
 

@@ -2,17 +2,22 @@
 // for row marks, then the steps.
 ghost use mathlib.Core.Path.{_≡_};
 ghost use mathlib.Core.Bool.{true};
-ghost use Prim.Native.Nat.{_+_, _-_, _*_, _/_, _≤_};
+ghost use Prim.Native.Nat.{_+_, _-_, _*_, _/_, _<_, _≤_};
 ghost use lib.ListN.{length};
 ghost use Rattle.lists.specs.Run.{done};
-ghost use Rattle.panel.specs.Limits.{mostSlots};
+ghost use Rattle.panel.specs.Limits.{mostSteps, mostSlots};
 ghost use Rattle.panel.specs.Widths.{refWords};
-ghost use Rattle.acts.specs.Acts.{stOf, runActs, checkNo, isDone, deltaOf};
+ghost use Rattle.acts.specs.Acts.{stOf, runActs, checkNo, stepsActs, isDone, deltaOf};
 ghost use Rattle.acts.specs.Line.{planActs, planStep};
-ghost use Rattle.path_count.specs.Steps.{OnTiles};
+ghost use Rattle.panel.specs.declared.kinds.Verdict.the-variants.{Fine};
+ghost use Rattle.exact.specs.Reach.{Starts};
+ghost use Rattle.path_count.specs.Steps.{hitAt, noteWords, notedTo, Notes, OnTiles};
 ghost use Rattle.path_count.specs.Count.{rowsBy, planBy, planOf, lineRan, tallyRan, unwalkedOf, lineStep, Clipped, Walkable, Lent, There};
 use super::checks::check_steps;
+use super::checks::note_steps;
+use super::kinds::NOTE_WORDS;
 use super::kinds::Tallied;
+use super::writes::write_notes;
 use super::writes::write_steps;
 use acts::Rows;
 use acts::check_rows;
@@ -48,7 +53,70 @@ fn rows_by(path: Path, clip: Clip) -> Rows
     }
 }
 
-// Row marks, then steps: nothing is written.
+// The end of the steps that are noted: the first of a walk from imin to imax.
+fn noted_to(imin: u32, imax: u32) -> u32
+    requires { ⌜ imin ≤ imax ⌝ }
+    ensures { λ r. ⌜ r ≡ notedTo imin imax ⌝ }
+{
+    if imax - imin <= NOTE_WORDS {
+        imax
+    } else {
+        imin + NOTE_WORDS
+    }
+}
+
+// The steps imin .. imax, of which the first are noted.
+fn check_walk(
+    pace: Pace,
+    path: Path,
+    up: bool,
+    imin: u32,
+    imax: u32,
+    backs: &[i32],
+    counts: &[u32],
+    notes: &mut [u32],
+) -> Verdict
+    requires { ⌜ OnTiles path (length (now backs)) (length (now counts)) × (imin ≤ imax) × (imin < imax → imax ≤ mostSteps)
+        × Starts (pace .sign) (pace .x0) (pace .y0) × (length (now notes) ≡ noteWords) ⌝ }
+    ensures { λ r. ⌜ (r ≡ checkNo (deltaOf up) (stepsActs (hitAt pace path) (imax - imin) imin) (now (backs .entry)) (now (counts .entry)))
+        × (r ≡ Fine → Notes (hitAt pace path) imin (notedTo imin imax - imin) (now (notes .exit)) (length (now (backs .entry)))) ⌝ }
+{
+    let mid = noted_to(imin, imax);
+    let v = note_steps(pace, path, up, imin, mid, backs, counts, notes);
+    let Verdict::Fine = v else {
+        return v;
+    };
+    check_steps(pace, path, up, mid, imax, backs, counts)
+}
+
+// The steps imin .. imax, of which the first are noted, as references made, made + 1, ..
+fn write_walk(
+    pace: Pace,
+    path: Path,
+    up: bool,
+    line: LineNo,
+    imin: u32,
+    imax: u32,
+    made: u32,
+    notes: &[u32],
+    backs: &mut [i32],
+    counts: &mut [u32],
+    refs: &mut [u32],
+)
+    requires { ⌜ OnTiles path (length (now backs)) (length (now counts)) × (imin ≤ imax) × (imin < imax → imax ≤ mostSteps)
+        × (refWords * (made + (imax - imin)) ≤ length (now refs)) × (made + (imax - imin) ≤ mostSlots)
+        × (isDone (runActs (deltaOf up) (line .0) (stepsActs (hitAt pace path) (imax - imin) imin) (stOf (now backs) (now counts) (now refs) made)) ≡ true)
+        × (length (now notes) ≡ noteWords) × Notes (hitAt pace path) imin (notedTo imin imax - imin) (now notes) (length (now backs)) ⌝ }
+    ensures { λ _. ⌜ done (stOf (now (backs .exit)) (now (counts .exit)) (now (refs .exit)) (made + (imax - imin)))
+        ≡ runActs (deltaOf up) (line .0) (stepsActs (hitAt pace path) (imax - imin) imin) (stOf (now (backs .entry)) (now (counts .entry)) (now (refs .entry)) made) ⌝ }
+{
+    let mid = noted_to(imin, imax);
+    write_notes(notes, up, line, imin, mid, made, backs, counts, refs);
+    let at = made + (mid - imin);
+    write_steps(pace, path, up, line, mid, imax, at, backs, counts, refs);
+}
+
+// Row marks, then steps: nothing lent by the caller is written.
 fn check_line(
     up: bool,
     pace: Pace,
@@ -56,15 +124,18 @@ fn check_line(
     clip: Clip,
     backs: &[i32],
     counts: &[u32],
+    notes: &mut [u32],
 ) -> Verdict
-    requires { ⌜ OnTiles path (length (now backs)) (length (now counts)) × Clipped path clip ⌝ }
-    ensures { λ r. ⌜ r ≡ checkNo (deltaOf up) (planActs (planBy up pace path clip)) (now (backs .entry)) (now (counts .entry)) ⌝ }
+    requires { ⌜ OnTiles path (length (now backs)) (length (now counts)) × Clipped path clip × Starts (pace .sign) (pace .x0) (pace .y0)
+        × (length (now notes) ≡ noteWords) ⌝ }
+    ensures { λ r. ⌜ (r ≡ checkNo (deltaOf up) (planActs (planBy up pace path clip)) (now (backs .entry)) (now (counts .entry)))
+        × (r ≡ Fine → Notes (hitAt pace path) (clip .imin) (notedTo (clip .imin) (clip .imax) - clip .imin) (now (notes .exit)) (length (now (backs .entry)))) ⌝ }
 {
     let v = check_rows(rows_by(path, clip), up, backs, counts);
     let Verdict::Fine = v else {
         return v;
     };
-    check_steps(pace, path, up, clip.imin, clip.imax, backs, counts)
+    check_walk(pace, path, up, clip.imin, clip.imax, backs, counts, notes)
 }
 
 // Row marks, then steps, as references made, made + 1, ..
@@ -75,18 +146,20 @@ fn write_line(
     clip: Clip,
     line: LineNo,
     made: u32,
+    notes: &[u32],
     backs: &mut [i32],
     counts: &mut [u32],
     refs: &mut [u32],
 )
-    requires { ⌜ OnTiles path (length (now backs)) (length (now counts)) × Clipped path clip
+    requires { ⌜ OnTiles path (length (now backs)) (length (now counts)) × Clipped path clip × (length (now notes) ≡ noteWords)
+        × Notes (hitAt pace path) (clip .imin) (notedTo (clip .imin) (clip .imax) - clip .imin) (now notes) (length (now backs))
         × (refWords * (made + (clip .imax - clip .imin)) ≤ length (now refs)) × (made + (clip .imax - clip .imin) ≤ mostSlots)
         × (isDone (runActs (deltaOf up) (line .0) (planActs (planBy up pace path clip)) (stOf (now backs) (now counts) (now refs) made)) ≡ true) ⌝ }
     ensures { λ _. ⌜ done (stOf (now (backs .exit)) (now (counts .exit)) (now (refs .exit)) (made + (clip .imax - clip .imin)))
         ≡ runActs (deltaOf up) (line .0) (planActs (planBy up pace path clip)) (stOf (now (backs .entry)) (now (counts .entry)) (now (refs .entry)) made) ⌝ }
 {
     write_rows(rows_by(path, clip), up, backs);
-    write_steps(
+    write_walk(
         pace,
         path,
         up,
@@ -94,23 +167,25 @@ fn write_line(
         clip.imin,
         clip.imax,
         made,
+        notes,
         backs,
         counts,
         refs,
     );
 }
 
-// A walk, as line number line, after made references.
+// A walk, as line number line, after made references. The notes are room to work in.
 fn count_walk(
     line: LineNo,
     made: u32,
     walk: Walk,
     path: Path,
+    notes: &mut [u32],
     backs: &mut [i32],
     counts: &mut [u32],
     refs: &mut [u32],
 ) -> Tallied
-    requires { ⌜ OnTiles path (length (now backs)) (length (now counts)) × Walkable walk path ⌝ }
+    requires { ⌜ OnTiles path (length (now backs)) (length (now counts)) × Walkable walk path × (length (now notes) ≡ noteWords) ⌝ }
     ensures { λ r. ⌜ tallyRan r (stOf (now (backs .exit)) (now (counts .exit)) (now (refs .exit))) made
         ≡ lineRan (planStep (length (now (refs .entry)) / refWords) (line .0) (planOf walk path) (stOf (now (backs .entry)) (now (counts .entry)) (now (refs .entry)) made))
         (stOf (now (backs .entry)) (now (counts .entry)) (now (refs .entry)) made) ⌝ }
@@ -128,11 +203,11 @@ fn count_walk(
     if (after > (refs.len() / REF_WORDS) as u64) | (after > MOST_SLOTS as u64) {
         return Tallied::Against(NO_ROOM);
     }
-    let v = check_line(up, pace, path, clip, backs, counts);
+    let v = check_line(up, pace, path, clip, backs, counts, notes);
     if let Verdict::Against(why) = v {
         return Tallied::Against(why);
     }
-    write_line(up, pace, path, clip, line, made, backs, counts, refs);
+    write_line(up, pace, path, clip, line, made, notes, backs, counts, refs);
     Tallied::On(n)
 }
 
@@ -147,7 +222,36 @@ fn unwalked(walked: Walked) -> Tallied
     }
 }
 
-// The line at a place of those lent, as line number line: the two need not be the same.
+// The line at a place of those lent, as line number line: the two need not be the same. The notes are
+// room to work in.
+pub(crate) fn count_noted(
+    line: LineNo,
+    place: u32,
+    made: u32,
+    path_nos: &[u32],
+    coords: &[f32],
+    paths: &[u32],
+    notes: &mut [u32],
+    backs: &mut [i32],
+    counts: &mut [u32],
+    refs: &mut [u32],
+) -> Tallied
+    requires { ⌜ Lent (now paths) (length (now backs)) (length (now counts)) × There place (length (now «path_nos»)) (length (now coords)) × (length (now notes) ≡ noteWords) ⌝ }
+    ensures { λ r. ⌜ tallyRan r (stOf (now (backs .exit)) (now (counts .exit)) (now (refs .exit))) made
+        ≡ lineRan (lineStep (now («path_nos» .entry)) (now (coords .entry)) (now (paths .entry)) (length (now (refs .entry)) / refWords) (line .0) place (stOf (now (backs .entry)) (now (counts .entry)) (now (refs .entry)) made))
+        (stOf (now (backs .entry)) (now (counts .entry)) (now (refs .entry)) made) ⌝ }
+{
+    if line.0 >= MOST_LINES {
+        return Tallied::Against(LINE_NUMBER);
+    }
+    let walked = walk_at(path_nos, coords, paths, place);
+    let Walked::Line(walk, path) = walked else {
+        return unwalked(walked);
+    };
+    count_walk(line, made, walk, path, notes, backs, counts, refs)
+}
+
+// The same with room of its own.
 pub fn count_line(
     line: LineNo,
     place: u32,
@@ -164,12 +268,17 @@ pub fn count_line(
         ≡ lineRan (lineStep (now («path_nos» .entry)) (now (coords .entry)) (now (paths .entry)) (length (now (refs .entry)) / refWords) (line .0) place (stOf (now (backs .entry)) (now (counts .entry)) (now (refs .entry)) made))
         (stOf (now (backs .entry)) (now (counts .entry)) (now (refs .entry)) made) ⌝ }
 {
-    if line.0 >= MOST_LINES {
-        return Tallied::Against(LINE_NUMBER);
-    }
-    let walked = walk_at(path_nos, coords, paths, place);
-    let Walked::Line(walk, path) = walked else {
-        return unwalked(walked);
-    };
-    count_walk(line, made, walk, path, backs, counts, refs)
+    let mut notes = [0u32; 256];
+    count_noted(
+        line,
+        place,
+        made,
+        path_nos,
+        coords,
+        paths,
+        &mut notes,
+        backs,
+        counts,
+        refs,
+    )
 }

@@ -1,18 +1,20 @@
-// The writes of a line's steps that are known to go through, path_count.rs lines 133 to 159.
+// The writes of a line's steps that are known to go through, path_count.rs lines 133 to 159: of those
+// that the check noted, and of those past them, which are found again.
 ghost use mathlib.Core.Path.{_≡_};
 ghost use mathlib.Core.Bool.{true};
-ghost use Prim.Native.Nat.{_+_, _-_, _*_, _<_, _≤_};
-ghost use lib.ListN.{length};
+ghost use Prim.Native.Nat.{ℕ, _+_, _-_, _*_, _/_, _%_, _<_, _≤_};
+ghost use lib.ListN.{length, getD};
 ghost use Rattle.lists.specs.Run.{done};
 ghost use Rattle.panel.specs.Limits.{mostSteps, mostSlots};
 ghost use Rattle.panel.specs.Widths.{refWords};
 ghost use Rattle.walk.specs.Step.{lastZ};
 ghost use Rattle.acts.specs.Acts.{stOf, runActs, stepActs, stepsActs, isDone, deltaOf};
-ghost use Rattle.path_count.specs.Steps.{hitAt, zOf, OnTiles};
+ghost use Rattle.path_count.specs.Steps.{hitAt, zOf, hitBy, hitsBy, noteWords, OnTiles};
 use acts::mark_if;
 use acts::visit;
 use panel::kinds::LineNo;
 use panel::kinds::Path;
+use panel::kinds::TileNo;
 use walk::setup::Pace;
 use walk::step::Step;
 use walk::step::crosses;
@@ -75,6 +77,58 @@ pub fn write_steps(
     let mut i = from;
     while i < to {
         last_z = write_step(pace, path, up, line, i, last_z, at, backs, counts, refs);
+        at += 1;
+        i += 1;
+    }
+}
+
+// The step of a word, as reference number at.
+fn write_noted(
+    word: u32,
+    up: bool,
+    line: LineNo,
+    i: u32,
+    at: u32,
+    backs: &mut [i32],
+    counts: &mut [u32],
+    refs: &mut [u32],
+)
+    requires { ⌜ (word / 2 + word % 2 < length (now backs)) × (length (now backs) ≡ length (now counts)) × (i < mostSteps)
+        × (refWords * at + 1 < length (now refs)) × (at < mostSlots)
+        × (isDone (runActs (deltaOf up) (line .0) (stepActs (hitBy word) i) (stOf (now backs) (now counts) (now refs) at)) ≡ true) ⌝ }
+    ensures { λ _. ⌜ done (stOf (now (backs .exit)) (now (counts .exit)) (now (refs .exit)) (at + 1))
+        ≡ runActs (deltaOf up) (line .0) (stepActs (hitBy word) i) (stOf (now (backs .entry)) (now (counts .entry)) (now (refs .entry)) at) ⌝ }
+{
+    let t = word / 2;
+    let marks = word % 2 == 1;
+    visit(TileNo(t), line, i, at, counts, refs);
+    mark_if(backs, t as usize, marks, up);
+}
+
+// The steps from .. to by their words, as references made, made + 1, ..
+pub fn write_notes(
+    notes: &[u32],
+    up: bool,
+    line: LineNo,
+    from: u32,
+    to: u32,
+    made: u32,
+    backs: &mut [i32],
+    counts: &mut [u32],
+    refs: &mut [u32],
+)
+    requires { ⌜ ((j : ℕ) → j < to - «from» → getD (now notes) j 0 / 2 + getD (now notes) j 0 % 2 < length (now backs))
+        × (length (now backs) ≡ length (now counts)) × («from» ≤ to) × («from» < to → to ≤ mostSteps) × (to - «from» ≤ length (now notes)) × (length (now notes) ≡ noteWords)
+        × (refWords * (made + (to - «from»)) ≤ length (now refs)) × (made + (to - «from») ≤ mostSlots)
+        × (isDone (runActs (deltaOf up) (line .0) (stepsActs (hitsBy (now notes) «from») (to - «from») «from») (stOf (now backs) (now counts) (now refs) made)) ≡ true) ⌝ }
+    ensures { λ _. ⌜ done (stOf (now (backs .exit)) (now (counts .exit)) (now (refs .exit)) (made + (to - «from»)))
+        ≡ runActs (deltaOf up) (line .0) (stepsActs (hitsBy (now (notes .entry)) «from») (to - «from») «from») (stOf (now (backs .entry)) (now (counts .entry)) (now (refs .entry)) made) ⌝ }
+{
+    let mut at = made;
+    let mut i = from;
+    while i < to {
+        let word = notes[(i - from) as usize];
+        write_noted(word, up, line, i, at, backs, counts, refs);
         at += 1;
         i += 1;
     }

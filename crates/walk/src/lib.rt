@@ -1,6 +1,7 @@
 // The walk of a line over tiles, shared by counting and tiling: path_count.rs up to its clipping, and
 // a step's tile. docs/RULES.md, "The walk of a line".
 pub mod choose;
+pub mod edges;
 pub mod lent;
 pub mod setup;
 pub mod skip;

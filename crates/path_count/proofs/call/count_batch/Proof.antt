@@ -10,6 +10,7 @@ use Rattle.panel.specs.Widths.{refWords}
 use Rattle.panel.specs.declared.kinds.Running.{Running}
 use Rattle.acts.specs.Acts.{St, stOf}
 use Rattle.acts.proofs.Lines.{batch-goes, batch-stops, batch-ends}
+use Rattle.path_count.specs.Steps.{noteWords}
 use Rattle.path_count.specs.Count.{lineStep, lineRan, tallyRan, numberOf, batch, Lent}
 use Rattle.path_count.specs.declared.kinds.Tallied.{Tallied}
 use Rattle.path_count.specs.declared.kinds.Tallied.the-variants.{On, Against}
@@ -21,24 +22,29 @@ use Rattle.path_count.proofs.call.count_batch.Reads as reads
 use Rattle.path_count.proofs.call.count_batch.Lts as lts
 use Rattle.panel.proofs.kinds.Running.stepped.Reads as stepped-reads
 use Rattle.path_count.proofs.call.number.Reads as number-reads
-use Rattle.path_count.proofs.line.count_line.Reads as count-line-reads
+use Rattle.path_count.proofs.line.count_noted.Reads as count-noted-reads
 
 abbrev Inv-loop : tie.InvT-loop
-Inv-loop end path-nos coords paths backs₀ counts₀ refs₀ s₀ backs counts refs s =
+Inv-loop end path-nos coords paths backs₀ counts₀ refs₀ notes₀ s₀ backs counts refs notes s =
     (s .lines ≤ end) × (length backs ≡ length backs₀) × (length counts ≡ length counts₀) × (length refs ≡ length refs₀)
     × (batch path-nos coords paths (length refs₀ / refWords) (s .lines) end (stOf backs counts refs (s .refs))
     ≡ batch path-nos coords paths (length refs₀ / refWords) (s₀ .lines) end (stOf backs₀ counts₀ refs₀ (s₀ .refs)))
+    × (length notes ≡ noteWords)
 
 abbrev μ-loop : tie.MeasureT-loop
-μ-loop end path-nos coords paths backs₀ counts₀ refs₀ s₀ backs counts refs s = end - s .lines
+μ-loop end path-nos coords paths backs₀ counts₀ refs₀ notes₀ s₀ backs counts refs notes s = end - s .lines
 
 loop-holds : tie.Need-loop-holds Inv-loop μ-loop
-loop-holds c = (c .before .before .before .before .before .pre .1, refl, refl, refl, refl)
+loop-holds c = (c .before .before .before .before .before .pre .1, refl, refl, refl, refl, refl)
 
-count-line-requires : tie.Need-count-line-requires Inv-loop μ-loop
-count-line-requires c κs = (
-  subst₂ (Lent (c .before .before .before .before .before .before .before .before .before .before .before .args .paths .now)) (sym (c .before .before .before .before .before .loop .inv .1)) (sym (c .before .before .before .before .before .loop .inv .2)) (c .before .before .before .before .before .before .before .before .before .before .before .pre .0),
-  record { numbered = omega (arith, c .before .before .before .if1 .taken, c .before .before .before .before .before .before .before .before .before .before .before .pre .2); whole = omega (arith, c .before .before .before .if1 .taken, c .before .before .before .before .before .before .before .before .before .before .before .pre .3) },
+slice-aggregate-count-noted : tie.Need-slice-aggregate-count-noted Inv-loop μ-loop
+slice-aggregate-count-noted c = sym (c .before .before .before .loop .inv .5)
+
+count-noted-requires : tie.Need-count-noted-requires Inv-loop μ-loop
+count-noted-requires c κs = (
+  subst₂ (Lent (c .before .before .before .before .before .before .before .before .before .before .before .before .args .paths .now)) (sym (c .before .before .before .before .before .before .loop .inv .1)) (sym (c .before .before .before .before .before .before .loop .inv .2)) (c .before .before .before .before .before .before .before .before .before .before .before .before .pre .0),
+  record { numbered = omega (arith, c .before .before .before .before .if1 .taken, c .before .before .before .before .before .before .before .before .before .before .before .before .pre .2); whole = omega (arith, c .before .before .before .before .if1 .taken, c .before .before .before .before .before .before .before .before .before .before .before .before .pre .3) },
+  c .before .before .before .before .before .before .loop .inv .5,
 )
 
 enum-known-t : tie.Need-enum-known-t Inv-loop μ-loop
@@ -51,52 +57,53 @@ number-requires : tie.Need-number-requires Inv-loop μ-loop
 number-requires c κs = search needs
 
 -- what the line's answer says, with the room as it was at the start
-said : (c : tie.After-count-line Inv-loop μ-loop) → tallyRan (c .count-line .result) (stOf (c .count-line .last .1 .1 .1 .1 .1 .1 .0) (c .count-line .last .1 .1 .1 .1 .1 .1 .1 .0) (c .count-line .last .1 .1 .1 .1 .1 .1 .1 .1 .0)) (c .before .before .before .before .before .before .loop .s .refs) ≡ lineRan (lineStep (c .before .before .before .before .before .before .before .before .before .before .before .before .args .path-nos .now) (c .before .before .before .before .before .before .before .before .before .before .before .before .args .coords .now) (c .before .before .before .before .before .before .before .before .before .before .before .before .args .paths .now) (length (c .before .before .before .before .before .before .before .before .before .before .before .before .args .refs .now) / refWords) (c .before .before .before .before .before .before .loop .s .lines) (c .before .before .before .before .before .before .loop .s .lines) (stOf (c .before .before .before .before .before .before .loop .backs) (c .before .before .before .before .before .before .loop .counts) (c .before .before .before .before .before .before .loop .refs) (c .before .before .before .before .before .before .loop .s .refs))) (stOf (c .before .before .before .before .before .before .loop .backs) (c .before .before .before .before .before .before .loop .counts) (c .before .before .before .before .before .before .loop .refs) (c .before .before .before .before .before .before .loop .s .refs))
+said : (c : tie.After-count-noted Inv-loop μ-loop) → tallyRan (c .count-noted .result) (stOf (c .count-noted .last .1 .1 .1 .1 .1 .1 .1 .0) (c .count-noted .last .1 .1 .1 .1 .1 .1 .1 .1 .0) (c .count-noted .last .1 .1 .1 .1 .1 .1 .1 .1 .1 .0)) (c .before .before .before .before .before .before .before .loop .s .refs) ≡ lineRan (lineStep (c .before .before .before .before .before .before .before .before .before .before .before .before .before .args .path-nos .now) (c .before .before .before .before .before .before .before .before .before .before .before .before .before .args .coords .now) (c .before .before .before .before .before .before .before .before .before .before .before .before .before .args .paths .now) (length (c .before .before .before .before .before .before .before .before .before .before .before .before .before .args .refs .now) / refWords) (c .before .before .before .before .before .before .before .loop .s .lines) (c .before .before .before .before .before .before .before .loop .s .lines) (stOf (c .before .before .before .before .before .before .before .loop .backs) (c .before .before .before .before .before .before .before .loop .counts) (c .before .before .before .before .before .before .before .loop .refs) (c .before .before .before .before .before .before .before .loop .s .refs))) (stOf (c .before .before .before .before .before .before .before .loop .backs) (c .before .before .before .before .before .before .before .loop .counts) (c .before .before .before .before .before .before .before .loop .refs) (c .before .before .before .before .before .before .before .loop .s .refs))
 said c =
-    c .count-line .ensures
-    ∙ ap (λ (n : ℕ). lineRan (lineStep (c .before .before .before .before .before .before .before .before .before .before .before .before .args .path-nos .now) (c .before .before .before .before .before .before .before .before .before .before .before .before .args .coords .now) (c .before .before .before .before .before .before .before .before .before .before .before .before .args .paths .now) (n / refWords) (c .before .before .before .before .before .before .loop .s .lines) (c .before .before .before .before .before .before .loop .s .lines) (stOf (c .before .before .before .before .before .before .loop .backs) (c .before .before .before .before .before .before .loop .counts) (c .before .before .before .before .before .before .loop .refs) (c .before .before .before .before .before .before .loop .s .refs))) (stOf (c .before .before .before .before .before .before .loop .backs) (c .before .before .before .before .before .before .loop .counts) (c .before .before .before .before .before .before .loop .refs) (c .before .before .before .before .before .before .loop .s .refs))) (c .before .before .before .before .before .before .loop .inv .3)
+    c .count-noted .ensures
+    ∙ ap (λ (n : ℕ). lineRan (lineStep (c .before .before .before .before .before .before .before .before .before .before .before .before .before .args .path-nos .now) (c .before .before .before .before .before .before .before .before .before .before .before .before .before .args .coords .now) (c .before .before .before .before .before .before .before .before .before .before .before .before .before .args .paths .now) (n / refWords) (c .before .before .before .before .before .before .before .loop .s .lines) (c .before .before .before .before .before .before .before .loop .s .lines) (stOf (c .before .before .before .before .before .before .before .loop .backs) (c .before .before .before .before .before .before .before .loop .counts) (c .before .before .before .before .before .before .before .loop .refs) (c .before .before .before .before .before .before .before .loop .s .refs))) (stOf (c .before .before .before .before .before .before .before .loop .backs) (c .before .before .before .before .before .before .before .loop .counts) (c .before .before .before .before .before .before .before .loop .refs) (c .before .before .before .before .before .before .before .loop .s .refs))) (c .before .before .before .before .before .before .before .loop .inv .3)
 
 same-length : tie.Need-same-length Inv-loop μ-loop
-same-length c = c .before .before .before .before .before .before .before .before .count-line .kept .1 .1 .1 .1 .1 .1 .0 ∙ c .before .before .before .before .before .before .before .before .before .before .before .before .before .before .loop .inv .1
+same-length c = c .before .before .before .before .before .before .before .before .before .count-noted .kept .1 .1 .1 .1 .1 .1 .1 .0 ∙ c .before .before .before .before .before .before .before .before .before .before .before .before .before .before .before .before .loop .inv .1
 
 same-length-2 : tie.Need-same-length-2 Inv-loop μ-loop
-same-length-2 c = c .before .before .before .before .before .before .before .before .count-line .kept .1 .1 .1 .1 .1 .1 .1 .0 ∙ c .before .before .before .before .before .before .before .before .before .before .before .before .before .before .loop .inv .2
+same-length-2 c = c .before .before .before .before .before .before .before .before .before .count-noted .kept .1 .1 .1 .1 .1 .1 .1 .1 .0 ∙ c .before .before .before .before .before .before .before .before .before .before .before .before .before .before .before .before .loop .inv .2
 
 same-length-3 : tie.Need-same-length-3 Inv-loop μ-loop
-same-length-3 c = c .before .before .before .before .before .before .before .before .count-line .kept .1 .1 .1 .1 .1 .1 .1 .1 .0 ∙ c .before .before .before .before .before .before .before .before .before .before .before .before .before .before .loop .inv .3
+same-length-3 c = c .before .before .before .before .before .before .before .before .before .count-noted .kept .1 .1 .1 .1 .1 .1 .1 .1 .1 .0 ∙ c .before .before .before .before .before .before .before .before .before .before .before .before .before .before .before .before .loop .inv .3
 
 -- the line is refused: all is as before it
 returns : tie.Need-returns Inv-loop μ-loop
 returns c =
     let n = c .before .enum-told .given .0 .0 in
-    let e = ran-halted (lineStep (c .before .before .before .before .before .before .before .before .before .before .before .before .before .before .before .before .before .before .before .before .args .path-nos .now) (c .before .before .before .before .before .before .before .before .before .before .before .before .before .before .before .before .before .before .before .before .args .coords .now) (c .before .before .before .before .before .before .before .before .before .before .before .before .before .before .before .before .before .before .before .before .args .paths .now) (length (c .before .before .before .before .before .before .before .before .before .before .before .before .before .before .before .before .before .before .before .before .args .refs .now) / refWords) (c .before .before .before .before .before .before .before .before .before .before .before .before .before .before .loop .s .lines) (c .before .before .before .before .before .before .before .before .before .before .before .before .before .before .loop .s .lines) (stOf (c .before .before .before .before .before .before .before .before .before .before .before .before .before .before .loop .backs) (c .before .before .before .before .before .before .before .before .before .before .before .before .before .before .loop .counts) (c .before .before .before .before .before .before .before .before .before .before .before .before .before .before .loop .refs) (c .before .before .before .before .before .before .before .before .before .before .before .before .before .before .loop .s .refs))) (stOf (c .before .before .before .before .before .before .before .before .before .before .before .before .before .before .loop .backs) (c .before .before .before .before .before .before .before .before .before .before .before .before .before .before .loop .counts) (c .before .before .before .before .before .before .before .before .before .before .before .before .before .before .loop .refs) (c .before .before .before .before .before .before .before .before .before .before .before .before .before .before .loop .s .refs)) _ n
-    (sym (ap (λ (t : Tallied). tallyRan t (stOf (c .before .before .before .before .before .before .before .before .count-line .last .1 .1 .1 .1 .1 .1 .0) (c .before .before .before .before .before .before .before .before .count-line .last .1 .1 .1 .1 .1 .1 .1 .0) (c .before .before .before .before .before .before .before .before .count-line .last .1 .1 .1 .1 .1 .1 .1 .1 .0)) (c .before .before .before .before .before .before .before .before .before .before .before .before .before .before .loop .s .refs)) (c .before .enum-told .given .1)) ∙ said (c .before .before .before .before .before .before .before .before)) in
-    batch-refused _ _ _ n (stOf (c .before .before .before .before .before .before .before .before .before .before .before .before .before .before .loop .backs) (c .before .before .before .before .before .before .before .before .before .before .before .before .before .before .loop .counts) (c .before .before .before .before .before .before .before .before .before .before .before .before .before .before .loop .refs) (c .before .before .before .before .before .before .before .before .before .before .before .before .before .before .loop .s .refs)) _ _ (c .number .ensures ∙ ap numberOf (c .before .enum-told .given .1)) (e .1)
-    (batch-stops (λ l. lineStep (c .before .before .before .before .before .before .before .before .before .before .before .before .before .before .before .before .before .before .before .before .args .path-nos .now) (c .before .before .before .before .before .before .before .before .before .before .before .before .before .before .before .before .before .before .before .before .args .coords .now) (c .before .before .before .before .before .before .before .before .before .before .before .before .before .before .before .before .before .before .before .before .args .paths .now) (length (c .before .before .before .before .before .before .before .before .before .before .before .before .before .before .before .before .before .before .before .before .args .refs .now) / refWords) l l) (c .before .before .before .before .before .before .before .before .before .before .before .before .before .before .loop .s .lines) (c .before .before .before .before .before .before .before .before .before .before .before .before .before .before .before .before .before .before .before .before .args .end) (stOf (c .before .before .before .before .before .before .before .before .before .before .before .before .before .before .loop .backs) (c .before .before .before .before .before .before .before .before .before .before .before .before .before .before .loop .counts) (c .before .before .before .before .before .before .before .before .before .before .before .before .before .before .loop .refs) (c .before .before .before .before .before .before .before .before .before .before .before .before .before .before .loop .s .refs)) (c .before .before .before .before .before .before .before .before .before .before .before .before .if1 .taken) _ (c .before .before .before .before .before .before .before .before .before .before .before .before .before .before .loop .inv .4) n (e .0))
+    let e = ran-halted (lineStep (c .before .before .before .before .before .before .before .before .before .before .before .before .before .before .before .before .before .before .before .before .before .before .args .path-nos .now) (c .before .before .before .before .before .before .before .before .before .before .before .before .before .before .before .before .before .before .before .before .before .before .args .coords .now) (c .before .before .before .before .before .before .before .before .before .before .before .before .before .before .before .before .before .before .before .before .before .before .args .paths .now) (length (c .before .before .before .before .before .before .before .before .before .before .before .before .before .before .before .before .before .before .before .before .before .before .args .refs .now) / refWords) (c .before .before .before .before .before .before .before .before .before .before .before .before .before .before .before .before .loop .s .lines) (c .before .before .before .before .before .before .before .before .before .before .before .before .before .before .before .before .loop .s .lines) (stOf (c .before .before .before .before .before .before .before .before .before .before .before .before .before .before .before .before .loop .backs) (c .before .before .before .before .before .before .before .before .before .before .before .before .before .before .before .before .loop .counts) (c .before .before .before .before .before .before .before .before .before .before .before .before .before .before .before .before .loop .refs) (c .before .before .before .before .before .before .before .before .before .before .before .before .before .before .before .before .loop .s .refs))) (stOf (c .before .before .before .before .before .before .before .before .before .before .before .before .before .before .before .before .loop .backs) (c .before .before .before .before .before .before .before .before .before .before .before .before .before .before .before .before .loop .counts) (c .before .before .before .before .before .before .before .before .before .before .before .before .before .before .before .before .loop .refs) (c .before .before .before .before .before .before .before .before .before .before .before .before .before .before .before .before .loop .s .refs)) _ n
+    (sym (ap (λ (t : Tallied). tallyRan t (stOf (c .before .before .before .before .before .before .before .before .before .count-noted .last .1 .1 .1 .1 .1 .1 .1 .0) (c .before .before .before .before .before .before .before .before .before .count-noted .last .1 .1 .1 .1 .1 .1 .1 .1 .0) (c .before .before .before .before .before .before .before .before .before .count-noted .last .1 .1 .1 .1 .1 .1 .1 .1 .1 .0)) (c .before .before .before .before .before .before .before .before .before .before .before .before .before .before .before .before .loop .s .refs)) (c .before .enum-told .given .1)) ∙ said (c .before .before .before .before .before .before .before .before .before)) in
+    batch-refused _ _ _ n (stOf (c .before .before .before .before .before .before .before .before .before .before .before .before .before .before .before .before .loop .backs) (c .before .before .before .before .before .before .before .before .before .before .before .before .before .before .before .before .loop .counts) (c .before .before .before .before .before .before .before .before .before .before .before .before .before .before .before .before .loop .refs) (c .before .before .before .before .before .before .before .before .before .before .before .before .before .before .before .before .loop .s .refs)) _ _ (c .number .ensures ∙ ap numberOf (c .before .enum-told .given .1)) (e .1)
+    (batch-stops (λ l. lineStep (c .before .before .before .before .before .before .before .before .before .before .before .before .before .before .before .before .before .before .before .before .before .before .args .path-nos .now) (c .before .before .before .before .before .before .before .before .before .before .before .before .before .before .before .before .before .before .before .before .before .before .args .coords .now) (c .before .before .before .before .before .before .before .before .before .before .before .before .before .before .before .before .before .before .before .before .before .before .args .paths .now) (length (c .before .before .before .before .before .before .before .before .before .before .before .before .before .before .before .before .before .before .before .before .before .before .args .refs .now) / refWords) l l) (c .before .before .before .before .before .before .before .before .before .before .before .before .before .before .before .before .loop .s .lines) (c .before .before .before .before .before .before .before .before .before .before .before .before .before .before .before .before .before .before .before .before .before .before .args .end) (stOf (c .before .before .before .before .before .before .before .before .before .before .before .before .before .before .before .before .loop .backs) (c .before .before .before .before .before .before .before .before .before .before .before .before .before .before .before .before .loop .counts) (c .before .before .before .before .before .before .before .before .before .before .before .before .before .before .before .before .loop .refs) (c .before .before .before .before .before .before .before .before .before .before .before .before .before .before .before .before .loop .s .refs)) (c .before .before .before .before .before .before .before .before .before .before .before .before .before .before .if1 .taken) _ (c .before .before .before .before .before .before .before .before .before .before .before .before .before .before .before .before .loop .inv .4) n (e .0))
 
 -- the line is taken
-took : (c : tie.After-t Inv-loop μ-loop) → lineStep (c .before .before .before .before .before .before .before .before .before .before .before .before .before .before .before .before .before .before .before .args .path-nos .now) (c .before .before .before .before .before .before .before .before .before .before .before .before .before .before .before .before .before .before .before .args .coords .now) (c .before .before .before .before .before .before .before .before .before .before .before .before .before .before .before .before .before .before .before .args .paths .now) (length (c .before .before .before .before .before .before .before .before .before .before .before .before .before .before .before .before .before .before .before .args .refs .now) / refWords) (c .before .before .before .before .before .before .before .before .before .before .before .before .before .loop .s .lines) (c .before .before .before .before .before .before .before .before .before .before .before .before .before .loop .s .lines) (stOf (c .before .before .before .before .before .before .before .before .before .before .before .before .before .loop .backs) (c .before .before .before .before .before .before .before .before .before .before .before .before .before .loop .counts) (c .before .before .before .before .before .before .before .before .before .before .before .before .before .loop .refs) (c .before .before .before .before .before .before .before .before .before .before .before .before .before .loop .s .refs)) ≡ taken (stOf (c .before .before .before .before .before .before .before .count-line .last .1 .1 .1 .1 .1 .1 .0) (c .before .before .before .before .before .before .before .count-line .last .1 .1 .1 .1 .1 .1 .1 .0) (c .before .before .before .before .before .before .before .count-line .last .1 .1 .1 .1 .1 .1 .1 .1 .0) (c .before .before .before .before .before .before .before .before .before .before .before .before .before .loop .s .refs + c .t .given .0 .0))
+took : (c : tie.After-t Inv-loop μ-loop) → lineStep (c .before .before .before .before .before .before .before .before .before .before .before .before .before .before .before .before .before .before .before .before .before .args .path-nos .now) (c .before .before .before .before .before .before .before .before .before .before .before .before .before .before .before .before .before .before .before .before .before .args .coords .now) (c .before .before .before .before .before .before .before .before .before .before .before .before .before .before .before .before .before .before .before .before .before .args .paths .now) (length (c .before .before .before .before .before .before .before .before .before .before .before .before .before .before .before .before .before .before .before .before .before .args .refs .now) / refWords) (c .before .before .before .before .before .before .before .before .before .before .before .before .before .before .before .loop .s .lines) (c .before .before .before .before .before .before .before .before .before .before .before .before .before .before .before .loop .s .lines) (stOf (c .before .before .before .before .before .before .before .before .before .before .before .before .before .before .before .loop .backs) (c .before .before .before .before .before .before .before .before .before .before .before .before .before .before .before .loop .counts) (c .before .before .before .before .before .before .before .before .before .before .before .before .before .before .before .loop .refs) (c .before .before .before .before .before .before .before .before .before .before .before .before .before .before .before .loop .s .refs)) ≡ taken (stOf (c .before .before .before .before .before .before .before .before .count-noted .last .1 .1 .1 .1 .1 .1 .1 .0) (c .before .before .before .before .before .before .before .before .count-noted .last .1 .1 .1 .1 .1 .1 .1 .1 .0) (c .before .before .before .before .before .before .before .before .count-noted .last .1 .1 .1 .1 .1 .1 .1 .1 .1 .0) (c .before .before .before .before .before .before .before .before .before .before .before .before .before .before .before .loop .s .refs + c .t .given .0 .0))
 took c =
-    ran-taken (lineStep (c .before .before .before .before .before .before .before .before .before .before .before .before .before .before .before .before .before .before .before .args .path-nos .now) (c .before .before .before .before .before .before .before .before .before .before .before .before .before .before .before .before .before .before .before .args .coords .now) (c .before .before .before .before .before .before .before .before .before .before .before .before .before .before .before .before .before .before .before .args .paths .now) (length (c .before .before .before .before .before .before .before .before .before .before .before .before .before .before .before .before .before .before .before .args .refs .now) / refWords) (c .before .before .before .before .before .before .before .before .before .before .before .before .before .loop .s .lines) (c .before .before .before .before .before .before .before .before .before .before .before .before .before .loop .s .lines) (stOf (c .before .before .before .before .before .before .before .before .before .before .before .before .before .loop .backs) (c .before .before .before .before .before .before .before .before .before .before .before .before .before .loop .counts) (c .before .before .before .before .before .before .before .before .before .before .before .before .before .loop .refs) (c .before .before .before .before .before .before .before .before .before .before .before .before .before .loop .s .refs))) (stOf (c .before .before .before .before .before .before .before .before .before .before .before .before .before .loop .backs) (c .before .before .before .before .before .before .before .before .before .before .before .before .before .loop .counts) (c .before .before .before .before .before .before .before .before .before .before .before .before .before .loop .refs) (c .before .before .before .before .before .before .before .before .before .before .before .before .before .loop .s .refs)) _
-    (sym (ap (λ (t : Tallied). tallyRan t (stOf (c .before .before .before .before .before .before .before .count-line .last .1 .1 .1 .1 .1 .1 .0) (c .before .before .before .before .before .before .before .count-line .last .1 .1 .1 .1 .1 .1 .1 .0) (c .before .before .before .before .before .before .before .count-line .last .1 .1 .1 .1 .1 .1 .1 .1 .0)) (c .before .before .before .before .before .before .before .before .before .before .before .before .before .loop .s .refs)) (c .t .given .1)) ∙ said (c .before .before .before .before .before .before .before))
+    ran-taken (lineStep (c .before .before .before .before .before .before .before .before .before .before .before .before .before .before .before .before .before .before .before .before .before .args .path-nos .now) (c .before .before .before .before .before .before .before .before .before .before .before .before .before .before .before .before .before .before .before .before .before .args .coords .now) (c .before .before .before .before .before .before .before .before .before .before .before .before .before .before .before .before .before .before .before .before .before .args .paths .now) (length (c .before .before .before .before .before .before .before .before .before .before .before .before .before .before .before .before .before .before .before .before .before .args .refs .now) / refWords) (c .before .before .before .before .before .before .before .before .before .before .before .before .before .before .before .loop .s .lines) (c .before .before .before .before .before .before .before .before .before .before .before .before .before .before .before .loop .s .lines) (stOf (c .before .before .before .before .before .before .before .before .before .before .before .before .before .before .before .loop .backs) (c .before .before .before .before .before .before .before .before .before .before .before .before .before .before .before .loop .counts) (c .before .before .before .before .before .before .before .before .before .before .before .before .before .before .before .loop .refs) (c .before .before .before .before .before .before .before .before .before .before .before .before .before .before .before .loop .s .refs))) (stOf (c .before .before .before .before .before .before .before .before .before .before .before .before .before .before .before .loop .backs) (c .before .before .before .before .before .before .before .before .before .before .before .before .before .before .before .loop .counts) (c .before .before .before .before .before .before .before .before .before .before .before .before .before .before .before .loop .refs) (c .before .before .before .before .before .before .before .before .before .before .before .before .before .before .before .loop .s .refs)) _
+    (sym (ap (λ (t : Tallied). tallyRan t (stOf (c .before .before .before .before .before .before .before .before .count-noted .last .1 .1 .1 .1 .1 .1 .1 .0) (c .before .before .before .before .before .before .before .before .count-noted .last .1 .1 .1 .1 .1 .1 .1 .1 .0) (c .before .before .before .before .before .before .before .before .count-noted .last .1 .1 .1 .1 .1 .1 .1 .1 .1 .0)) (c .before .before .before .before .before .before .before .before .before .before .before .before .before .before .before .loop .s .refs)) (c .t .given .1)) ∙ said (c .before .before .before .before .before .before .before .before))
 
 stepped-requires : tie.Need-stepped-requires Inv-loop μ-loop
 stepped-requires c κs = (
-  omega (arith, c .before .before .before .before .before .before .before .before .before .before .before .before .if1 .taken),
-  line-made (c .before .before .before .before .before .before .before .before .before .before .before .before .before .before .before .before .before .before .before .before .args .path-nos .now) (c .before .before .before .before .before .before .before .before .before .before .before .before .before .before .before .before .before .before .before .before .args .coords .now) (c .before .before .before .before .before .before .before .before .before .before .before .before .before .before .before .before .before .before .before .before .args .paths .now) (length (c .before .before .before .before .before .before .before .before .before .before .before .before .before .before .before .before .before .before .before .before .args .refs .now) / refWords) (c .before .before .before .before .before .before .before .before .before .before .before .before .before .before .loop .s .lines) (c .before .before .before .before .before .before .before .before .before .before .before .before .before .before .loop .s .lines) (stOf (c .before .before .before .before .before .before .before .before .before .before .before .before .before .before .loop .backs) (c .before .before .before .before .before .before .before .before .before .before .before .before .before .before .loop .counts) (c .before .before .before .before .before .before .before .before .before .before .before .before .before .before .loop .refs) (c .before .before .before .before .before .before .before .before .before .before .before .before .before .before .loop .s .refs)) _ (omega (arith, c .before .before .before .before .before .before .before .before .before .before .before .before .before .struct-known .given)) (took (c .before)),
+  omega (arith, c .before .before .before .before .before .before .before .before .before .before .before .before .before .before .if1 .taken),
+  line-made (c .before .before .before .before .before .before .before .before .before .before .before .before .before .before .before .before .before .before .before .before .before .before .args .path-nos .now) (c .before .before .before .before .before .before .before .before .before .before .before .before .before .before .before .before .before .before .before .before .before .before .args .coords .now) (c .before .before .before .before .before .before .before .before .before .before .before .before .before .before .before .before .before .before .before .before .before .before .args .paths .now) (length (c .before .before .before .before .before .before .before .before .before .before .before .before .before .before .before .before .before .before .before .before .before .before .args .refs .now) / refWords) (c .before .before .before .before .before .before .before .before .before .before .before .before .before .before .before .before .loop .s .lines) (c .before .before .before .before .before .before .before .before .before .before .before .before .before .before .before .before .loop .s .lines) (stOf (c .before .before .before .before .before .before .before .before .before .before .before .before .before .before .before .before .loop .backs) (c .before .before .before .before .before .before .before .before .before .before .before .before .before .before .before .before .loop .counts) (c .before .before .before .before .before .before .before .before .before .before .before .before .before .before .before .before .loop .refs) (c .before .before .before .before .before .before .before .before .before .before .before .before .before .before .before .before .loop .s .refs)) _ (omega (arith, c .before .before .before .before .before .before .before .before .before .before .before .before .before .before .before .struct-known .given)) (took (c .before)),
 )
 
 loop-less : tie.Need-loop-less Inv-loop μ-loop
-loop-less c = omega (arith, c .before .before .before .before .before .before .before .before .before .before .before .before .before .if1 .taken, ap (λ (r : Running). r .lines) (c .stepped .ensures))
+loop-less c = omega (arith, c .before .before .before .before .before .before .before .before .before .before .before .before .before .before .before .if1 .taken, ap (λ (r : Running). r .lines) (c .stepped .ensures))
 
 loop-again : tie.Need-loop-again Inv-loop μ-loop
 loop-again c =
     rw (c .stepped .ensures) (
-      omega (arith, c .before .before .before .before .before .before .before .before .before .before .before .before .before .if1 .taken),
-      c .before .before .before .before .before .before .before .before .before .count-line .kept .1 .1 .1 .1 .1 .1 .0 ∙ c .before .before .before .before .before .before .before .before .before .before .before .before .before .before .before .loop .inv .1,
-      c .before .before .before .before .before .before .before .before .before .count-line .kept .1 .1 .1 .1 .1 .1 .1 .0 ∙ c .before .before .before .before .before .before .before .before .before .before .before .before .before .before .before .loop .inv .2,
-      c .before .before .before .before .before .before .before .before .before .count-line .kept .1 .1 .1 .1 .1 .1 .1 .1 .0 ∙ c .before .before .before .before .before .before .before .before .before .before .before .before .before .before .before .loop .inv .3,
-      batch-goes (λ l. lineStep (c .before .before .before .before .before .before .before .before .before .before .before .before .before .before .before .before .before .before .before .before .before .args .path-nos .now) (c .before .before .before .before .before .before .before .before .before .before .before .before .before .before .before .before .before .before .before .before .before .args .coords .now) (c .before .before .before .before .before .before .before .before .before .before .before .before .before .before .before .before .before .before .before .before .before .args .paths .now) (length (c .before .before .before .before .before .before .before .before .before .before .before .before .before .before .before .before .before .before .before .before .before .args .refs .now) / refWords) l l) (c .before .before .before .before .before .before .before .before .before .before .before .before .before .before .before .loop .s .lines) (c .before .before .before .before .before .before .before .before .before .before .before .before .before .before .before .before .before .before .before .before .before .args .end) (stOf (c .before .before .before .before .before .before .before .before .before .before .before .before .before .before .before .loop .backs) (c .before .before .before .before .before .before .before .before .before .before .before .before .before .before .before .loop .counts) (c .before .before .before .before .before .before .before .before .before .before .before .before .before .before .before .loop .refs) (c .before .before .before .before .before .before .before .before .before .before .before .before .before .before .before .loop .s .refs)) (c .before .before .before .before .before .before .before .before .before .before .before .before .before .if1 .taken) _ (c .before .before .before .before .before .before .before .before .before .before .before .before .before .before .before .loop .inv .4) _ (took (c .before .before)),
+      omega (arith, c .before .before .before .before .before .before .before .before .before .before .before .before .before .before .before .if1 .taken),
+      c .before .before .before .before .before .before .before .before .before .before .count-noted .kept .1 .1 .1 .1 .1 .1 .1 .0 ∙ c .before .before .before .before .before .before .before .before .before .before .before .before .before .before .before .before .before .loop .inv .1,
+      c .before .before .before .before .before .before .before .before .before .before .count-noted .kept .1 .1 .1 .1 .1 .1 .1 .1 .0 ∙ c .before .before .before .before .before .before .before .before .before .before .before .before .before .before .before .before .before .loop .inv .2,
+      c .before .before .before .before .before .before .before .before .before .before .count-noted .kept .1 .1 .1 .1 .1 .1 .1 .1 .1 .0 ∙ c .before .before .before .before .before .before .before .before .before .before .before .before .before .before .before .before .before .loop .inv .3,
+      batch-goes (λ l. lineStep (c .before .before .before .before .before .before .before .before .before .before .before .before .before .before .before .before .before .before .before .before .before .before .before .args .path-nos .now) (c .before .before .before .before .before .before .before .before .before .before .before .before .before .before .before .before .before .before .before .before .before .before .before .args .coords .now) (c .before .before .before .before .before .before .before .before .before .before .before .before .before .before .before .before .before .before .before .before .before .before .before .args .paths .now) (length (c .before .before .before .before .before .before .before .before .before .before .before .before .before .before .before .before .before .before .before .before .before .before .before .args .refs .now) / refWords) l l) (c .before .before .before .before .before .before .before .before .before .before .before .before .before .before .before .before .before .loop .s .lines) (c .before .before .before .before .before .before .before .before .before .before .before .before .before .before .before .before .before .before .before .before .before .before .before .args .end) (stOf (c .before .before .before .before .before .before .before .before .before .before .before .before .before .before .before .before .before .loop .backs) (c .before .before .before .before .before .before .before .before .before .before .before .before .before .before .before .before .before .loop .counts) (c .before .before .before .before .before .before .before .before .before .before .before .before .before .before .before .before .before .loop .refs) (c .before .before .before .before .before .before .before .before .before .before .before .before .before .before .before .before .before .loop .s .refs)) (c .before .before .before .before .before .before .before .before .before .before .before .before .before .before .before .if1 .taken) _ (c .before .before .before .before .before .before .before .before .before .before .before .before .before .before .before .before .before .loop .inv .4) _ (took (c .before .before)),
+      c .before .before .before .before .before .before .before .before .before .before .count-noted .kept .1 .1 .1 .1 .1 .1 .0 ∙ c .before .before .before .before .before .before .before .before .before .before .before .before .before .before .before .before .before .loop .inv .5,
     )
 
 same-length-4 : tie.Need-same-length-4 Inv-loop μ-loop
@@ -120,7 +127,8 @@ count-batch-spec =
     Inv-loop
     μ-loop
     loop-holds
-    count-line-requires
+    slice-aggregate-count-noted
+    count-noted-requires
     enum-known-t
     enum-told
     number-requires

@@ -1,8 +1,6 @@
 -- `path_count::line::check_line` meets its contract.
 -- Assumes nothing.
 use mathlib.Core.Path.{_≡_, refl, sym, ap, _∙_, subst}
-use mathlib.Core.List.{List}
-use Prim.Native.Nat.{ℕ}
 use lib.ListN.{length}
 use native.Mathlib.Omega.{arith}
 use borrow.Author.Needs.{needs}
@@ -12,12 +10,13 @@ use Rattle.acts.specs.declared.rows.Rows.{Rows}
 use Rattle.acts.proofs.Laws.{check-goes, check-stops}
 use Rattle.path_count.specs.Count.{rowsBy}
 use Rattle.path_count.proofs.Lines.{rows-in}
+use Rattle.path_count.proofs.Steps.{not-fine}
 use Rattle.path_count.proofs.line.check_line.Statement.{statement}
 use Rattle.path_count.proofs.line.check_line.Tie as tie
 use Rattle.path_count.proofs.line.check_line.Reads as reads
 use Rattle.path_count.proofs.line.check_line.Lts as lts
 use Rattle.acts.proofs.check_rows.Reads as check-rows-reads
-use Rattle.path_count.proofs.checks.check_steps.Reads as check-steps-reads
+use Rattle.path_count.proofs.line.check_walk.Reads as check-walk-reads
 use Rattle.path_count.proofs.line.rows_by.Reads as rows-by-reads
 
 rows-by-requires : tie.Need-rows-by-requires
@@ -25,8 +24,9 @@ rows-by-requires c κs = search needs
 
 check-rows-requires : tie.Need-check-rows-requires
 check-rows-requires c κs =
-    subst (λ (r : Rows). RowsIn r (length (c .before .before .args .backs .now))) (sym (c .rows-by .ensures))
-    (rows-in (c .before .before .args .path) (c .before .before .args .clip) (length (c .before .before .args .backs .now)) (length (c .before .before .args .counts .now)) (c .before .before .pre .0) (c .before .before .pre .1))
+    let s = c .before .before .before in
+    subst (λ (r : Rows). RowsIn r (length (s .args .backs .now))) (sym (c .rows-by .ensures))
+    (rows-in (s .args .path) (s .args .clip) (length (s .args .backs .now)) (length (s .args .counts .now)) (s .pre .0) (s .pre .1))
 
 enum-told : tie.Need-enum-told
 enum-told c = search needs
@@ -35,19 +35,29 @@ enum-told-2 : tie.Need-enum-told-2
 enum-told-2 c = search needs
 
 -- what the rows' check says, of the rows by the clip
-rows : (c : tie.After-check-rows) → c .check-rows .result ≡ checkNo (deltaOf (c .before .before .before .args .up)) (rowsActs (rowsBy (c .before .before .before .args .path) (c .before .before .before .args .clip))) (c .before .before .before .args .backs .now) (c .before .before .before .args .counts .now)
+rows : (c : tie.After-check-rows) → let s = c .before .before .before .before in c .check-rows .result ≡ checkNo (deltaOf (s .args .up)) (rowsActs (rowsBy (s .args .path) (s .args .clip))) (s .args .backs .now) (s .args .counts .now)
 rows c =
+    let s = c .before .before .before .before in
     c .check-rows .ensures
-    ∙ ap (λ (r : Rows). checkNo (deltaOf (c .before .before .before .args .up)) (rowsActs r) (c .before .before .before .args .backs .now) (c .before .before .before .args .counts .now)) (c .before .rows-by .ensures)
+    ∙ ap (λ (r : Rows). checkNo (deltaOf (s .args .up)) (rowsActs r) (s .args .backs .now) (s .args .counts .now)) (c .before .rows-by .ensures)
 
 returns : tie.Need-returns
-returns c = check-stops _ _ _ _ refl _ _ (c .before .before .check-rows .result) _ refl (rows (c .before .before)) _ (c .enum-told2 .given .1)
+returns c = (
+  check-stops _ _ _ _ refl _ _ (c .before .before .check-rows .result) _ refl (rows (c .before .before)) _ (c .enum-told2 .given .1),
+  λ e. absurd (not-fine _ (sym (c .enum-told2 .given .1) ∙ e)),
+)
 
-check-steps-requires : tie.Need-check-steps-requires
-check-steps-requires c κs = (c .before .before .before .before .before .pre .0, c .before .before .before .before .before .pre .1 .last)
+check-walk-requires : tie.Need-check-walk-requires
+check-walk-requires c κs = let s = c .before .before .before .before .before .before .before in (s .pre .0, s .pre .1 .onward, s .pre .1 .last, s .pre .2, s .pre .3)
+
+same-length : tie.Need-same-length
+same-length c = search needs
 
 returns-2 : tie.Need-returns-2
-returns-2 c = c .check-steps .ensures ∙ check-goes _ _ _ _ refl _ _ (c .before .before .before .check-rows .result) _ refl (rows (c .before .before .before)) (c .before .enum-told .given .1)
+returns-2 c = (
+  c .before .before .check-walk .ensures .0 ∙ check-goes _ _ _ _ refl _ _ (c .before .before .before .before .before .before .check-rows .result) _ refl (rows (c .before .before .before .before .before .before)) (c .before .before .before .before .enum-told .given .1),
+  c .before .before .check-walk .ensures .1,
+)
 
 pub check-line-spec : {M : Type 1} → statement M
 check-line-spec =
@@ -58,5 +68,6 @@ check-line-spec =
     enum-told
     enum-told-2
     returns
-    check-steps-requires
+    check-walk-requires
+    same-length
     returns-2)

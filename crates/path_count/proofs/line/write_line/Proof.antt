@@ -6,14 +6,13 @@ use mathlib.Core.List.{[]}
 use native.Mathlib.Omega.{arith}
 use lib.ListN.{length}
 use borrow.Author.Needs.{needs}
-use Prim.Native.Nat.{_-_}
-use Rattle.lists.specs.Run.{done}
+use Prim.Native.Nat.{ℕ, _-_}
 use Rattle.acts.specs.Acts.{isDone, runActs, stOf, deltaOf, stepsActs}
 use Rattle.acts.specs.Line.{planActs}
 use Rattle.acts.specs.Rows.{RowsIn, rowsActs}
 use Rattle.acts.specs.declared.rows.Rows.{Rows}
 use Rattle.acts.proofs.Laws.{rows-done, rows-out, run-first, run-goes}
-use Rattle.path_count.specs.Steps.{OnTiles, hitAt}
+use Rattle.path_count.specs.Steps.{OnTiles, hitAt, notedTo, Notes}
 use Rattle.path_count.specs.Count.{rowsBy, planBy}
 use Rattle.path_count.proofs.Lines.{rows-in}
 use Rattle.path_count.proofs.line.write_line.Statement.{statement}
@@ -22,33 +21,39 @@ use Rattle.path_count.proofs.line.write_line.Reads as reads
 use Rattle.path_count.proofs.line.write_line.Lts as lts
 use Rattle.acts.proofs.write_rows.Reads as write-rows-reads
 use Rattle.path_count.proofs.line.rows_by.Reads as rows-by-reads
-use Rattle.path_count.proofs.writes.write_steps.Reads as write-steps-reads
+use Rattle.path_count.proofs.line.write_walk.Reads as write-walk-reads
 
 rows-by-requires : tie.Need-rows-by-requires
 rows-by-requires c κs = search needs
 
 write-rows-requires : tie.Need-write-rows-requires
 write-rows-requires c κs =
-    subst (λ (r : Rows). RowsIn r (length (c .before .before .before .before .args .backs .now)) × (isDone (runActs (deltaOf (c .before .before .before .before .args .up)) 0 (rowsActs r) (stOf (c .before .before .before .before .args .backs .now) [] [] 0)) ≡ true)) (sym (c .before .rows-by .ensures)) (
-      rows-in (c .before .before .before .before .args .path) (c .before .before .before .before .args .clip) (length (c .before .before .before .before .args .backs .now)) (length (c .before .before .before .before .args .counts .now)) (c .before .before .before .before .pre .0) (c .before .before .before .before .pre .1),
-      sym (rows-done _ (c .before .before .before .before .args .line .0) _ _ _ _ _ _ (c .before .before .before .before .args .counts .now) (c .before .before .before .before .args .refs .now) (c .before .before .before .before .args .made)) ∙ run-first _ _ _ _ refl _ _ (c .before .before .before .before .pre .4),
+    let s = c .before .before .before .before .before in
+    subst (λ (r : Rows). RowsIn r (length (s .args .backs .now)) × (isDone (runActs (deltaOf (s .args .up)) 0 (rowsActs r) (stOf (s .args .backs .now) [] [] 0)) ≡ true)) (sym (c .before .rows-by .ensures)) (
+      rows-in (s .args .path) (s .args .clip) (length (s .args .backs .now)) (length (s .args .counts .now)) (s .pre .0) (s .pre .1),
+      sym (rows-done _ (s .args .line .0) _ _ _ _ _ _ (s .args .counts .now) (s .args .refs .now) (s .args .made)) ∙ run-first _ _ _ _ refl _ _ (s .pre .6),
     )
 
 -- what is left after the rows, run from there, is the line run from the start
-left : (c : tie.After-write-rows) → runActs (deltaOf (c .before .before .before .before .before .args .up)) (c .before .before .before .before .before .args .line .0) (stepsActs (hitAt (c .before .before .before .before .before .args .pace) (c .before .before .before .before .before .args .path)) (c .before .before .before .before .before .args .clip .imax - c .before .before .before .before .before .args .clip .imin) (c .before .before .before .before .before .args .clip .imin)) (stOf (c .write-rows .last .1 .1 .0) (c .before .before .before .before .before .args .counts .now) (c .before .before .before .before .before .args .refs .now) (c .before .before .before .before .before .args .made)) ≡ runActs (deltaOf (c .before .before .before .before .before .args .up)) (c .before .before .before .before .before .args .line .0) (planActs (planBy (c .before .before .before .before .before .args .up) (c .before .before .before .before .before .args .pace) (c .before .before .before .before .before .args .path) (c .before .before .before .before .before .args .clip))) (stOf (c .before .before .before .before .before .args .backs .now) (c .before .before .before .before .before .args .counts .now) (c .before .before .before .before .before .args .refs .now) (c .before .before .before .before .before .args .made))
+left : (c : tie.After-write-rows) → let s = c .before .before .before .before .before .before in runActs (deltaOf (s .args .up)) (s .args .line .0) (stepsActs (hitAt (s .args .pace) (s .args .path)) (s .args .clip .imax - s .args .clip .imin) (s .args .clip .imin)) (stOf (c .write-rows .last .1 .1 .0) (s .args .counts .now) (s .args .refs .now) (s .args .made)) ≡ runActs (deltaOf (s .args .up)) (s .args .line .0) (planActs (planBy (s .args .up) (s .args .pace) (s .args .path) (s .args .clip))) (stOf (s .args .backs .now) (s .args .counts .now) (s .args .refs .now) (s .args .made))
 left c =
-    run-goes _ (rowsActs (rowsBy (c .before .before .before .before .before .args .path) (c .before .before .before .before .before .args .clip))) _ _ refl _ _ _ _ refl
-    (rows-out _ _ _ _ _ _ _ _ _ _ _ _ (c .write-rows .ensures ∙ ap (λ (r : Rows). runActs (deltaOf (c .before .before .before .before .before .args .up)) 0 (rowsActs r) (stOf (c .before .before .before .before .before .args .backs .now) [] [] 0)) (c .before .before .rows-by .ensures)))
+    let s = c .before .before .before .before .before .before in
+    run-goes _ (rowsActs (rowsBy (s .args .path) (s .args .clip))) _ _ refl _ _ _ _ refl
+    (rows-out _ _ _ _ _ _ _ _ _ _ _ _ (c .write-rows .ensures ∙ ap (λ (r : Rows). runActs (deltaOf (s .args .up)) 0 (rowsActs r) (stOf (s .args .backs .now) [] [] 0)) (c .before .before .rows-by .ensures)))
 
-write-steps-requires : tie.Need-write-steps-requires
-write-steps-requires c κs = (
-  subst (λ n. OnTiles (c .before .before .before .before .before .before .before .before .before .args .path) n (length (c .before .before .before .before .before .before .before .before .before .args .counts .now))) (sym (c .before .before .before .before .write-rows .kept .1 .1 .0)) (c .before .before .before .before .before .before .before .before .before .pre .0),
-  c .before .before .before .before .before .before .before .before .before .pre .1 .onward,
-  c .before .before .before .before .before .before .before .before .before .pre .1 .last,
-  c .before .before .before .before .before .before .before .before .before .pre .2,
-  c .before .before .before .before .before .before .before .before .before .pre .3,
-  ap isDone (left (c .before .before .before .before)) ∙ c .before .before .before .before .before .before .before .before .before .pre .4,
-)
+write-walk-requires : tie.Need-write-walk-requires
+write-walk-requires c κs =
+    let s = c .before .before .before .before .before .before .before .before .before .before in
+    let k = sym (c .before .before .before .before .write-rows .kept .1 .1 .0) in (
+      subst (λ n. OnTiles (s .args .path) n (length (s .args .counts .now))) k (s .pre .0),
+      s .pre .1 .onward,
+      s .pre .1 .last,
+      s .pre .4,
+      s .pre .5,
+      ap isDone (left (c .before .before .before .before)) ∙ s .pre .6,
+      s .pre .2,
+      subst (λ (n : ℕ). Notes (hitAt (s .args .pace) (s .args .path)) (s .args .clip .imin) (notedTo (s .args .clip .imin) (s .args .clip .imax) - s .args .clip .imin) (s .args .notes .now) n) k (s .pre .3),
+    )
 
 same-length : tie.Need-same-length
 same-length c = search needs
@@ -60,7 +65,7 @@ same-length-3 : tie.Need-same-length-3
 same-length-3 c = search needs
 
 returns : tie.Need-returns
-returns c = c .before .before .before .before .before .write-steps .ensures ∙ left (c .before .before .before .before .before .before .before .before .before .before)
+returns c = c .before .before .before .before .before .write-walk .ensures ∙ left (c .before .before .before .before .before .before .before .before .before .before)
 
 pub write-line-spec : {M : Type 1} → statement M
 write-line-spec =
@@ -68,7 +73,7 @@ write-line-spec =
     (tie.spec
     rows-by-requires
     write-rows-requires
-    write-steps-requires
+    write-walk-requires
     same-length
     same-length-2
     same-length-3

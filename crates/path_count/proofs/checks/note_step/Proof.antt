@@ -1,0 +1,140 @@
+-- `path_count::checks::note_step` meets its contract.
+-- Assumes nothing.
+use mathlib.Core.Bool.{not, cond}
+use mathlib.Core.Path.{_≡_, refl, sym, ap, _∙_}
+use native.Mathlib.Omega.{arith}
+use Prim.Native.Nat.{ℕ, _+_, _<_}
+use lib.ListN.{length, getD}
+use lib.IntN.{pos, _+ℤ_}
+use borrow.Author.Needs.{needs}
+use Rattle.panel.specs.declared.kinds.Verdict.{Verdict}
+use Rattle.walk.specs.Step.{stepOf}
+use Rattle.walk.specs.declared.step.Step.the-variants.{Tile}
+use Rattle.acts.specs.Acts.{on, inI32, deltaOf}
+use Rattle.acts.proofs.Signs.{told}
+use Rattle.acts.proofs.Laws.{check-off, check-full, check-marked, check-passes}
+use Rattle.path_count.specs.Steps.{hitAt, zOf, wordOf, notedOf}
+use Rattle.path_count.specs.declared.kinds.Noted.{Noted}
+use Rattle.path_count.specs.declared.kinds.Noted.the-variants.{Passed}
+use Rattle.walk.proofs.Tiles.{step-told, tile-in}
+use Rattle.path_count.proofs.Steps.{hit-off, hit-on, next-below}
+use Rattle.path_count.proofs.checks.note_step.Statement.{statement}
+use Rattle.path_count.proofs.checks.note_step.Tie as tie
+use Rattle.path_count.proofs.checks.note_step.Reads as reads
+use Rattle.path_count.proofs.checks.note_step.Lts as lts
+use Rattle.acts.proofs.leaves.Reads as leaves-reads
+use Rattle.acts.proofs.next_if.Reads as next-if-reads
+use Rattle.walk.proofs.step.crosses.Reads as crosses-reads
+use Rattle.walk.proofs.edges.step_by.Reads as step-by-reads
+
+step-by-requires : tie.Need-step-by-requires
+step-by-requires c κs = search needs
+
+enum-known-tile : tie.Need-enum-known-tile
+enum-known-tile c = search needs
+
+enum-told : tie.Need-enum-told
+enum-told c = search needs
+
+returns : tie.Need-returns
+returns c =
+    ap (λ (v : Verdict). notedOf v (zOf (c .before .before .before .before .args .pace) (c .before .before .before .before .args .i)) (wordOf (hitAt (c .before .before .before .before .args .pace) (c .before .before .before .before .args .path) (c .before .before .before .before .args .i))))
+    (check-off _ _ _ _ _ (hit-off (c .before .before .before .before .args .pace) (c .before .before .before .before .args .path) (c .before .before .before .before .args .i) (sym (c .before .before .step-by .ensures) ∙ c .enum-told .given .1)))
+
+cast-t : tie.Need-cast-t
+cast-t c = search needs
+
+mul-if1 : tie.Need-mul-if1
+mul-if1 c = search needs
+
+-- the step is on its tile
+fell : (c : tie.After-tile) → stepOf (c .before .before .before .before .args .pace) (c .before .before .before .before .args .path) (c .before .before .before .before .args .i) ≡ Tile (c .tile .given .0 .0) (c .tile .given .0 .1 .0) (c .tile .given .0 .1 .1 .0) (c .tile .given .0 .1 .1 .1 .0)
+fell c = sym (c .before .before .step-by .ensures) ∙ c .tile .given .1
+
+-- which is lent
+below : (c : tie.After-tile) → c .tile .given .0 .0 .0 < length (c .before .before .before .before .args .counts .now)
+below c = omega (arith, tile-in (c .before .before .before .before .args .pace) (c .before .before .before .before .args .path) (c .before .before .before .before .args .i) _ _ _ _ (fell c) .1, c .before .before .before .before .pre .0 .within)
+
+shared-slice-read-if1 : tie.Need-shared-slice-read-if1
+shared-slice-read-if1 c = below (c .before .before .before)
+
+returns-2 : tie.Need-returns-2
+returns-2 c =
+    ap (λ (v : Verdict). notedOf v (zOf (c .before .before .before .before .before .before .before .before .args .pace) (c .before .before .before .before .before .before .before .before .args .i)) (wordOf (hitAt (c .before .before .before .before .before .before .before .before .args .pace) (c .before .before .before .before .before .before .before .before .args .path) (c .before .before .before .before .before .before .before .before .args .i))))
+    (check-full _ _ _ _ _ _ _ (hit-on (c .before .before .before .before .before .before .before .before .args .pace) (c .before .before .before .before .before .before .before .before .args .path) (c .before .before .before .before .before .before .before .before .args .i) _ _ _ _ (fell (c .before .before .before .before)) (c .before .before .before .before .before .before .before .before .args .last-z) _ (c .before .before .before .before .before .before .before .before .pre .2) refl) (c .if1 .taken))
+
+crosses-requires : tie.Need-crosses-requires
+crosses-requires c κs = step-told (c .before .before .before .before .before .before .before .before .args .pace) (c .before .before .before .before .before .before .before .before .args .path) (c .before .before .before .before .before .before .before .before .args .i) _ _ _ _ (fell (c .before .before .before .before)) .within .col-most
+
+next-if-requires : tie.Need-next-if-requires
+next-if-requires c κs = search needs
+
+-- the tile that is marked, or the step's own, is lent
+next : (c : tie.After-next-if) → c .next-if .result < length (c .before .before .before .before .before .before .before .before .before .before .args .backs .now)
+next c =
+    omega (
+      arith,
+      c .next-if .ensures,
+      next-below (c .before .before .before .before .before .before .before .before .before .before .args .pace) (c .before .before .before .before .before .before .before .before .before .before .args .path) (c .before .before .before .before .before .before .before .before .before .before .args .i) _ _ _ _ (fell (c .before .before .before .before .before .before)) (c .before .before .before .before .before .before .before .before .before .before .args .last-z) (c .before .crosses .result) (c .before .crosses .ensures),
+      c .before .before .before .before .before .before .before .before .before .before .pre .0 .within,
+      c .before .before .before .before .before .before .before .before .before .before .pre .0 .paired,
+    )
+
+mul-leaves : tie.Need-mul-leaves
+mul-leaves c = omega (arith, next (c), c .before .before .before .before .before .before .before .before .before .before .pre .0 .few, c .before .before .before .before .before .before .before .before .before .before .pre .0 .paired)
+
+shared-slice-copy-out-leaves : tie.Need-shared-slice-copy-out-leaves
+shared-slice-copy-out-leaves c = next (c)
+
+leaves-requires : tie.Need-leaves-requires
+leaves-requires c κs = search needs
+
+-- where the step falls, and whether it marks
+hit : (c : tie.After-crosses) → hitAt (c .before .before .before .before .before .before .before .before .before .args .pace) (c .before .before .before .before .before .before .before .before .before .args .path) (c .before .before .before .before .before .before .before .before .before .args .i) ≡ on (c .before .before .before .before .before .tile .given .0 .0 .0) (c .crosses .result)
+hit c = hit-on (c .before .before .before .before .before .before .before .before .before .args .pace) (c .before .before .before .before .before .before .before .before .before .args .path) (c .before .before .before .before .before .before .before .before .before .args .i) _ _ _ _ (fell (c .before .before .before .before .before)) (c .before .before .before .before .before .before .before .before .before .args .last-z) (c .crosses .result) (c .before .before .before .before .before .before .before .before .before .pre .2) (c .crosses .ensures)
+
+-- what `leaves` says of the backdrop itself
+said : (c : tie.After-leaves) → c .leaves .result ≡ not (inI32 (getD (c .before .before .before .before .before .before .before .before .before .before .before .before .args .backs .now) (cond (c .before .before .before .crosses .result) (c .before .before .before .before .before .before .before .before .tile .given .0 .0 .0 + 1) (c .before .before .before .before .before .before .before .before .tile .given .0 .0 .0)) (pos 0) +ℤ deltaOf (c .before .before .before .before .before .before .before .before .before .before .before .before .args .up)))
+said c =
+    told (getD (c .before .before .before .before .before .before .before .before .before .before .before .before .args .backs .now) (c .before .before .next-if .result) (pos 0)) (deltaOf (c .before .before .before .before .before .before .before .before .before .before .before .before .args .up)) (c .leaves .result) (c .before .leaves-arg .given) (c .leaves .ensures)
+    ∙ ap (λ (q : ℕ). not (inI32 (getD (c .before .before .before .before .before .before .before .before .before .before .before .before .args .backs .now) q (pos 0) +ℤ deltaOf (c .before .before .before .before .before .before .before .before .before .before .before .before .args .up)))) (c .before .before .next-if .ensures)
+
+returns-3 : tie.Need-returns-3
+returns-3 c =
+    ap (λ (v : Verdict). notedOf v (zOf (c .before .before .before .before .before .before .before .before .before .before .before .before .before .args .pace) (c .before .before .before .before .before .before .before .before .before .before .before .before .before .args .i)) (wordOf (hitAt (c .before .before .before .before .before .before .before .before .before .before .before .before .before .args .pace) (c .before .before .before .before .before .before .before .before .before .before .before .before .before .args .path) (c .before .before .before .before .before .before .before .before .before .before .before .before .before .args .i))))
+    (check-marked _ _ _ _ _ _ _ (hit (c .before .before .before .before)) (c .before .leaves .result) (c .before .before .before .before .before .if1 .left) (said (c .before)) (c .if2 .taken))
+
+word-of-requires : tie.Need-word-of-requires
+word-of-requires c κs =
+    let s = c .before .before .before .before .before .before .before .before .before .before .before .before .before in
+    omega (arith, below (c .before .before .before .before .before .before .before .before .before), s .pre .0 .few)
+
+returns-4 : tie.Need-returns-4
+returns-4 c =
+    let s = c .before .before .before .before .before .before .before .before .before .before .before .before .before .before in
+    let h = hit (c .before .before .before .before .before) in
+    ap (λ z. Passed z (c .word-of .result)) (sym (step-told (s .args .pace) (s .args .path) (s .args .i) _ _ _ _ (fell (c .before .before .before .before .before .before .before .before .before .before)) .is-z))
+    ∙ ap (Passed (zOf (s .args .pace) (s .args .i))) (c .word-of .ensures ∙ ap wordOf (sym h))
+    ∙ ap (λ (v : Verdict). notedOf v (zOf (s .args .pace) (s .args .i)) (wordOf (hitAt (s .args .pace) (s .args .path) (s .args .i))))
+    (check-passes _ _ _ _ _ _ _ h (c .before .before .leaves .result) (c .before .before .before .before .before .before .if1 .left) (said (c .before .before)) (c .before .if2 .left))
+
+pub note-step-spec : {M : Type 1} → statement M
+note-step-spec =
+    tie.close
+    (tie.spec
+    step-by-requires
+    enum-known-tile
+    enum-told
+    returns
+    cast-t
+    mul-if1
+    shared-slice-read-if1
+    returns-2
+    crosses-requires
+    next-if-requires
+    mul-leaves
+    shared-slice-copy-out-leaves
+    leaves-requires
+    returns-3
+    word-of-requires
+    returns-4)

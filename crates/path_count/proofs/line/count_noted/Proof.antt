@@ -1,0 +1,99 @@
+-- `path_count::line::count_noted` meets its contract.
+-- Assumes nothing.
+use mathlib.Core.Path.{_≡_, refl, sym, ap, _∙_}
+use mathlib.Core.Logic.{⊎-elim}
+use mathlib.Core.List.{[], _∷_}
+use Prim.Native.Nat.{ℕ, _/_}
+use native.Mathlib.Omega.{arith}
+use lib.ListN.{length}
+use denote.Enum.Declared.{tagOf}
+use types.Run.{OneOf}
+use borrow.Author.Needs.{needs}
+use Rattle.lists.specs.Run.{Step}
+use Rattle.panel.specs.Widths.{refWords}
+use Rattle.walk.specs.Lent.{walkAt}
+use Rattle.walk.specs.declared.lent.Walked.{Walked}
+use Rattle.walk.specs.declared.lent.Walked.the-variants.{Refused as WalkRefused, Skipped, Line}
+use Rattle.walk.proofs.lent.Walked.{the-type}
+use Rattle.acts.specs.Acts.{St, stOf}
+use Rattle.path_count.specs.Count.{lineRan}
+use Rattle.path_count.proofs.Lines.{on-tiles, walkable, line-over, line-walked}
+use Rattle.path_count.proofs.Batches.{NoWalk, line-unwalked}
+use Rattle.path_count.proofs.line.count_noted.Statement.{statement}
+use Rattle.path_count.proofs.line.count_noted.Tie as tie
+use Rattle.path_count.proofs.line.count_noted.Reads as reads
+use Rattle.path_count.proofs.line.count_noted.Lts as lts
+use Rattle.path_count.proofs.line.count_walk.Reads as count-walk-reads
+use Rattle.path_count.proofs.line.unwalked.Reads as unwalked-reads
+use Rattle.walk.proofs.lent.walk_at.Reads as walk-at-reads
+
+returns : tie.Need-returns
+returns c = let s = c .before .before .before .before .before .before .before .before in line-over (s .args .path-nos .now) (s .args .coords .now) (s .args .paths .now) (length (s .args .refs .now) / refWords) (s .args .line .0) (s .args .place) _ (c .if1 .taken)
+
+walk-at-requires : tie.Need-walk-at-requires
+walk-at-requires c κs = search needs
+
+enum-known-walked : tie.Need-enum-known-walked
+enum-known-walked c = search needs
+
+unwalked-requires : tie.Need-unwalked-requires
+unwalked-requires c κs = search needs
+
+-- a value of the first two variants, by its tag, has no walk
+no-walk : (x : Walked) → OneOf (0 ∷ 1 ∷ []) (tagOf the-type x) → NoWalk x
+no-walk (WalkRefused n) k = tt
+no-walk Skipped k = tt
+no-walk (Line w b) k = ⊎-elim (λ e. absurd (omega (arith, e))) (λ e. absurd (omega (arith, e))) k
+
+returns-2 : tie.Need-returns-2
+returns-2 c =
+    let s = c .before .before .before .before .before .before .before .before .before .before .before in
+    line-unwalked (s .args .path-nos .now) (s .args .coords .now) (s .args .paths .now) (length (s .args .refs .now) / refWords) (s .args .line .0) (s .args .place) _ _ _ _ (c .before .before .walk-at .result) (c .unwalked .result) (c .before .before .before .if1 .left) (sym (c .before .before .walk-at .ensures)) (no-walk (c .before .before .walk-at .result) (c .before .match .keys2)) (c .unwalked .ensures)
+
+-- the line has a walk
+line : (c : tie.After-walked) → let s = c .before .before .before .before .before .before .before .before .before .before .before in walkAt (s .args .path-nos .now) (s .args .coords .now) (s .args .paths .now) (s .args .place) ≡ Line (c .walked .given .0 .0) (c .walked .given .0 .1 .0)
+line c = sym (c .before .before .walk-at .ensures) ∙ c .walked .given .1
+
+count-walk-requires : tie.Need-count-walk-requires
+count-walk-requires c κs =
+    let s = c .before .before .before .before .before .before .before .before .before .before .before .before .before .before .before .before in (
+      on-tiles (s .args .path-nos .now) (s .args .coords .now) (s .args .paths .now) (s .args .place) _ _ (line (c .before .before .before .before .before)) _ _ (s .pre .0),
+      walkable (s .args .path-nos .now) (s .args .coords .now) (s .args .paths .now) (s .args .place) _ _ (line (c .before .before .before .before .before)) _ _ (s .pre .0),
+      s .pre .2,
+    )
+
+same-length : tie.Need-same-length
+same-length c = search needs
+
+same-length-2 : tie.Need-same-length-2
+same-length-2 c = search needs
+
+same-length-3 : tie.Need-same-length-3
+same-length-3 c = search needs
+
+same-length-4 : tie.Need-same-length-4
+same-length-4 c = search needs
+
+returns-3 : tie.Need-returns-3
+returns-3 c =
+    let s = c .before .before .before .before .before .before .before .before .before .before .before .before .before .before .before .before .before .before .before .before .before .before .before .before in
+    let t = stOf (s .args .backs .now) (s .args .counts .now) (s .args .refs .now) (s .args .made) in
+    c .before .before .before .before .before .before .before .count-walk .ensures
+    ∙ ap (λ (o : Step St ℕ). lineRan o t)
+    (sym (line-walked (s .args .path-nos .now) (s .args .coords .now) (s .args .paths .now) (length (s .args .refs .now) / refWords) (s .args .line .0) (s .args .place) t _ (c .before .before .before .before .before .before .before .before .before .before .before .before .before .before .before .before .if1 .left) (line (c .before .before .before .before .before .before .before .before .before .before .before .before .before))))
+
+pub count-noted-spec : {M : Type 1} → statement M
+count-noted-spec =
+    tie.close
+    (tie.spec
+    returns
+    walk-at-requires
+    enum-known-walked
+    unwalked-requires
+    returns-2
+    count-walk-requires
+    same-length
+    same-length-2
+    same-length-3
+    same-length-4
+    returns-3)
