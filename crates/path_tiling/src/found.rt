@@ -1,0 +1,164 @@
+// A reference's line as the walk finds it, `walk::lent`'s answer, made quickly: the rows that the line
+// starts and ends in are taken once, and what is rare is a branch, so that nothing waits for it.
+ghost use mathlib.Core.Path.{_≡_};
+ghost use mathlib.Core.Bool.{cond, false};
+ghost use Prim.Native.Nat.{_+_, _*_, _<_, _≤_, _^_};
+ghost use lib.ListN.{length};
+ghost use lib.Ieee.{binary32, lt, sub, toUnsigned};
+ghost use Rattle.float32.specs.Meaning.{floorOf, ceilOf, maxOf};
+ghost use Rattle.util.specs.Constants.{one};
+ghost use Rattle.panel.specs.Widths.{lineFloats};
+ghost use Rattle.walk.specs.Setup.{Scaled, countsOf, slopeOf, aOf, walkOn};
+ghost use Rattle.walk.specs.Skip.{flatOf};
+ghost use Rattle.walk.specs.Lent.{Reached, walkedOf, walkAt};
+ghost use Rattle.path_tiling.specs.Found.{lastOf, Rows};
+use panel::checks::path_at;
+use panel::kinds::Path;
+use panel::refusals::COORDINATE;
+use panel::refusals::NO_SUCH;
+use panel::widths::PATH_WORDS;
+use util::ROBUST_EPSILON;
+use util::Vec2;
+use walk::choose::pick;
+use walk::lent::Walked;
+use walk::setup::Counts;
+use walk::setup::Ends;
+use walk::setup::Pace;
+use walk::setup::Slope;
+use walk::setup::Walk;
+
+// How many tiles lie from `low` to `high`, which are whole; at least one.
+fn span_by(low: f32, high: f32) -> u32
+    ensures { λ r. ⌜ r ≡ toUnsigned 32 (maxOf (sub binary32 high low) one) ⌝ }
+{
+    float32::to_u32(float32::max(high - low, 1.0))
+}
+
+// `walk::skip::flat`, with the row that s0 is in.
+fn flat_by(s0: Vec2, s1: Vec2, top: f32) -> bool
+    requires { ⌜ top ≡ floorOf (s0 .y) ⌝ }
+    ensures { λ r. ⌜ r ≡ flatOf s0 s1 ⌝ }
+{
+    let dx = float32::abs(s1.x - s0.x);
+    let dy = s1.y - s0.y;
+    (dx + dy == 0.0) | ((dy == 0.0) & (top == s0.y))
+}
+
+// `walk::setup::count_steps`, with the rows that the line starts and ends in.
+fn counts_by(s0: Vec2, s1: Vec2, top: f32, bottom: f32) -> Counts
+    requires { ⌜ Scaled s0 × Scaled s1 × Rows s0 s1 top bottom ⌝ }
+    ensures { λ r. ⌜ r ≡ countsOf s0 s1 ⌝ }
+{
+    let left = float32::floor(pick(s1.x < s0.x, s1.x, s0.x));
+    let right = float32::ceil(pick(s0.x < s1.x, s1.x, s0.x));
+    let count_x = span_by(left, right) - 1;
+    let count = count_x + span_by(top, bottom);
+    Counts { count_x, count }
+}
+
+// `walk::setup::incline`, with the same rows.
+fn slope_by(s0: Vec2, s1: Vec2, top: f32, bottom: f32) -> Slope
+    requires { ⌜ Rows s0 s1 top bottom ⌝ }
+    ensures { λ r. ⌜ r ≡ slopeOf s0 s1 ⌝ }
+{
+    let dx = float32::abs(s1.x - s0.x);
+    let dy = s1.y - s0.y;
+    let idxdy = 1.0 / (dx + dy);
+    let is_positive_slope = s1.x >= s0.x;
+    let sign = pick(is_positive_slope, 1.0, -1.0);
+    let xt0 = float32::floor(s0.x * sign);
+    let c = s0.x * sign - xt0;
+    let ytop = pick(s0.y == s1.y, bottom, top + 1.0);
+    let x0 = xt0 * sign + pick(is_positive_slope, 0.0, -1.0);
+    Slope {
+        dx,
+        dy,
+        idxdy,
+        is_positive_slope,
+        sign,
+        c,
+        y0: top,
+        ytop,
+        x0,
+    }
+}
+
+// `walk::setup::rise`: the move by ROBUST_EPSILON is rare.
+fn rise_by(m: Slope, k: Counts, b: f32) -> f32
+    requires { ⌜ (k .«count_x» ≤ 2 ^ 24) × (k .count ≤ 2 ^ 24) ⌝ }
+    ensures { λ r. ⌜ r ≡ aOf m k b ⌝ }
+{
+    let a = m.dx * m.idxdy;
+    let count = k.count as f32;
+    let count_x = k.count_x as f32;
+    let robust_err = float32::floor(a * (count - 1.0) + b) - count_x;
+    if robust_err != 0.0 {
+        return a - float32::copysign(ROBUST_EPSILON, robust_err);
+    }
+    a
+}
+
+// `walk::setup::setup`, with the row that the line starts in.
+fn setup_by(e: Ends, top: f32) -> Walk
+    requires { ⌜ Scaled (e .s0) × Scaled (e .s1) × (lt (e .s1 .y) (e .s0 .y) ≡ false) × (top ≡ floorOf (e .s0 .y)) ⌝ }
+    ensures { λ r. ⌜ r ≡ walkOn e ⌝ }
+{
+    let s0 = e.s0;
+    let s1 = e.s1;
+    let bottom = float32::ceil(pick(s0.y < s1.y, s1.y, s0.y));
+    let k = counts_by(s0, s1, top, bottom);
+    let m = slope_by(s0, s1, top, bottom);
+    let b = walk::setup::start(m, s0);
+    let a = rise_by(m, k, b);
+    let pace = Pace {
+        a,
+        b,
+        x0: m.x0,
+        y0: m.y0,
+        sign: m.sign,
+        on_top: m.y0 == s0.y,
+    };
+    Walk {
+        e,
+        k,
+        is_positive_slope: m.is_positive_slope,
+        pace,
+    }
+}
+
+// `walk::lent::walk_on`. The ends are in order, which need not be known: if they weren't, the walk's
+// own way would be taken.
+fn walk_by(p0: Vec2, p1: Vec2, b: Path) -> Walked
+    requires { ⌜ Reached p0 p1 ⌝ }
+    ensures { λ r. ⌜ r ≡ walkedOf p0 p1 b ⌝ }
+{
+    let e = walk::setup::order(p0, p1);
+    let s0 = e.s0;
+    let s1 = e.s1;
+    if s1.y < s0.y {
+        return walk::lent::walk_on(p0, p1, b);
+    }
+    let top = float32::floor(s0.y);
+    if flat_by(s0, s1, top) | walk::skip::past(s0, s1, b) {
+        return Walked::Skipped;
+    }
+    Walked::Line(setup_by(e, top), b)
+}
+
+// `walk::lent::walk_at`.
+pub fn walk_at(path_nos: &[u32], coords: &[f32], paths: &[u32], line_no: u32) -> Walked
+    requires { ⌜ («line_no» < length (now «path_nos»)) × («line_no» * lineFloats + lineFloats ≤ length (now coords)) ⌝ }
+    ensures { λ r. ⌜ r ≡ walkAt (now («path_nos» .entry)) (now (coords .entry)) (now (paths .entry)) «line_no» ⌝ }
+{
+    let line = walk::lent::line_at(coords, line_no);
+    let p0 = line.p0;
+    let p1 = line.p1;
+    if !walk::lent::reached(p0, p1) {
+        return Walked::Refused(COORDINATE);
+    }
+    let path_no = path_nos[line_no as usize];
+    if (path_no as usize) >= paths.len() / PATH_WORDS {
+        return Walked::Refused(NO_SUCH);
+    }
+    walk_by(p0, p1, path_at(paths, path_no))
+}
