@@ -27,7 +27,8 @@ ghost use Rattle.write_lists.specs.Layout.{pairWords, pairSize, jumpIf, 
 ghost use Rattle.write_lists.specs.Lists.{slotsFit, allFit, wordsNamed};
 ghost use Rattle.write_lists.specs.Ready.{Ready, Room};
 
-// The word of a fresh region that a list goes on at: its first. A tile's own list starts at LIST_START.
+// The word of a fresh region that a list goes on at: its first. In a tile's own region it starts at
+// LIST_START.
 const FRESH_START: usize = 0;
 
 // Where the next word goes, how many words are left in its region, and where the next fresh region
