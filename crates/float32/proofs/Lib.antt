@@ -14,3 +14,4 @@ pub mod Examples
 pub mod Finite
 pub mod Ints
 pub mod MinMax
+pub mod Turned

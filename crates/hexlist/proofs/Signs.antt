@@ -1,53 +1,19 @@
--- -1 - z, which turns the bits of z over. Assumes nothing.
-use mathlib.Core.Path.{_≡_, refl, sym, ap, _∙_, subst}
-use mathlib.Core.Bool.{true, false, true≢false}
-use Prim.Native.Nat.{ℕ, zero, suc, _+_, _<_}
-use native.Mathlib.Numerals.{add-one}
+-- -1 - m of a number below 2 ^ 31 from 0 up. Assumes nothing.
+use mathlib.Core.Path.{_≡_, refl, ap, _∙_}
+use Prim.Native.Nat.{ℕ, zero, suc, _<_}
 use native.Mathlib.Nat.{zero-add}
-use lib.IntN.{ℤ, pos, negsuc, _+ℤ_, _-ℤ_, +ℤ-comm, +ℤ-negℤ-cancel}
-use lib.Signed.{ltZ}
+use lib.IntN.{ℤ, pos, negsuc, _-ℤ_}
 use mir.Syntax.{w32}
-use mir.Val.{SFits, toZ, ofZ}
-use mir.Facts.{toZ-ofZ, toZ-pos}
-use Rattle.float32.proofs.Ints.{none}
+use mir.Val.{SFits, toZ}
+use mir.Facts.{toZ-pos}
 
 pub down-from : (m : ℕ) → negsuc 0 -ℤ pos m ≡ negsuc m
 down-from zero = refl
 down-from (suc m) = ap (λ (n : ℕ). negsuc (suc n)) (zero-add m)
 
-pub up-from : (j : ℕ) → negsuc 0 -ℤ negsuc j ≡ pos j
-up-from j = +ℤ-comm (negsuc 0) (pos (suc j)) ∙ ap (λ (n : ℕ). pos n +ℤ negsuc 0) (sym (add-one j)) ∙ +ℤ-negℤ-cancel (pos j) (pos 1)
-
--- a number as it is read back from its bits
-abbrev pub read : ℤ → ℤ
-read z = toZ w32 (ofZ w32 z)
-
-pub back : (z : ℤ) → SFits w32 z → read z ≡ z
-back z f = toZ-ofZ f
-
--- of a number below 2 ^ 31 from 0 up
 module _ (m : ℕ) (h : m < 2147483648) where
   pub down-is : negsuc 0 -ℤ toZ w32 m ≡ negsuc m
   down-is = ap (λ (y : ℤ). negsuc 0 -ℤ y) (toZ-pos w32 h) ∙ down-from m
 
   pub down-fits : SFits w32 (negsuc 0 -ℤ toZ w32 m)
   down-fits = rw down-is (record { sfits = h })
-
--- of a negative number
-pub low : (z : ℤ) → ltZ z (pos 0) ≡ true → (j : ℕ) × (z ≡ negsuc j)
-low (pos n) t = absurd (none n t)
-low (negsuc j) t = (j, refl)
-
-pub plain : (z : ℤ) → ltZ z (pos 0) ≡ false → (n : ℕ) × (z ≡ pos n)
-plain (pos n) t = (n, refl)
-plain (negsuc j) t = absurd (true≢false t)
-
-module _ (z : ℤ) (f : SFits w32 z) (j : ℕ) (e : z ≡ negsuc j) where
-  over : negsuc 0 -ℤ read z ≡ pos j
-  over = ap (λ (y : ℤ). negsuc 0 -ℤ y) (back z f ∙ e) ∙ up-from j
-
-  pub over-fits : SFits w32 (negsuc 0 -ℤ read z)
-  over-fits = rw over (record { sfits = subst (SFits w32) e f .sfits })
-
-  pub over-is : read (negsuc 0 -ℤ read z) ≡ pos j
-  over-is = toZ-ofZ over-fits ∙ over

@@ -1,51 +1,33 @@
 -- A signed number's bits: turned over where it is negative, the remainder by two, and whether it is 0. Assumes nothing.
 use mathlib.Core.Path.{_≡_, refl, sym, ap, _∙_, subst}
-use mathlib.Core.Bool.{true, false, not, true≢false}
-use Prim.Native.Nat.{ℕ, zero, suc, _+_, _-_, _/_, _%_, _^_, _≤_, _<_}
-use native.Mathlib.Numerals.{add-one}
+use mathlib.Core.Bool.{true, false, not}
+use Prim.Native.Nat.{ℕ, zero, suc, _-_, _/_, _%_, _^_, _≤_, _<_}
 use native.Mathlib.Omega.{arith}
 use borrow.Author.Tests.{ne-eqb}
 use lib.Dec.{T, eqb}
-use lib.IntN.{ℤ, pos, negsuc, natAbs, negℤ, _+ℤ_, _-ℤ_, +ℤ-comm, +ℤ-negℤ-cancel}
+use lib.IntN.{ℤ, pos, negsuc, natAbs, negℤ, _-ℤ_}
 use lib.Signed.{ltZ, nonNeg, mag, quotZ, remZ}
 use mir.Syntax.{w32}
-use mir.Val.{Fits, SFits, toZ, ofZ}
-use mir.Facts.{toZ-ofZ}
-use Rattle.float32.proofs.Ints.{none}
+use mir.Val.{Fits, SFits, ofZ}
+use Rattle.float32.proofs.Turned.{read, back, low, plain}
+use Rattle.float32.proofs.Turned as Turned
 use Rattle.panel.specs.Slots.{not32}
 use Rattle.write_lists.specs.Pairs.{bitsOf}
 
--- a number as it is read back from its bits
-abbrev pub read : ℤ → ℤ
-read z = toZ w32 (ofZ w32 z)
-
-pub back : (z : ℤ) → SFits w32 z → read z ≡ z
-back z f = toZ-ofZ f
-
 -- ---- a negative one
-
-up-from : (j : ℕ) → negsuc 0 -ℤ negsuc j ≡ pos j
-up-from j = +ℤ-comm (negsuc 0) (pos (suc j)) ∙ ap (λ (n : ℕ). pos n +ℤ negsuc 0) (sym (add-one j)) ∙ +ℤ-negℤ-cancel (pos j) (pos 1)
-
-low : (z : ℤ) → ltZ z (pos 0) ≡ true → (j : ℕ) × (z ≡ negsuc j)
-low (pos n) t = absurd (none n t)
-low (negsuc j) t = (j, refl)
 
 module _ (z : ℤ) (f : SFits w32 z) (t : ltZ (read z) (pos 0) ≡ true) where
   below : (j : ℕ) × (z ≡ negsuc j)
   below = low z (rw (back z f) at t)
 
-  over : negsuc 0 -ℤ read z ≡ pos (below .0)
-  over = ap (λ (y : ℤ). negsuc 0 -ℤ y) (back z f ∙ below .1) ∙ up-from (below .0)
-
   small : below .0 < 2 ^ 31
   small = subst (SFits w32) (below .1) f .sfits
 
   pub over-fits : SFits w32 (negsuc 0 -ℤ read z)
-  over-fits = rw over (record { sfits = small })
+  over-fits = Turned.over-fits z f (below .0) (below .1)
 
   over-is : read (negsuc 0 -ℤ read z) ≡ pos (below .0)
-  over-is = toZ-ofZ over-fits ∙ over
+  over-is = Turned.over-is z f (below .0) (below .1)
 
   pub over-cast : T (nonNeg (read (negsuc 0 -ℤ read z))) × Fits w32 (natAbs (read (negsuc 0 -ℤ read z)))
   over-cast = rw over-is (tt, record { fits = omega (arith, small) })
@@ -54,10 +36,6 @@ module _ (z : ℤ) (f : SFits w32 z) (t : ltZ (read z) (pos 0) ≡ true) where
   over-bits = ap (λ (y : ℤ). not32 (natAbs y)) over-is ∙ ap bitsOf (sym (below .1))
 
 -- ---- another one
-
-plain : (z : ℤ) → ltZ z (pos 0) ≡ false → (n : ℕ) × (z ≡ pos n)
-plain (pos n) t = (n, refl)
-plain (negsuc j) t = absurd (true≢false t)
 
 module _ (z : ℤ) (f : SFits w32 z) (t : ltZ (read z) (pos 0) ≡ false) where
   above : (n : ℕ) × (z ≡ pos n)

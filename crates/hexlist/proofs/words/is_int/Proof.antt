@@ -10,7 +10,7 @@ use lib.Signed.{ltZ, nonNeg}
 use mir.Syntax.{w32}
 use mir.Val.{Fits, SFits}
 use Rattle.hexlist.specs.Values.{isInt}
-use Rattle.hexlist.proofs.Signs.{read, back, low, plain, over-fits, over-is}
+use Rattle.float32.proofs.Turned.{read, back, low, plain, over-fits, over-is}
 use Rattle.hexlist.proofs.words.is_int.Statement.{statement}
 use Rattle.hexlist.proofs.words.is_int.Tie as tie
 

@@ -3,7 +3,7 @@ use mathlib.Core.Path.{ap, _∙_}
 use lib.IntN.{ℤ, pos}
 use lib.ListN.{getD}
 use Rattle.write_lists.specs.Pairs.{colourAt, ruleAt, onTile}
-use Rattle.write_lists.proofs.Signed.{back}
+use Rattle.float32.proofs.Turned.{back}
 use borrow.Author.Needs.{needs}
 use Rattle.write_lists.proofs.pairs.by_path.Statement.{statement}
 use Rattle.write_lists.proofs.pairs.by_path.Tie as tie

@@ -2,7 +2,8 @@
 use mathlib.Core.Path.{ap}
 use mathlib.Core.Bool.{not}
 use native.Mathlib.Omega.{arith}
-use Rattle.write_lists.proofs.Signed.{back, half-fits, odd-bit, zero-bits}
+use Rattle.float32.proofs.Turned.{back}
+use Rattle.write_lists.proofs.Signed.{half-fits, odd-bit, zero-bits}
 use Rattle.write_lists.proofs.pairs.covers.Statement.{statement}
 use Rattle.write_lists.proofs.pairs.covers.Tie as tie
 

@@ -4,7 +4,7 @@ use lib.IntN.{ℤ}
 use borrow.Author.Needs.{needs}
 use Rattle.commands.specs.Pixel.{evenOddOf}
 use Rattle.write_lists.specs.Pairs.{bitsOf, covers}
-use Rattle.write_lists.proofs.Signed.{back}
+use Rattle.float32.proofs.Turned.{back}
 use Rattle.write_lists.proofs.PairLaws.{on-fill, on-solid, on-none}
 use Rattle.write_lists.proofs.pairs.on_tile.Statement.{statement}
 use Rattle.write_lists.proofs.pairs.on_tile.Tie as tie
