@@ -1,10 +1,10 @@
 //! A whole frame in one call: beside the rules, and beside the unchanged Rust's stages one after another.
 
-use crate::count::{box_of, some_lines};
+use crate::count::{box_of, some_lines, spoil_line};
 use crate::stage::{hex, same, same_words, Sides, Stage};
 use crate::table::Table;
 use cases::memory::{as_f32, Lent};
-use cases::{boxes, floats, lines, Rng};
+use cases::{boxes, lines, Rng};
 use rules::frame::{COUNTING, HAND_OUT, LENT, TILING};
 
 #[derive(Clone, Debug)]
@@ -72,18 +72,7 @@ fn spoil(rng: &mut Rng, case: &mut Case) {
         5 => _ = case.tally.pop(),
         6 => _ = case.refs.pop(),
         7 => case.segments.push(1),
-        8 => {
-            let n = case.path_nos.len().max(1) as u64;
-            if let Some(p) = case.path_nos.get_mut(rng.below(n) as usize) {
-                *p = rng.pick(&[(case.paths.len() / 5) as u32, u32::MAX, 4_096, 1 << 31]);
-            }
-        }
-        9 | 10 => {
-            let n = case.coords.len().max(1) as u64;
-            if let Some(c) = case.coords.get_mut(rng.below(n) as usize) {
-                *c = floats::any_bits(rng);
-            }
-        }
+        8..=10 => spoil_line(rng, &mut case.path_nos, &mut case.coords, &case.paths),
         11 => case.paths = [0, 0, 0, 0, 0].repeat(4_096 + rng.below(3) as usize),
         _ => boxes::spoil(rng, &mut case.paths, case.tiles.len()),
     }

@@ -153,16 +153,32 @@ fn spoil(rng: &mut Rng, case: &mut Case) {
     }
 }
 
+type Call = fn(&[u32], &[u32], &[i32], &[u32], &[u32], u32, u32, u32, &mut [u32], &mut u32) -> u32;
+
+fn read(lent: &[Lent; 5]) -> Tables<'_> {
+    let [paths, paints, backdrops, stored, tally] = lent;
+    Tables { paths: paths.u32s(), paints: paints.u32s(), backdrops: backdrops.i32s(), stored: stored.u32s(), tally: tally.u32s() }
+}
+
 impl Case {
+    /// The words lent, and the tables.
     fn tables(&self) -> (Lent, [Lent; 5]) {
         let words: Vec<u32> = (0..self.words).map(|k| 0xc0de_0000 + k as u32).collect();
         (Lent::new(&words), [&self.paths, &self.paints, &self.backdrops, &self.stored, &self.tally].map(|w| Lent::new(w)))
     }
 
+    /// One side's answer and item, and the words as it leaves them.
+    fn written(&self, call: Call, lent: &[Lent; 5], words: &mut Lent) -> (u32, u32) {
+        let t = read(lent);
+        let mut item = 0xabcd;
+        let number = call(t.paths, t.paints, t.backdrops, t.stored, t.tally, self.cols, self.rows, self.room, words.u32s_mut(), &mut item);
+        (number, item)
+    }
+
     /// The words that the rules need, where the tables pass all other checks; for words lent near that number.
     fn needed(&self) -> usize {
-        let (_, [paths, paints, backdrops, stored, tally]) = self.tables();
-        let tables = Tables { paths: paths.u32s(), paints: paints.u32s(), backdrops: backdrops.i32s(), stored: stored.u32s(), tally: tally.u32s() };
+        let (_, lent) = self.tables();
+        let tables = read(&lent);
         let mut regions = 0;
         for (x, y) in (0..self.rows as i64).flat_map(|y| (0..self.cols as i64).map(move |x| (x, y))) {
             regions += 1;
@@ -221,38 +237,12 @@ impl Stage for WriteLists {
 
     fn check(&self, case: &Case, sides: Sides, table: &mut Table) -> Result<(), String> {
         let c = case;
-        let (before, lent) = case.tables();
-        let [paths, paints, backdrops, stored, tally] = &lent;
-        let mut by_rules = before.clone();
-        let mut item = 0xabcd;
-        let number = rules::write_lists(
-            paths.u32s(),
-            paints.u32s(),
-            backdrops.i32s(),
-            stored.u32s(),
-            tally.u32s(),
-            c.cols,
-            c.rows,
-            c.room,
-            by_rules.u32s_mut(),
-            &mut item,
-        );
+        let (mut by_ours, lent) = case.tables();
+        let mut by_rules = by_ours.clone();
+        let (number, item) = case.written(rules::write_lists, &lent, &mut by_rules);
         table.answer(number);
-        let mut by_ours = before;
         if sides.ours {
-            let mut our_item = 0xabcd;
-            let our_number = ours::write_lists(
-                paths.u32s(),
-                paints.u32s(),
-                backdrops.i32s(),
-                stored.u32s(),
-                tally.u32s(),
-                c.cols,
-                c.rows,
-                c.room,
-                by_ours.u32s_mut(),
-                &mut our_item,
-            );
+            let (our_number, our_item) = case.written(ours::write_lists, &lent, &mut by_ours);
             same("answer", our_number, number)?;
             same("item", our_item, item)?;
             same_words("words", by_ours.u32s(), by_rules.u32s())?;
@@ -262,9 +252,7 @@ impl Stage for WriteLists {
             }
         }
         if number == 0 && c.segments.len() == 5 * c.room as usize {
-            let tables =
-                Tables { paths: paths.u32s(), paints: paints.u32s(), backdrops: backdrops.i32s(), stored: stored.u32s(), tally: tally.u32s() };
-            draw(case, &tables, &by_rules, sides, table)?;
+            draw(case, &read(&lent), &by_rules, sides, table)?;
         }
         Ok(())
     }
