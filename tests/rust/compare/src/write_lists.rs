@@ -295,7 +295,7 @@ impl Stage for WriteLists {
     }
 }
 
-/// Fine over the written lists, and each tile painted without a list: by the rules, and by the Rust over a plain list.
+/// Fine over the written lists, and each tile painted without a list: by the rules, and by the Rust.
 fn draw(case: &Case, tables: &Tables, words: &Lent, sides: Sides, table: &mut Table) -> Result<(), String> {
     let (cols, rows, list) = (case.cols, case.rows, as_f32(&case.segments));
     let width = 16 * cols as usize;
@@ -306,12 +306,13 @@ fn draw(case: &Case, tables: &Tables, words: &Lent, sides: Sides, table: &mut Ta
     same("fine's answer over the written lists", (number, item), (0, 0))?;
     let records = oracle::segments_of(list);
     for t in 0..cols * rows {
-        let pairs = tables.pairs((t % cols) as i64, (t / cols) as i64);
-        let at = |row: usize| width * (16 * (t / cols) as usize + row) + 16 * (t % cols) as usize;
+        let (x, y) = ((t % cols) as i64, (t / cols) as i64);
+        let at = |row: usize| width * (16 * y as usize + row) + 16 * x as usize;
         let drawn: Vec<u32> = (0..16).flat_map(|row| pixels[at(row)..at(row) + 16].to_vec()).collect();
+        let pairs = tables.pairs(x, y);
         same_words("pixels beside painting in order", &drawn, &rules::lists::painted(&pairs, list))?;
         if sides.rust {
-            let by_rust = oracle::fine_tile(plain_list(&pairs).for_tile(1), &records);
+            let by_rust = oracle::fine_tile(fills_alone(tables, x, y).for_tile(1), &records);
             same_words("pixels beside the Rust", &drawn, &by_rust.map_err(|_| "the Rust panicked")?)?;
         }
         table.add("tiles drawn", 1);
@@ -321,16 +322,25 @@ fn draw(case: &Case, tables: &Tables, words: &Lent, sides: Sides, table: &mut Ta
     Ok(())
 }
 
-/// The pairs one after another, with no regions.
-fn plain_list(pairs: &[Pair]) -> Lists {
-    let mut lists = Lists::new(6 * pairs.len() + 2, 0);
+/// Every path whose box has the tile as a FILL and its colour, one after another, with no regions: no test of covering, but
+/// the Rust's own fill of no segments. Only a backdrop that a float can't hold is made small, odd staying odd.
+fn fills_alone(tables: &Tables, x: i64, y: i64) -> Lists {
+    let mut lists = Lists::new(6 * tables.paths.len() / 5 + 2, 0);
     let mut at = 1;
-    for pair in pairs {
-        let (cover, color) = match *pair {
-            Pair::Fill { number, even_odd, first, backdrop, color } => (Command::Fill { number, even_odd, first, backdrop }, color),
-            Pair::Solid { color } => (Command::Solid, color),
-        };
-        for command in [cover, Command::Color(color)] {
+    for (path, paint) in tables.paths.chunks_exact(5).zip(tables.paints.chunks_exact(2)) {
+        let [x0, y0, x1, y1, first] = [0, 1, 2, 3, 4].map(|k| path[k] as i64);
+        if !(x0..x1).contains(&x) || !(y0..y1).contains(&y) {
+            continue;
+        }
+        let t = (first + (y - y0) * (x1 - x0) + x - x0) as usize;
+        let number = tables.tally[t];
+        let slots = if number > 0 { !tables.stored[t] } else { 0 };
+        let mut backdrop = tables.backdrops[t];
+        if number == 0 && backdrop.unsigned_abs() > 1 << 24 {
+            backdrop = 2 + (backdrop & 1);
+        }
+        let even_odd = paint[1] & 1 == 1;
+        for command in [Command::Fill { number, even_odd, first: slots, backdrop }, Command::Color(paint[0])] {
             lists.put(at, command, 0);
             at += command.size();
         }
