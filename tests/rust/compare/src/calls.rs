@@ -3,7 +3,7 @@
 use crate::stage::{same, same_words};
 use cases::memory::{one_nan, Lent};
 
-pub const NAMES: [&str; 9] = ["", "count", "backdrop", "hand_out", "tile", "fill", "fine", "frame", "lists"];
+pub const NAMES: [&str; 9] = ["", "count", "backdrop", "hand_out", "tile", "fill", "fine", "frame", "write_lists"];
 
 #[derive(Clone, Debug)]
 pub struct Call {

@@ -135,7 +135,7 @@ impl Stage for Hostile {
 
     fn check(&self, call: &Call, sides: Sides, table: &mut Table) -> Result<(), String> {
         let wanted = by_rules(call);
-        table.add(&format!("{:<9} answer {:2}", NAMES[call.kind as usize], wanted.answer[0]), 1);
+        table.add(&format!("{:<11} answer {:2}", NAMES[call.kind as usize], wanted.answer[0]), 1);
         if sides.ours {
             same_outcome(call, &by_ours(call), &wanted)?;
         }

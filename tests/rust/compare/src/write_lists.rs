@@ -198,7 +198,7 @@ impl Case {
 
 impl Stage for WriteLists {
     type Case = Case;
-    const NAME: &'static str = "lists";
+    const NAME: &'static str = "write_lists";
     const REACHED: &'static [u32] = &[0, 1, 2, 3, 4, 9, 15];
     const LEAST: u64 = 40_000;
 
