@@ -95,10 +95,10 @@ uint32_t gp_fine(const uint32_t *words, size_t words_len,
                  uint32_t *pixels, size_t pixels_len, uint32_t *item);
 
 /* A picture on paper: pixels, width * height of them, as a binary Netpbm P6 file at the front of out;
- * *bytes is its length, 0 where refused (17, 1, 9). */
+ * *size is its length, 0 where refused (17, 1, 9). */
 uint32_t gp_ppm_write(const uint32_t *pixels, size_t pixels_len,
                       uint32_t width, uint32_t height,
-                      uint8_t *out, size_t out_len, uint32_t *bytes);
+                      uint8_t *out, size_t out_len, size_t *size);
 
 /* Reads such a file, comments allowed: red, green and blue of each pixel to the front of out; 18, 17,
  * 18 for the raster, 9. *width and *height are 0 where refused. */

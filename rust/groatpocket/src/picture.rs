@@ -12,7 +12,7 @@ use crate::refusal::{answered, Refused, UNTOLD};
 /// assert_eq!(&out[..n], b"P6\n2 1\n255\n\x20\x40\x60\x20\x40\x60");
 /// ```
 pub fn ppm_write(pixels: &[u32], width: u32, height: u32, out: &mut [u8]) -> Result<usize, Refused> {
-    let mut bytes = UNTOLD;
+    let mut size = 0;
     // SAFETY: as for `count`.
     #[rustfmt::skip]
     let number = unsafe {
@@ -20,10 +20,10 @@ pub fn ppm_write(pixels: &[u32], width: u32, height: u32, out: &mut [u8]) -> Res
             pixels.as_ptr(), pixels.len(),
             width, height,
             out.as_mut_ptr(), out.len(),
-            &mut bytes,
+            &mut size,
         )
     };
-    answered(number, 0).map(|()| bytes as usize)
+    answered(number, 0).map(|()| size)
 }
 
 /// Reads such a file, comments allowed: its width and height, and red, green and blue of each pixel at

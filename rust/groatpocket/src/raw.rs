@@ -80,7 +80,7 @@ extern "C" {
         pixels: *const u32, pixels_len: usize,
         width: u32, height: u32,
         out: *mut u8, out_len: usize,
-        bytes: &mut u32,
+        size: &mut usize,
     ) -> u32;
 
     pub fn gp_ppm_read(
