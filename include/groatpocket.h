@@ -1,11 +1,13 @@
 /* Groatpocket: a proved tile rasterizer. Link with libgroatpocket.a.
  *
  * Everything is lent: a slice is a pointer and the number of its elements. Each pointer must be
- * valid and aligned for that many elements, and slices that a call writes must not overlap any
- * other slice of the call. Nothing else is asked: any words and floats may be lent. A call touches
- * nothing outside the slices, always ends, and answers a refusal number; what is refused changes
- * nothing, and what came before it stands. docs/RULES.md has the rules, docs/PROMISES.md what is
- * proved of each call.
+ * valid and aligned for that many elements (not NULL, also for none), and slices that a call writes
+ * must not overlap any other slice of the call. Floats are IEEE 754 with the default environment:
+ * round to nearest, subnormals kept (a program linked with -ffast-math turns them off). Nothing else
+ * is asked: any words and floats may be lent, and calls may run at once over different memory. A call
+ * touches nothing outside the slices, always ends, and answers a refusal number; what is refused
+ * changes nothing, and what came before it stands. docs/RULES.md has the rules, docs/PROMISES.md
+ * what is proved of each call.
  */
 #ifndef GROATPOCKET_H
 #define GROATPOCKET_H
