@@ -39,22 +39,19 @@ fn lines_of(rng: &mut Rng, families: &[usize], paths: &[u32], n: usize) -> (Vec<
     (path_nos, coords)
 }
 
-/// A frame over the paths, of lines of these families, or of all: what the tables hold beforehand is anything, and there is room for all or nearly all.
+/// A frame over the paths, of lines of these families, or of all: what the tables hold beforehand is anything, and there is
+/// room for all or nearly all.
 pub fn over(rng: &mut Rng, paths: Vec<u32>, tiles: usize, n: usize, families: &[usize]) -> Case {
     let (path_nos, coords) = if families.is_empty() { some_lines(rng, &paths, n) } else { lines_of(rng, families, &paths, n) };
     let (mut b, mut c, mut r) = (vec![0; tiles], vec![0; tiles], vec![0; 2 * n * 120]);
     let (mut lines, mut made) = (0, 0);
     rules::count(&path_nos, as_f32(&coords), &paths, &mut b, &mut c, &mut r, n as u32, &mut lines, &mut made, &mut 0);
-    let refs = match rng.below(10) {
+    let room = |rng: &mut Rng| match rng.below(10) {
         0 => rng.below(made as u64 + 1) as usize,
         1 => made as usize + 3,
         _ => made as usize,
     };
-    let slots = match rng.below(10) {
-        0 => rng.below(made as u64 + 1) as usize,
-        1 => made as usize + 3,
-        _ => made as usize,
-    };
+    let (refs, slots) = (room(rng), room(rng));
     let mut any = |n: usize| (0..n).map(|_| rng.u32()).collect::<Vec<u32>>();
     let (backdrops, counts, tally, refs) = (any(tiles), any(tiles), any(tiles), any(2 * refs));
     // NaNs with payloads, so that a word left alone is seen to be
