@@ -53,7 +53,7 @@ extern "C" {
 #define GP_LINE_FLOATS 4u    /* p0.x, p0.y, p1.x, p1.y in pixels */
 #define GP_REF_WORDS 2u      /* line number; slice number * 65,536 + step number */
 #define GP_SEGMENT_FLOATS 5u /* point0.x, point0.y, point1.x, point1.y, y_edge */
-#define GP_PAINT_WORDS 2u    /* colour, red in the high byte; rule, 0 non-zero or 1 even-odd */
+#define GP_PAINT_WORDS 2u    /* colour, red in the high byte; rule, its lowest bit set for even-odd */
 #define GP_CMD_END 0u
 #define GP_CMD_FILL 1u  /* then segments * 2 + (1 for even-odd), first segment, backdrop */
 #define GP_CMD_SOLID 2u /* then one word that is not read */
@@ -79,8 +79,9 @@ uint32_t gp_frame(const uint32_t *path_nos, size_t path_nos_len,
 /* The command lists of a screen of cols by rows tiles: the paths in their order, each with its paint.
  * backdrops, stored and tally are what gp_frame leaves in backdrops, tiles and tally; room is the
  * number of segments that gp_fine will be lent. A list that fills its 64 words goes on in 64 fresh
- * ones past all tiles'; other words stay. 15 with the first screen tile of too many commands in *item;
- * 9 where the words or the room don't suffice. A refusal writes no word. */
+ * ones past all tiles'; other words stay. 64 words for each tile and ten paths always suffice. 15 with
+ * the first screen tile of too many commands in *item; 9 where the words or the room don't suffice. A
+ * refusal writes no word. */
 uint32_t gp_write_lists(const uint32_t *paths, size_t paths_len,
                         const uint32_t *paints, size_t paints_len,
                         const int32_t *backdrops, size_t backdrops_len,

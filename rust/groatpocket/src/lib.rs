@@ -59,7 +59,7 @@ pub const LINE_FLOATS: usize = 4;
 pub const REF_WORDS: usize = 2;
 /// Floats to a segment: point0.x, point0.y, point1.x, point1.y, y_edge.
 pub const SEGMENT_FLOATS: usize = 5;
-/// Words to a paint: the colour, red in the high byte; the fill rule, 0 non-zero or 1 even-odd.
+/// Words to a paint: the colour, red in the high byte; the fill rule, its lowest bit set for even-odd.
 pub const PAINT_WORDS: usize = 2;
 /// Words to a region of commands; screen tile t's list starts at word 64 t + 1.
 pub const TILE_WORDS: usize = 64;
