@@ -3,7 +3,7 @@
  * `rt staticlib groatpocket` has written the archive:
  *
  *     cc -std=c11 -Wall -Wextra -Werror -pedantic -Iinclude examples/c/panel.c \
- *         target/staticlib/libgroatpocket.a -o panel && ./panel
+ *         target/staticlib/libgroatpocket.a -o target/panel && target/panel
  */
 #include "groatpocket.h"
 

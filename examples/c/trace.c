@@ -2,7 +2,7 @@
  * `rt staticlib groatpocket` has written the archive:
  *
  *     cc -std=c11 -Wall -Wextra -Werror -pedantic -Iinclude examples/c/trace.c \
- *         target/staticlib/libgroatpocket.a -o trace && ./trace
+ *         target/staticlib/libgroatpocket.a -o target/trace && target/trace
  */
 #include "groatpocket.h"
 
