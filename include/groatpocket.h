@@ -1,11 +1,13 @@
 /* Groatpocket: a proved tile rasterizer. Link with libgroatpocket.a.
  *
  * Everything is lent: a slice is a pointer and the number of its elements. Each pointer must be
- * valid and aligned for that many elements, and slices that a call writes must not overlap any
- * other slice of the call. Nothing else is asked: any words and floats may be lent. A call touches
- * nothing outside the slices, always ends, and answers a refusal number; what is refused changes
- * nothing, and what came before it stands. docs/RULES.md has the rules, docs/PROMISES.md what is
- * proved of each call.
+ * valid and aligned for that many elements (not NULL, also for none), and slices that a call writes
+ * must not overlap any other slice of the call. Floats are IEEE 754 with the default environment:
+ * round to nearest, subnormals kept (a program linked with -ffast-math turns them off). Nothing else
+ * is asked: any words and floats may be lent, and calls may run at once over different memory. A call
+ * touches nothing outside the slices, always ends, and answers a refusal number; what is refused
+ * changes nothing, and what came before it stands. docs/RULES.md has the rules, docs/PROMISES.md
+ * what is proved of each call.
  */
 #ifndef GROATPOCKET_H
 #define GROATPOCKET_H
@@ -27,7 +29,7 @@ extern "C" {
 #define GP_COORDINATE 6u  /* a coordinate not finite, or over 16,384 in size */
 #define GP_NO_SUCH 7u     /* no such path; in a reference, no such line or a skipped one */
 #define GP_COUNT_OVER 8u  /* a step number or a tile's count over its limit */
-#define GP_NO_ROOM 9u     /* no room for references or slots */
+#define GP_NO_ROOM 9u     /* no room for references, slots, regions of commands or a file */
 #define GP_OUTSIDE 10u    /* a step outside its path's box */
 #define GP_SUM_OVER 11u   /* a backdrop or a running sum leaves 32 bits */
 #define GP_CROOKED 12u    /* a segment end outside its tile */
@@ -35,12 +37,23 @@ extern "C" {
 #define GP_UNKNOWN 14u    /* an unknown command */
 #define GP_TOO_LONG 15u   /* over 4,096 commands on one tile */
 #define GP_BAD_SCREEN 16u /* a screen too narrow, or too few pixels */
+#define GP_BAD_SIZE 17u   /* a picture's width or height outside 1 to 16,384 */
+#define GP_BAD_FILE 18u   /* no P6 file: another header, or bytes missing or left over */
+
+/* The part of a frame that refused. */
+#define GP_STAGE_NONE 0u     /* none: the frame is done */
+#define GP_STAGE_LENT 1u     /* the checks of what is lent; nothing has changed */
+#define GP_STAGE_COUNT 2u    /* counting; the item is a line */
+#define GP_STAGE_SUMS 3u     /* the sums of the backdrops; the item is a path */
+#define GP_STAGE_HAND_OUT 4u /* hand-out: too few segments lent; the item is 0 */
+#define GP_STAGE_TILE 5u     /* tiling; the item is a reference */
 
 /* The widths of the records, and the commands. */
 #define GP_PATH_WORDS 5u     /* box x0, y0, x1, y1 in tiles, then the first tile */
 #define GP_LINE_FLOATS 4u    /* p0.x, p0.y, p1.x, p1.y in pixels */
 #define GP_REF_WORDS 2u      /* line number; slice number * 65,536 + step number */
 #define GP_SEGMENT_FLOATS 5u /* point0.x, point0.y, point1.x, point1.y, y_edge */
+#define GP_PAINT_WORDS 2u    /* colour, red in the high byte; rule, its lowest bit set for even-odd */
 #define GP_CMD_END 0u
 #define GP_CMD_FILL 1u  /* then segments * 2 + (1 for even-odd), first segment, backdrop */
 #define GP_CMD_SOLID 2u /* then one word that is not read */
@@ -48,7 +61,56 @@ extern "C" {
 #define GP_CMD_JUMP 4u  /* then the word to go on at */
 #define GP_TILE_WORDS 64u /* tile t's list starts at word 64 t + 1 */
 
-/* Counting. Lines from *lines up to end: path_nos has a path number for each line, coords four
+/* A whole frame: checks all that is lent, clears backdrops and tiles, counts all lines, sums the
+ * backdrops, hands out slots (as many as segments are lent) and tiles every reference. Afterwards
+ * backdrops are the sums, tiles the indices, tally the counts, and segments below *made are written.
+ * Where it refuses, *stage says which part; *item is the line, path or reference; *lines and *made are
+ * what was counted (0 and 0 where the checks refuse). What the parts before it did stands. */
+uint32_t gp_frame(const uint32_t *path_nos, size_t path_nos_len,
+                  const float *coords, size_t coords_len,
+                  const uint32_t *paths, size_t paths_len,
+                  int32_t *backdrops, size_t backdrops_len,
+                  uint32_t *tiles, size_t tiles_len,
+                  uint32_t *tally, size_t tally_len,
+                  uint32_t *refs, size_t refs_len,
+                  float *segments, size_t segments_len,
+                  uint32_t *stage, uint32_t *item, uint32_t *lines, uint32_t *made);
+
+/* The command lists of a screen of cols by rows tiles: the paths in their order, each with its paint.
+ * backdrops, stored and tally are what gp_frame leaves in backdrops, tiles and tally; room is the
+ * number of segments that gp_fine will be lent. A list that fills its 64 words goes on in 64 fresh
+ * ones past all tiles'; other words stay. 64 words for each tile and ten paths always suffice. 15 with
+ * the first screen tile of too many commands in *item; 9 where the words or the room don't suffice. A
+ * refusal writes no word. */
+uint32_t gp_write_lists(const uint32_t *paths, size_t paths_len,
+                        const uint32_t *paints, size_t paints_len,
+                        const int32_t *backdrops, size_t backdrops_len,
+                        const uint32_t *stored, size_t stored_len,
+                        const uint32_t *tally, size_t tally_len,
+                        uint32_t cols, uint32_t rows, uint32_t room,
+                        uint32_t *words, size_t words_len, uint32_t *item);
+
+/* Pixels: screen tiles from .. to of a screen of cols by rows tiles and width pixels to a row, each
+ * by its list of commands. Stops before the first tile refused, with its number in *item. */
+uint32_t gp_fine(const uint32_t *words, size_t words_len,
+                 const float *segments, size_t segments_len,
+                 uint32_t width, uint32_t cols, uint32_t rows, uint32_t from, uint32_t to,
+                 uint32_t *pixels, size_t pixels_len, uint32_t *item);
+
+/* A picture on paper: pixels, width * height of them, as a binary Netpbm P6 file at the front of out;
+ * *size is its length, 0 where refused (17, 1, 9). */
+uint32_t gp_ppm_write(const uint32_t *pixels, size_t pixels_len,
+                      uint32_t width, uint32_t height,
+                      uint8_t *out, size_t out_len, size_t *size);
+
+/* Reads such a file, comments allowed: red, green and blue of each pixel to the front of out; 18, 17,
+ * 18 for the raster, 9. *width and *height are 0 where refused. */
+uint32_t gp_ppm_read(const uint8_t *file, size_t file_len,
+                     uint8_t *out, size_t out_len, uint32_t *width, uint32_t *height);
+
+/* The stages of a frame one by one, for whoever feeds lines in batches.
+ *
+ * Counting. Lines from *lines up to end: path_nos has a path number for each line, coords four
  * floats. Each line adds to its tiles' counts and backdrops and writes its references; *lines and
  * *made go on from where they stood. It stops before the first line refused, whose number is in
  * *item (for 3 and 4 the path's, for 0, 1 and 2 it is 0). A refused line changes nothing. */
@@ -85,13 +147,6 @@ uint32_t gp_tile(const uint32_t *path_nos, size_t path_nos_len,
 uint32_t gp_fill(const float *segments, size_t segments_len,
                  uint32_t first, uint32_t number, uint32_t even_odd, int32_t backdrop,
                  float x_tile, float y_tile, float *area, size_t area_len);
-
-/* Pixels: screen tiles from .. to of a screen of cols by rows tiles and width pixels to a row, each
- * by its list of commands. Stops before the first tile refused, with its number in *item. */
-uint32_t gp_fine(const uint32_t *words, size_t words_len,
-                 const float *segments, size_t segments_len,
-                 uint32_t width, uint32_t cols, uint32_t rows, uint32_t from, uint32_t to,
-                 uint32_t *pixels, size_t pixels_len, uint32_t *item);
 
 #ifdef __cplusplus
 }

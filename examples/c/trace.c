@@ -1,8 +1,8 @@
 /* One trace drawn through all stages, and its answers printed. Build from the project's root, once
  * `rt staticlib groatpocket` has written the archive:
  *
- *     cc -std=c99 -Wall -Wextra -Werror -Iinclude examples/c/trace.c \
- *         target/staticlib/libgroatpocket.a -o trace && ./trace
+ *     cc -std=c11 -Wall -Wextra -Werror -pedantic -Iinclude examples/c/trace.c \
+ *         target/staticlib/libgroatpocket.a -o target/trace && target/trace
  */
 #include "groatpocket.h"
 

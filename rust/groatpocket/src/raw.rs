@@ -1,83 +1,91 @@
-//! The exported functions, as include/groatpocket.h declares them.
+//! The exported functions, as include/groatpocket.h declares them: pointers and lengths.
+//!
+//! Each pointer must be valid for its length, and what a call writes must overlap nothing else
+//! that it is lent. The safe calls of this crate see to both.
+#![allow(missing_docs)]
+
+#[rustfmt::skip]
 extern "C" {
     pub fn gp_count(
-        path_nos: *const u32,
-        path_nos_len: usize,
-        coords: *const f32,
-        coords_len: usize,
-        paths: *const u32,
-        paths_len: usize,
-        backdrops: *mut i32,
-        backdrops_len: usize,
-        counts: *mut u32,
-        counts_len: usize,
-        refs: *mut u32,
-        refs_len: usize,
-        end: u32,
-        lines: &mut u32,
-        made: &mut u32,
-        item: &mut u32,
+        path_nos: *const u32, path_nos_len: usize,
+        coords: *const f32, coords_len: usize,
+        paths: *const u32, paths_len: usize,
+        backdrops: *mut i32, backdrops_len: usize,
+        counts: *mut u32, counts_len: usize,
+        refs: *mut u32, refs_len: usize,
+        end: u32, lines: &mut u32, made: &mut u32, item: &mut u32,
     ) -> u32;
 
     pub fn gp_backdrop(
-        paths: *const u32,
-        paths_len: usize,
-        backdrops: *mut i32,
-        backdrops_len: usize,
+        paths: *const u32, paths_len: usize,
+        backdrops: *mut i32, backdrops_len: usize,
         item: &mut u32,
     ) -> u32;
 
     pub fn gp_hand_out(
-        counts: *mut u32,
-        counts_len: usize,
-        tally: *mut u32,
-        tally_len: usize,
+        counts: *mut u32, counts_len: usize,
+        tally: *mut u32, tally_len: usize,
         room: u32,
     ) -> u32;
 
     pub fn gp_tile(
-        path_nos: *const u32,
-        path_nos_len: usize,
-        coords: *const f32,
-        coords_len: usize,
-        paths: *const u32,
-        paths_len: usize,
-        indices: *const u32,
-        indices_len: usize,
-        refs: *const u32,
-        refs_len: usize,
-        from: u32,
-        to: u32,
-        segments: *mut f32,
-        segments_len: usize,
+        path_nos: *const u32, path_nos_len: usize,
+        coords: *const f32, coords_len: usize,
+        paths: *const u32, paths_len: usize,
+        indices: *const u32, indices_len: usize,
+        refs: *const u32, refs_len: usize,
+        from: u32, to: u32,
+        segments: *mut f32, segments_len: usize,
+        item: &mut u32,
+    ) -> u32;
+
+    pub fn gp_frame(
+        path_nos: *const u32, path_nos_len: usize,
+        coords: *const f32, coords_len: usize,
+        paths: *const u32, paths_len: usize,
+        backdrops: *mut i32, backdrops_len: usize,
+        tiles: *mut u32, tiles_len: usize,
+        tally: *mut u32, tally_len: usize,
+        refs: *mut u32, refs_len: usize,
+        segments: *mut f32, segments_len: usize,
+        stage: &mut u32, item: &mut u32, lines: &mut u32, made: &mut u32,
+    ) -> u32;
+
+    pub fn gp_write_lists(
+        paths: *const u32, paths_len: usize,
+        paints: *const u32, paints_len: usize,
+        backdrops: *const i32, backdrops_len: usize,
+        stored: *const u32, stored_len: usize,
+        tally: *const u32, tally_len: usize,
+        cols: u32, rows: u32, room: u32,
+        words: *mut u32, words_len: usize,
         item: &mut u32,
     ) -> u32;
 
     pub fn gp_fill(
-        segments: *const f32,
-        segments_len: usize,
-        first: u32,
-        number: u32,
-        even_odd: u32,
-        backdrop: i32,
-        x_tile: f32,
-        y_tile: f32,
-        area: *mut f32,
-        area_len: usize,
+        segments: *const f32, segments_len: usize,
+        first: u32, number: u32, even_odd: u32, backdrop: i32, x_tile: f32, y_tile: f32,
+        area: *mut f32, area_len: usize,
     ) -> u32;
 
     pub fn gp_fine(
-        words: *const u32,
-        words_len: usize,
-        segments: *const f32,
-        segments_len: usize,
-        width: u32,
-        cols: u32,
-        rows: u32,
-        from: u32,
-        to: u32,
-        pixels: *mut u32,
-        pixels_len: usize,
+        words: *const u32, words_len: usize,
+        segments: *const f32, segments_len: usize,
+        width: u32, cols: u32, rows: u32, from: u32, to: u32,
+        pixels: *mut u32, pixels_len: usize,
         item: &mut u32,
+    ) -> u32;
+
+    pub fn gp_ppm_write(
+        pixels: *const u32, pixels_len: usize,
+        width: u32, height: u32,
+        out: *mut u8, out_len: usize,
+        size: &mut usize,
+    ) -> u32;
+
+    pub fn gp_ppm_read(
+        file: *const u8, file_len: usize,
+        out: *mut u8, out_len: usize,
+        width: &mut u32, height: &mut u32,
     ) -> u32;
 }

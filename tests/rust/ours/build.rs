@@ -1,31 +1,14 @@
-//! Links the archive of the exported calls: GROATPOCKET_LIB, else target/staticlib/libgroatpocket.a of the project.
-//!
-//! The archive is for x86-64. Where this is built for another processor, `server.c` is linked with it in the place of
-//! this crate, to be run under the kit's emulator (cfg `bridge`). With no stage's feature on nothing is linked.
+//! The crate groatpocket links the archive. Where that is for another processor, `server.c` is linked with it instead,
+//! to be run under the kit's emulator (cfg `bridge`). With no stage's feature on there is nothing to link.
 
+use std::env;
 use std::path::{Path, PathBuf};
 use std::process::Command;
-use std::{env, fs};
 
-const STAGES: [&str; 7] = ["FLOATS", "BACKDROP", "HAND_OUT", "COUNT", "TILE", "FILL", "FINE"];
+const STAGES: [&str; 9] = ["FLOATS", "BACKDROP", "HAND_OUT", "COUNT", "TILE", "FILL", "FINE", "FRAME", "LISTS"];
 
 fn linked(stage: &str) -> bool {
     env::var(format!("CARGO_FEATURE_{stage}")).is_ok()
-}
-
-/// The ELF number of the processor that the archive's first object is for.
-fn processor_of(archive: &Path) -> u16 {
-    let bytes = fs::read(archive).expect("the archive can be read");
-    let elf = bytes.windows(4).position(|w| w == b"\x7fELF").expect("the archive holds an ELF object");
-    u16::from_le_bytes([bytes[elf + 18], bytes[elf + 19]])
-}
-
-fn here() -> u16 {
-    match env::var("CARGO_CFG_TARGET_ARCH").unwrap().as_str() {
-        "x86_64" => 62,
-        "aarch64" => 183,
-        _ => 0,
-    }
 }
 
 /// The toolchain of the kit that `rt` belongs to: clang, ld.lld, and the emulator.
@@ -67,26 +50,10 @@ fn make_server(archive: &Path) {
 }
 
 fn main() {
-    println!("cargo:rerun-if-env-changed=GROATPOCKET_LIB");
     println!("cargo:rerun-if-changed=build.rs");
     println!("cargo:rerun-if-changed=server.c");
     println!("cargo:rustc-check-cfg=cfg(bridge)");
-    if !STAGES.iter().any(|s| linked(s)) {
-        return;
+    if env::var("DEP_GROATPOCKET_LINKED").is_ok_and(|linked| linked == "false") {
+        make_server(Path::new(&env::var_os("DEP_GROATPOCKET_ARCHIVE").expect("the archive's path")));
     }
-    let root = PathBuf::from(env::var("CARGO_MANIFEST_DIR").unwrap()).join("../../..");
-    let archive = match env::var("GROATPOCKET_LIB") {
-        Ok(named) => root.join(named), // an absolute path stays as it is
-        Err(_) => root.join("target/staticlib/libgroatpocket.a"),
-    };
-    let Ok(archive) = archive.canonicalize() else {
-        panic!("no archive at {}: run `rt staticlib groatpocket`, or name one by GROATPOCKET_LIB", archive.display());
-    };
-    println!("cargo:rerun-if-changed={}", archive.display());
-    if processor_of(&archive) != here() {
-        make_server(&archive);
-        return;
-    }
-    println!("cargo:rustc-link-search=native={}", archive.parent().unwrap().display());
-    println!("cargo:rustc-link-lib=static:+verbatim={}", archive.file_name().unwrap().to_str().unwrap());
 }

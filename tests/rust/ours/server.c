@@ -132,6 +132,14 @@ extern u32 gp_fill(const float *, usize, u32, u32, u32, int, float, float, float
 #ifdef HAS_FINE
 extern u32 gp_fine(const u32 *, usize, const float *, usize, u32, u32, u32, u32, u32, u32 *, usize, u32 *);
 #endif
+#ifdef HAS_FRAME
+extern u32 gp_frame(const u32 *, usize, const float *, usize, const u32 *, usize, int *, usize, u32 *, usize, u32 *, usize, u32 *, usize, float *, usize,
+                    u32 *, u32 *, u32 *, u32 *);
+#endif
+#ifdef HAS_LISTS
+extern u32 gp_write_lists(const u32 *, usize, const u32 *, usize, const int *, usize, const u32 *, usize, const u32 *, usize, u32, u32, u32,
+                          u32 *, usize, u32 *);
+#endif
 
 static u32 run(u32 which) {
     u32 *n = numbers;
@@ -156,6 +164,12 @@ static u32 run(u32 which) {
 #endif
 #ifdef HAS_FINE
     case 6: return gp_fine(W(0), F(1), n[0], n[1], n[2], n[3], n[4], W(2), &n[5]);
+#endif
+#ifdef HAS_FRAME
+    case 7: return gp_frame(W(0), F(1), W(2), I(3), W(4), W(5), W(6), F(7), &n[0], &n[1], &n[2], &n[3]);
+#endif
+#ifdef HAS_LISTS
+    case 8: return gp_write_lists(W(0), W(1), I(2), W(3), W(4), n[0], n[1], n[2], W(5), &n[3]);
 #endif
     }
     leave();

@@ -1,15 +1,23 @@
 //! Every stage beside the unchanged Rust: same machine, same run, release builds, buffers cleared beforehand.
 //!
-//!     cargo run --release -p bench [-- ROUNDS]
+//!     tests/rust/run bench [ROUNDS]
 //!
-//! Runs of the two are interleaved; a row gives the median time of each for one unit of work, and the ratio of ours
-//! to the Rust's. A ratio under 1 is faster than the Rust.
+//! Runs of the two are interleaved; a row has a stage at its sizes, the median time of each side for one unit of work, and
+//! the ratios of ours to the Rust's. A ratio under 1 is faster than the Rust.
 
 mod scenes;
 mod stages;
 
-/// Runs both sides in turn and prints a row; each closure clears its buffers, then gives the time of the call alone.
-pub fn row(what: &str, unit: &str, units: usize, rounds: usize, mut rust: impl FnMut() -> f64, mut ours: impl FnMut() -> f64) {
+use std::fmt::Display;
+
+/// Median nanoseconds of one unit of work, on each side.
+pub struct Times {
+    rust: f64,
+    ours: f64,
+}
+
+/// Runs both sides in turn; each closure clears its buffers, then gives the time of the call alone.
+pub fn measured(units: usize, rounds: usize, mut rust: impl FnMut() -> f64, mut ours: impl FnMut() -> f64) -> Times {
     rust();
     ours();
     let (mut theirs, mut mine) = (vec![], vec![]);
@@ -18,8 +26,19 @@ pub fn row(what: &str, unit: &str, units: usize, rounds: usize, mut rust: impl F
         mine.push(ours());
     }
     let each = 1e9 / units.max(1) as f64;
-    let (theirs, mine) = (median(theirs) * each, median(mine) * each);
-    println!("| {what} | {unit} | {theirs:.1} | {mine:.1} | {:.2} |", mine / theirs);
+    Times { rust: median(theirs) * each, ours: median(mine) * each }
+}
+
+/// One row: a stage at its sizes, the smallest first.
+pub fn row<S: Display>(what: &str, unit: &str, sizes: &[S], times: &[Times]) {
+    let all = |each: &dyn Fn(&Times) -> String| times.iter().map(each).collect::<Vec<_>>().join(" / ");
+    let sizes = sizes.iter().map(|s| s.to_string()).collect::<Vec<_>>().join(" / ");
+    let (rust, ours) = (all(&|t| short(t.rust)), all(&|t| short(t.ours)));
+    println!("| {what} | {sizes} | {unit} | {rust} | {ours} | {} |", all(&|t| format!("{:.2}", t.ours / t.rust)));
+}
+
+fn short(nanoseconds: f64) -> String {
+    format!("{nanoseconds:.*}", if nanoseconds < 100.0 { 1 } else { 0 })
 }
 
 fn median(mut times: Vec<f64>) -> f64 {
@@ -56,7 +75,7 @@ fn main() {
         println!("The archive is for another processor and would run under an emulator: times would say nothing.");
         return;
     }
-    println!("| stage | unit | the Rust, ns | ours, ns | ratio |\n|---|---|---|---|---|");
+    println!("| Stage | Sizes | Unit | the Rust, ns | ours, ns | ratio |\n|---|---|---|---|---|---|");
     if ours::has::FLOATS {
         stages::floats(rounds);
     }
@@ -74,5 +93,8 @@ fn main() {
     }
     if ours::has::FINE {
         stages::fine(rounds);
+    }
+    if ours::has::FRAME {
+        stages::frame(rounds);
     }
 }

@@ -1,7 +1,7 @@
 //! One function for each stage.
 
 use crate::scenes::{moved, segments, Kind, Scene, KINDS};
-use crate::{row, timed};
+use crate::{measured, row, timed, Times};
 use cases::commands::{Command, Lists, RUST_SHIFT};
 use cases::Rng;
 use oracle::{BumpAllocators, PathSegment, SegmentCount, Tile};
@@ -23,61 +23,58 @@ pub fn floats(rounds: usize) {
     for (name, number, std) in helpers {
         let (mut theirs, mut mine) = (vec![0; xs.len()], vec![0; xs.len()]);
         let std = black_box(std);
-        row(
-            name,
-            "call",
+        let times = measured(
             xs.len(),
             rounds,
             || timed(|| theirs.iter_mut().zip(&xs).for_each(|(o, &x)| *o = std(f32::from_bits(x)).to_bits())),
             || timed(|| ours::many(number, [&xs, &xs, &xs], &mut mine)),
         );
         assert_eq!(theirs, mine);
+        row(name, "call", &[xs.len()], &[times]);
     }
 }
 
 pub fn backdrop(rounds: usize) {
-    for n in [1, 10, 100] {
-        let paths: Vec<u32> = (0..n).flat_map(|k| [0, 0, 50, 40, 2_000 * k]).collect();
-        let before: Vec<i32> = (0..2_000 * n as i32).map(|k| k % 7 - 3).collect();
-        let records = oracle::paths_of(&paths);
-        let cleared: Vec<Tile> = before.iter().map(|&backdrop| Tile { backdrop, segment_count_or_ix: 0 }).collect();
-        let (mut tiles, mut mine) = (cleared.clone(), before.clone());
-        row(
-            &format!("backdrop, {n} paths of 50 by 40"),
-            "tile",
-            before.len(),
-            rounds,
-            || {
-                tiles.copy_from_slice(&cleared);
-                timed(|| oracle::raw::backdrop(&records, &mut tiles))
-            },
-            || {
-                mine.copy_from_slice(&before);
-                timed(|| assert_eq!(ours::backdrop(&paths, &mut mine, &mut 0), 0))
-            },
-        );
-        assert!(tiles.iter().map(|t| t.backdrop).eq(mine.iter().copied()));
-    }
+    let sizes = [1, 10, 100];
+    row("backdrop, paths of 50 by 40", "tile", &sizes, &sizes.map(|n| sums(n, rounds)));
+}
+
+fn sums(n: u32, rounds: usize) -> Times {
+    let paths: Vec<u32> = (0..n).flat_map(|k| [0, 0, 50, 40, 2_000 * k]).collect();
+    let before: Vec<i32> = (0..2_000 * n as i32).map(|k| k % 7 - 3).collect();
+    let records = oracle::paths_of(&paths);
+    let cleared: Vec<Tile> = before.iter().map(|&backdrop| Tile { backdrop, segment_count_or_ix: 0 }).collect();
+    let (mut tiles, mut mine) = (cleared.clone(), before.clone());
+    let times = measured(
+        before.len(),
+        rounds,
+        || {
+            tiles.copy_from_slice(&cleared);
+            timed(|| oracle::raw::backdrop(&records, &mut tiles))
+        },
+        || {
+            mine.copy_from_slice(&before);
+            timed(|| assert_eq!(ours::backdrop(&paths, &mut mine, &mut 0), 0))
+        },
+    );
+    assert!(tiles.iter().map(|t| t.backdrop).eq(mine.iter().copied()));
+    times
 }
 
 pub fn count(rounds: usize) {
     for (kind, name) in KINDS {
-        for n in LINES {
-            count_scene(name, kind, n, rounds);
-        }
+        row(&format!("count, lines {name}"), "line", &LINES, &LINES.map(|n| count_scene(kind, n, rounds)));
     }
 }
 
-fn count_scene(name: &str, kind: Kind, n: usize, rounds: usize) {
+fn count_scene(kind: Kind, n: usize, rounds: usize) -> Times {
     let scene = Scene::new(kind, n);
     let lines = oracle::lines_of(&scene.path_nos, &scene.coords);
     let paths = oracle::paths_of(&scene.paths);
     let mut tiles = vec![Tile::default(); scene.tiles];
     let mut records = vec![SegmentCount::default(); scene.room];
     let (mut backs, mut counts, mut refs) = (vec![0; scene.tiles], vec![0; scene.tiles], vec![0; 2 * scene.room]);
-    row(
-        &format!("count, {n} lines, {name}"),
-        "line",
+    let times = measured(
         n,
         rounds,
         || {
@@ -101,17 +98,16 @@ fn count_scene(name: &str, kind: Kind, n: usize, rounds: usize) {
     assert!(tiles.iter().map(|t| t.backdrop).eq(backs.iter().copied()));
     assert!(tiles.iter().map(|t| t.segment_count_or_ix).eq(counts.iter().copied()));
     assert!(records.iter().flat_map(|r| [r.line_ix, r.counts]).eq(refs.iter().copied()));
+    times
 }
 
 pub fn tile(rounds: usize) {
     for (kind, name) in KINDS {
-        for n in LINES {
-            tile_scene(name, kind, n, rounds);
-        }
+        row(&format!("tile, lines {name}"), "reference", &LINES, &LINES.map(|n| tile_scene(kind, n, rounds)));
     }
 }
 
-fn tile_scene(name: &str, kind: Kind, n: usize, rounds: usize) {
+fn tile_scene(kind: Kind, n: usize, rounds: usize) -> Times {
     let scene = Scene::new(kind, n);
     let counted = scene.counted();
     let lines = oracle::lines_of(&scene.path_nos, &scene.coords);
@@ -120,9 +116,7 @@ fn tile_scene(name: &str, kind: Kind, n: usize, rounds: usize) {
     let mut records = vec![PathSegment::default(); scene.room];
     let mut mine = vec![0.0f32; 5 * scene.room];
     let all = scene.room as u32;
-    row(
-        &format!("tile, {n} lines, {name}"),
-        "reference",
+    let times = measured(
         scene.room,
         rounds,
         || {
@@ -138,44 +132,48 @@ fn tile_scene(name: &str, kind: Kind, n: usize, rounds: usize) {
             })
         },
     );
-    let theirs = records.iter().flat_map(|r| [r.point0[0], r.point0[1], r.point1[0], r.point1[1], r.y_edge]);
-    assert!(theirs.map(f32::to_bits).eq(mine.iter().map(|v| v.to_bits())));
+    assert!(same_segments(&records, &mine));
+    times
+}
+
+fn same_segments(theirs: &[PathSegment], mine: &[f32]) -> bool {
+    let theirs = theirs.iter().flat_map(|r| [r.point0[0], r.point0[1], r.point1[0], r.point1[1], r.y_edge]);
+    theirs.map(f32::to_bits).eq(mine.iter().map(|v| v.to_bits()))
 }
 
 pub fn fill(rounds: usize) {
-    for n in [1usize, 10, 100] {
-        for even_odd in [0, 1] {
-            let list = segments(&mut Rng::new(n as u64), n);
-            let records = oracle::segments_of(&list);
-            let (mut theirs, mut mine) = ([0.0f32; 256], [0.0f32; 256]);
-            let again = 2_000 / n + 1;
-            row(
-                &format!("fill, {n} segments, {}", if even_odd == 1 { "even-odd" } else { "non-zero" }),
-                "fill",
-                again,
-                rounds,
-                || {
-                    timed(|| {
-                        (0..again).for_each(|_| oracle::raw::fill(black_box(&mut theirs), &records, [(n as u32) << 1 | even_odd, 0, 1], 0.0, 0.0))
-                    })
-                },
-                || timed(|| (0..again).for_each(|_| assert_eq!(ours::fill(&list, 0, n as u32, even_odd, 1, 0.0, 0.0, black_box(&mut mine)), 0))),
-            );
-            assert_eq!(theirs.map(f32::to_bits), mine.map(f32::to_bits));
-        }
+    let sizes = [1, 10, 100];
+    for (even_odd, rule) in [(0, "non-zero"), (1, "even-odd")] {
+        row(&format!("fill, segments, {rule}"), "fill", &sizes, &sizes.map(|n| one_fill(n, even_odd, rounds)));
     }
+}
+
+fn one_fill(n: usize, even_odd: u32, rounds: usize) -> Times {
+    let list = segments(&mut Rng::new(n as u64), n);
+    let records = oracle::segments_of(&list);
+    let (mut theirs, mut mine) = ([0.0f32; 256], [0.0f32; 256]);
+    let again = 2_000 / n + 1;
+    let words = [(n as u32) << 1 | even_odd, 0, 1];
+    let times = measured(
+        again,
+        rounds,
+        || timed(|| (0..again).for_each(|_| oracle::raw::fill(black_box(&mut theirs), &records, words, 0.0, 0.0))),
+        || timed(|| (0..again).for_each(|_| assert_eq!(ours::fill(&list, 0, n as u32, even_odd, 1, 0.0, 0.0, black_box(&mut mine)), 0))),
+    );
+    assert_eq!(theirs.map(f32::to_bits), mine.map(f32::to_bits));
+    times
 }
 
 /// Segments of each FILL, and a tile's commands: FILL, COLOR, SOLID, COLOR, FILL, COLOR.
 const FILLS: [u32; 2] = [4, 10];
 
 pub fn fine(rounds: usize) {
-    for (cols, rows) in [(10u32, 8u32), (50, 40), (100, 80)] {
-        fine_screen(cols, rows, rounds);
-    }
+    let sizes = [(10, 8), (50, 40), (100, 80)];
+    let names = sizes.map(|(cols, rows)| format!("{cols} by {rows}"));
+    row("fine, a screen of tiles", "tile", &names, &sizes.map(|(cols, rows)| fine_screen(cols, rows, rounds)));
 }
 
-fn fine_screen(cols: u32, rows: u32, rounds: usize) {
+fn fine_screen(cols: u32, rows: u32, rounds: usize) -> Times {
     let tiles = cols * rows;
     let mut rng = Rng::new(tiles as u64);
     let mut lists = Lists::new(64 * tiles as usize, 0);
@@ -204,9 +202,7 @@ fn fine_screen(cols: u32, rows: u32, rounds: usize) {
     let (width, pixels) = (16 * cols, (256 * tiles) as usize);
     let mut mine = vec![0; pixels];
     let mut screen = vec![0; pixels];
-    row(
-        &format!("fine, screen of {cols} by {rows} tiles"),
-        "tile",
+    measured(
         tiles as usize,
         rounds,
         || {
@@ -218,5 +214,63 @@ fn fine_screen(cols: u32, rows: u32, rounds: usize) {
             mine.fill(0);
             timed(|| assert_eq!(ours::fine(&lists.ours, &list, width, cols, rows, 0, tiles, &mut mine, &mut 0), 0))
         },
+    )
+}
+
+/// The whole frame beside the Rust's stages one after another, with the plain hand-out that the Rust leaves to others.
+pub fn frame(rounds: usize) {
+    for (kind, name) in KINDS {
+        row(&format!("frame, lines {name}"), "line", &LINES, &LINES.map(|n| frame_scene(kind, n, rounds)));
+    }
+}
+
+fn frame_scene(kind: Kind, n: usize, rounds: usize) -> Times {
+    let scene = Scene::new(kind, n);
+    let lines = oracle::lines_of(&scene.path_nos, &scene.coords);
+    let paths = oracle::paths_of(&scene.paths);
+    let mut tiles = vec![Tile::default(); scene.tiles];
+    let mut counts = vec![0; scene.tiles];
+    let mut refs = vec![SegmentCount::default(); scene.room];
+    let mut records = vec![PathSegment::default(); scene.room];
+    let (mut backs, mut stored, mut tally) = (vec![0; scene.tiles], vec![0; scene.tiles], vec![0; scene.tiles]);
+    let (mut mine_refs, mut mine) = (vec![0; 2 * scene.room], vec![0.0f32; 5 * scene.room]);
+    let times = measured(
+        n,
+        rounds,
+        || {
+            refs.fill(SegmentCount::default());
+            records.fill(PathSegment::default());
+            timed(|| {
+                tiles.fill(Tile::default());
+                let mut bump = BumpAllocators { lines: n as u32, seg_counts: 0 };
+                oracle::raw::count(&mut bump, &lines, &paths, &mut tiles, &mut refs);
+                oracle::raw::backdrop(&paths, &mut tiles);
+                hand_out(&mut tiles, &mut counts);
+                oracle::raw::tile(&mut bump, &refs, &lines, &paths, &tiles, &mut records);
+            })
+        },
+        || {
+            mine_refs.fill(0);
+            mine.fill(0.0);
+            let s = &scene;
+            let mut told = [0; 4];
+            timed(|| {
+                let no = ours::frame(&s.path_nos, &s.coords, &s.paths, &mut backs, &mut stored, &mut tally, &mut mine_refs, &mut mine, &mut told);
+                assert_eq!(no, 0);
+            })
+        },
     );
+    assert!(tiles.iter().map(|t| (t.backdrop, t.segment_count_or_ix)).eq(backs.iter().copied().zip(stored.iter().copied())));
+    assert!(counts == tally && same_segments(&records, &mine));
+    times
+}
+
+#[inline(never)]
+fn hand_out(tiles: &mut [Tile], counts: &mut [u32]) {
+    let mut next = 0;
+    for (tile, kept) in tiles.iter_mut().zip(counts) {
+        *kept = tile.segment_count_or_ix;
+        tile.segment_count_or_ix = if *kept > 0 { !next } else { 0 };
+        next += *kept;
+    }
 }

@@ -3,7 +3,7 @@
 use crate::stage::{same, same_words};
 use cases::memory::{one_nan, Lent};
 
-pub const NAMES: [&str; 7] = ["", "count", "backdrop", "hand_out", "tile", "fill", "fine"];
+pub const NAMES: [&str; 9] = ["", "count", "backdrop", "hand_out", "tile", "fill", "fine", "frame", "write_lists"];
 
 #[derive(Clone, Debug)]
 pub struct Call {
@@ -12,7 +12,7 @@ pub struct Call {
     pub slices: Vec<Vec<u32>>,
 }
 
-/// The refusal number, the item, the running numbers if any; and every slice afterwards.
+/// The refusal number, the item, the running numbers if any, a frame's stage; and every slice afterwards.
 pub struct Outcome {
     pub answer: Vec<u32>,
     pub slices: Vec<Lent>,
@@ -26,18 +26,20 @@ pub fn changed(kind: u32) -> &'static [usize] {
         3 => &[0, 1],
         4 => &[5],
         5 => &[1],
-        _ => &[2],
+        6 => &[2],
+        7 => &[3, 4, 5, 6, 7],
+        _ => &[5],
     }
 }
 
 /// How many slices and numbers a call of this kind takes.
 pub fn shape(kind: u32) -> (usize, usize) {
-    [(0, 0), (6, 3), (2, 0), (2, 1), (6, 2), (2, 6), (3, 5)][kind as usize]
+    [(0, 0), (6, 3), (2, 0), (2, 1), (6, 2), (2, 6), (3, 5), (8, 0), (6, 3)][kind as usize]
 }
 
 pub fn linked(kind: u32) -> bool {
     use ours::has::*;
-    [false, COUNT, BACKDROP, HAND_OUT, TILE, FILL, FINE][kind as usize]
+    [false, COUNT, BACKDROP, HAND_OUT, TILE, FILL, FINE, FRAME, LISTS][kind as usize]
 }
 
 macro_rules! answered_by {
@@ -74,6 +76,36 @@ macro_rules! answered_by {
                 }
                 (6, [w, s, px]) => {
                     vec![$side::fine(w.u32s(), s.f32s(), n[0], n[1], n[2], n[3], n[4], px.u32s_mut(), &mut item), item]
+                }
+                (7, [p, c, b, back, t, tally, r, s]) => {
+                    let mut told = [item; 4];
+                    let no = $side::frame(
+                        p.u32s(),
+                        c.f32s(),
+                        b.u32s(),
+                        back.i32s_mut(),
+                        t.u32s_mut(),
+                        tally.u32s_mut(),
+                        r.u32s_mut(),
+                        s.f32s_mut(),
+                        &mut told,
+                    );
+                    vec![no, told[1], told[2], told[3], told[0]]
+                }
+                (8, [b, paints, back, stored, tally, w]) => {
+                    let no = $side::write_lists(
+                        b.u32s(),
+                        paints.u32s(),
+                        back.i32s(),
+                        stored.u32s(),
+                        tally.u32s(),
+                        n[0],
+                        n[1],
+                        n[2],
+                        w.u32s_mut(),
+                        &mut item,
+                    );
+                    vec![no, item]
                 }
                 _ => panic!("no call of kind {}", call.kind),
             };

@@ -67,6 +67,21 @@ fn held_before(rng: &mut Rng, case: &mut Case) {
     }
 }
 
+/// A path number that names no path, or any bits for a coordinate.
+pub fn spoil_line(rng: &mut Rng, path_nos: &mut [u32], coords: &mut [u32], paths: &[u32]) {
+    if rng.coin() {
+        let n = path_nos.len().max(1) as u64;
+        if let Some(p) = path_nos.get_mut(rng.below(n) as usize) {
+            *p = rng.pick(&[(paths.len() / 5) as u32, u32::MAX, 4_096, 1 << 31]);
+        }
+    } else {
+        let n = coords.len().max(1) as u64;
+        if let Some(c) = coords.get_mut(rng.below(n) as usize) {
+            *c = floats::any_bits(rng);
+        }
+    }
+}
+
 /// Lengths, ranges and words that a caller may get wrong.
 fn spoil(rng: &mut Rng, case: &mut Case) {
     match rng.below(14) {
@@ -78,18 +93,7 @@ fn spoil(rng: &mut Rng, case: &mut Case) {
         5 => _ = case.refs.pop(),
         6 => case.ends.push(case.path_nos.len() as u32 + 1),
         7 => case.lines = rng.pick(&[1, 5, u32::MAX, case.path_nos.len() as u32 + 1]),
-        8 => {
-            let n = case.path_nos.len().max(1) as u64;
-            if let Some(p) = case.path_nos.get_mut(rng.below(n) as usize) {
-                *p = rng.pick(&[(case.paths.len() / 5) as u32, u32::MAX, 4_096, 1 << 31]);
-            }
-        }
-        9 => {
-            let n = case.coords.len().max(1) as u64;
-            if let Some(c) = case.coords.get_mut(rng.below(n) as usize) {
-                *c = floats::any_bits(rng);
-            }
-        }
+        8 | 9 => spoil_line(rng, &mut case.path_nos, &mut case.coords, &case.paths),
         _ => boxes::spoil(rng, &mut case.paths, case.counts.len()),
     }
 }

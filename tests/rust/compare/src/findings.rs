@@ -395,6 +395,12 @@ fn steep(rng: &mut Rng, height: i64, slopes: (f32, f32)) -> Input {
     Input { b, line: [x0, y0, x0 + run, y1] }
 }
 
+/// The same line in a box a tile larger on every side, so that it crosses no edge.
+fn roomy(input: Input) -> Input {
+    let [x0, y0, x1, y1] = input.b;
+    Input { b: [(x0 - 1).max(0), (y0 - 1).max(0), x1 + 1, y1 + 1], ..input }
+}
+
 /// A side of a closed outline of a few corners, drawn around its own box as a flattened path is.
 fn outline(rng: &mut Rng) -> Input {
     let size = rng.pick(&[20.0, 60.0, 200.0, 800.0]);
@@ -503,6 +509,8 @@ pub fn run(n: u64, seed: u64, threads: u64) -> bool {
     share("flat, slopes 1e-4 to 1e-3, 256 wide", m, seed, |r| flat(r, 256, (-4.0, -3.0)));
     share("steep, slopes 1e-8 to 1e-7, box 64 high, across its side", m, seed, |r| steep(r, 64, (-8.0, -7.0)));
     share("steep, slopes 1e-7 to 1e-6, 64 high", m, seed, |r| steep(r, 64, (-7.0, -6.0)));
+    share("the flattest, 256 wide, in a box a tile larger on every side", m, seed, |r| roomy(flat(r, 256, (-6.0, -5.0))));
+    share("the steepest, 64 high, in a box a tile larger on every side", m, seed, |r| roomy(steep(r, 64, (-8.0, -7.0))));
     share("sides of outlines", n.max(1_000_000), seed, outline);
     let wrong = [3, 4, 5, 8, 9, 11];
     wrong.iter().all(|&k| all.found[k].number == 0)

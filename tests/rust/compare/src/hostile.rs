@@ -15,7 +15,7 @@ pub struct Hostile {
 
 impl Hostile {
     pub fn new(all: bool) -> Hostile {
-        Hostile { kinds: (1..=6).filter(|&k| all || linked(k)).collect() }
+        Hostile { kinds: (1..NAMES.len() as u32).filter(|&k| all || linked(k)).collect() }
     }
 }
 
@@ -55,6 +55,19 @@ fn good(rng: &mut Rng, kind: u32) -> Call {
         5 => {
             let numbers = vec![0, n as u32, rng.below(3) as u32, rng.range(-2, 2) as u32, 0, 0];
             (numbers, vec![list, words(rng, 256)])
+        }
+        7 => {
+            let (refs, room) = (2 * rng.below(60) as usize, 5 * rng.below(60) as usize);
+            let tables = [words(rng, tiles), words(rng, tiles), words(rng, tiles), words(rng, refs), words(rng, room)];
+            (vec![], [path_nos, coords, paths].into_iter().chain(tables).collect())
+        }
+        8 => {
+            let (cols, rows) = (rng.below(4) as u32, rng.below(4) as u32);
+            let stored = (0..tiles).map(|_| if rng.one_in(4) { 0 } else { !(rng.below(9) as u32) }).collect();
+            let room = rng.pick(&[12, 12, 12, 9, u32::MAX]);
+            let regions = 64 * (cols * rows) as usize;
+            let slices = vec![paths, words(rng, 2 * n_paths), words(rng, tiles), stored, words(rng, tiles), words(rng, regions)];
+            (vec![cols, rows, room], slices)
         }
         _ => {
             let (cols, rows) = (rng.below(3) as u32, rng.below(2) as u32);
@@ -122,7 +135,7 @@ impl Stage for Hostile {
 
     fn check(&self, call: &Call, sides: Sides, table: &mut Table) -> Result<(), String> {
         let wanted = by_rules(call);
-        table.add(&format!("{:<9} answer {:2}", NAMES[call.kind as usize], wanted.answer[0]), 1);
+        table.add(&format!("{:<11} answer {:2}", NAMES[call.kind as usize], wanted.answer[0]), 1);
         if sides.ours {
             same_outcome(call, &by_ours(call), &wanted)?;
         }

@@ -40,6 +40,15 @@ fn calls(long: bool) -> Vec<(&'static str, Call, u32)> {
         let counts = vec![sum as u32 - 1, 0, 1];
         out.push(("slots", Call { kind: 3, numbers: vec![u32::MAX], slices: vec![counts, vec![0; 3]] }, number));
     }
+    // a line too many in a frame: all are of no length, so the walk skips them
+    for (n, number) in [(65_536, 0), (65_537, 5)] {
+        let slices = vec![vec![0; n], vec![0; 4 * n], vec![0, 0, 2, 2, 0], vec![1; 4], vec![1; 4], vec![1; 4], vec![7; 4], vec![9; 5]];
+        out.push(("lines", Call { kind: 7, numbers: vec![], slices }, number));
+    }
+    for (cols, rows, number) in [(1_024, 1_024, 9), (1_024, 1_025, 2)] {
+        let slices = vec![vec![0, 0, 1, 1, 0], vec![0; 2], vec![0], vec![0], vec![0], vec![7; 64]];
+        out.push(("screen tiles", Call { kind: 8, numbers: vec![cols, rows, 0], slices }, number));
+    }
     if long {
         for (made, number) in [(ROOM as u32 - 1, 0), (ROOM as u32, 9)] {
             let (path_nos, coords, paths) = one();

@@ -2,7 +2,7 @@
 //!
 //!     cargo run --profile checked -p compare -- [MODE] [--stage NAME] [--seconds N] [--cases N] [--seed N] [--threads N] [--by-hand]
 //!
-//! Modes: `all` (the default: the archive beside the rules and the unchanged Rust, about 100 seconds in all),
+//! Modes: `all` (the default: the archive beside the rules and the unchanged Rust, about two minutes in all),
 //! `rules-vs-oracle` (no archive needed: build with --no-default-features), `findings` (what was found in the Rust,
 //! with the smallest inputs), `lists` (the gate's lists replayed),
 //! `limits` (those that need long slices, some hundreds of megabytes), `all-floats` (every bit pattern of the
@@ -16,6 +16,7 @@ mod fill;
 mod findings;
 mod fine;
 mod floats;
+mod frame;
 mod hand_out;
 mod hostile;
 mod limits;
@@ -24,6 +25,7 @@ mod order;
 mod stage;
 mod table;
 mod tiling;
+mod write_lists;
 
 use stage::{Budget, Sides, Stage};
 use std::time::Duration;
@@ -97,6 +99,8 @@ fn stages(args: &Args) -> bool {
     well &= run(&tiling::Tile, args, ours::has::TILE, 18.0);
     well &= run(&fill::Fill, args, ours::has::FILL, 6.0);
     well &= run(&fine::Fine, args, ours::has::FINE, 12.0);
+    well &= run(&frame::Frame, args, ours::has::FRAME, 12.0);
+    well &= run(&write_lists::WriteLists, args, ours::has::LISTS, 12.0);
     if ours::has::COUNT && ours::has::BACKDROP && args.mode != "rules-vs-oracle" && args.only.as_deref().is_none_or(|o| o == "order") {
         well &= order::run(args.seconds.unwrap_or(3.0 * args.longer), args.seed);
     }

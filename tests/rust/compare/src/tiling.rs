@@ -1,10 +1,10 @@
 //! Tiling: references that counting made, and invented ones; beside the rules and the unchanged Rust.
 
-use crate::count::some_lines;
+use crate::count::{some_lines, spoil_line};
 use crate::stage::{hex, same, same_words, Sides, Stage};
 use crate::table::Table;
 use cases::memory::{as_f32, Lent};
-use cases::{boxes, floats, Rng};
+use cases::{boxes, Rng};
 
 #[derive(Clone, Debug)]
 pub struct Case {
@@ -86,18 +86,7 @@ fn spoil(rng: &mut Rng, case: &mut Case) {
         4 => _ = case.segments.pop(),
         5 => case.ranges.push((case.refs.len() as u32 / 2, case.refs.len() as u32 / 2 + 1)),
         6 => case.ranges.push((2, 1)),
-        7 => {
-            let n = case.path_nos.len().max(1) as u64;
-            if let Some(p) = case.path_nos.get_mut(rng.below(n) as usize) {
-                *p = rng.pick(&[(case.paths.len() / 5) as u32, u32::MAX, 1 << 31]);
-            }
-        }
-        8 | 9 => {
-            let n = case.coords.len().max(1) as u64;
-            if let Some(c) = case.coords.get_mut(rng.below(n) as usize) {
-                *c = floats::any_bits(rng);
-            }
-        }
+        7..=9 => spoil_line(rng, &mut case.path_nos, &mut case.coords, &case.paths),
         _ => boxes::spoil(rng, &mut case.paths, case.indices.len()),
     }
 }

@@ -1,5 +1,5 @@
-//! The calls through `server.c` under the kit's emulator, a server for each thread.
-#![allow(dead_code)] // some stages lend no floats
+//! The archive's calls through `server.c` under the kit's emulator, a server for each thread: the same symbols, so that
+//! the crate groatpocket stands on them as it does on the archive.
 
 use std::cell::RefCell;
 use std::io::{Read, Write};
@@ -34,7 +34,7 @@ impl Drop for Server {
 thread_local!(static SERVER: RefCell<Option<Server>> = const { RefCell::new(None) });
 
 /// A slice lent for a call.
-pub enum Lent<'a> {
+enum Lent<'a> {
     Read(&'a [u32]),
     Changed(&'a mut [u32]),
 }
@@ -48,17 +48,17 @@ impl Lent<'_> {
     }
 }
 
-/// Any 32-bit numbers as words.
-pub fn words<T: Copy>(slice: &[T]) -> &[u32] {
+/// A slice lent to be read, as words.
+///
+/// SAFETY of both: u32, i32 and f32 alone come here, with a slice's pointer and length.
+unsafe fn read_only<'a, T>(at: *const T, len: usize) -> Lent<'a> {
     assert_eq!(size_of::<T>(), 4);
-    // SAFETY: u32, i32 and f32 alone come here: same size and alignment.
-    unsafe { std::slice::from_raw_parts(slice.as_ptr().cast(), slice.len()) }
+    Lent::Read(std::slice::from_raw_parts(at.cast(), len))
 }
 
-pub fn words_mut<T: Copy>(slice: &mut [T]) -> &mut [u32] {
+unsafe fn changed<'a, T>(at: *mut T, len: usize) -> Lent<'a> {
     assert_eq!(size_of::<T>(), 4);
-    // SAFETY: u32, i32 and f32 alone come here: same size and alignment, every pattern a value.
-    unsafe { std::slice::from_raw_parts_mut(slice.as_mut_ptr().cast(), slice.len()) }
+    Lent::Changed(std::slice::from_raw_parts_mut(at.cast(), len))
 }
 
 fn push(out: &mut Vec<u8>, words: &[u32]) {
@@ -67,14 +67,14 @@ fn push(out: &mut Vec<u8>, words: &[u32]) {
     }
 }
 
-fn read(from: &mut impl Read, n: usize) -> Vec<u32> {
+fn received(from: &mut impl Read, n: usize) -> Vec<u32> {
     let mut bytes = vec![0; 4 * n];
     from.read_exact(&mut bytes).expect("the server answers: a call must end and not fault");
     bytes.chunks_exact(4).map(|b| u32::from_le_bytes(b.try_into().unwrap())).collect()
 }
 
 /// Sends a call and takes its answer; a guard word changed, or a slice lent to be read, ends the run.
-pub fn call(which: u32, numbers: &mut [u32], mut slices: Vec<Lent>) -> u32 {
+fn call(which: u32, numbers: &mut [u32], mut slices: Vec<Lent>) -> u32 {
     SERVER.with(|cell| {
         // put back only after a good answer: one that faulted is replaced
         let mut server = cell.take().unwrap_or_else(Server::start);
@@ -84,11 +84,11 @@ pub fn call(which: u32, numbers: &mut [u32], mut slices: Vec<Lent>) -> u32 {
         slices.iter().for_each(|s| push(&mut out, &[s.words().len() as u32]));
         slices.iter().for_each(|s| push(&mut out, s.words()));
         server.to.write_all(&out).expect("the server reads");
-        let answer = read(&mut server.from, 2);
+        let answer = received(&mut server.from, 2);
         assert_eq!(answer[1], 1, "guard words around the slices of call {which} were changed");
-        numbers.copy_from_slice(&read(&mut server.from, numbers.len()));
+        numbers.copy_from_slice(&received(&mut server.from, numbers.len()));
         let all = slices.iter().map(|s| s.words().len()).sum();
-        let back = read(&mut server.from, all);
+        let back = received(&mut server.from, all);
         let mut at = 0;
         for slice in &mut slices {
             let n = slice.words().len();
@@ -101,4 +101,97 @@ pub fn call(which: u32, numbers: &mut [u32], mut slices: Vec<Lent>) -> u32 {
         cell.replace(Some(server));
         answer[0]
     })
+}
+
+#[cfg(feature = "floats")]
+pub fn many(helper: u32, xs: [&[u32]; 3], out: &mut [u32]) {
+    call(0, &mut [helper], vec![Lent::Read(xs[0]), Lent::Read(xs[1]), Lent::Read(xs[2]), Lent::Changed(out)]);
+}
+
+/// The exported functions, each by its number in `server.c`.
+#[rustfmt::skip]
+mod exported {
+    use super::{call, changed as w, read_only as r};
+
+    #[no_mangle]
+    unsafe extern "C" fn gp_count(
+        nos: *const u32, nos_n: usize, coords: *const f32, coords_n: usize, paths: *const u32, paths_n: usize, backs: *mut i32, backs_n: usize,
+        counts: *mut u32, counts_n: usize, refs: *mut u32, refs_n: usize, end: u32, lines: &mut u32, made: &mut u32, item: &mut u32,
+    ) -> u32 {
+        let mut n = [end, *lines, *made, *item];
+        let slices = vec![r(nos, nos_n), r(coords, coords_n), r(paths, paths_n), w(backs, backs_n), w(counts, counts_n), w(refs, refs_n)];
+        let answer = call(1, &mut n, slices);
+        [_, *lines, *made, *item] = n;
+        answer
+    }
+
+    #[no_mangle]
+    unsafe extern "C" fn gp_backdrop(paths: *const u32, paths_n: usize, backs: *mut i32, backs_n: usize, item: &mut u32) -> u32 {
+        call(2, std::slice::from_mut(item), vec![r(paths, paths_n), w(backs, backs_n)])
+    }
+
+    #[no_mangle]
+    unsafe extern "C" fn gp_hand_out(counts: *mut u32, counts_n: usize, tally: *mut u32, tally_n: usize, room: u32) -> u32 {
+        call(3, &mut [room], vec![w(counts, counts_n), w(tally, tally_n)])
+    }
+
+    #[no_mangle]
+    unsafe extern "C" fn gp_tile(
+        nos: *const u32, nos_n: usize, coords: *const f32, coords_n: usize, paths: *const u32, paths_n: usize, stored: *const u32, stored_n: usize,
+        refs: *const u32, refs_n: usize, from: u32, to: u32, segments: *mut f32, segments_n: usize, item: &mut u32,
+    ) -> u32 {
+        let mut n = [from, to, *item];
+        let slices = vec![r(nos, nos_n), r(coords, coords_n), r(paths, paths_n), r(stored, stored_n), r(refs, refs_n), w(segments, segments_n)];
+        let answer = call(4, &mut n, slices);
+        [_, _, *item] = n;
+        answer
+    }
+
+    #[no_mangle]
+    unsafe extern "C" fn gp_fill(
+        segments: *const f32, segments_n: usize, first: u32, number: u32, even_odd: u32, backdrop: i32, x_tile: f32, y_tile: f32,
+        area: *mut f32, area_n: usize,
+    ) -> u32 {
+        let mut n = [first, number, even_odd, backdrop as u32, x_tile.to_bits(), y_tile.to_bits()];
+        call(5, &mut n, vec![r(segments, segments_n), w(area, area_n)])
+    }
+
+    #[no_mangle]
+    unsafe extern "C" fn gp_fine(
+        words: *const u32, words_n: usize, segments: *const f32, segments_n: usize, width: u32, cols: u32, rows: u32, from: u32, to: u32,
+        pixels: *mut u32, pixels_n: usize, item: &mut u32,
+    ) -> u32 {
+        let mut n = [width, cols, rows, from, to, *item];
+        let answer = call(6, &mut n, vec![r(words, words_n), r(segments, segments_n), w(pixels, pixels_n)]);
+        *item = n[5];
+        answer
+    }
+
+    #[no_mangle]
+    unsafe extern "C" fn gp_frame(
+        nos: *const u32, nos_n: usize, coords: *const f32, coords_n: usize, paths: *const u32, paths_n: usize, backs: *mut i32, backs_n: usize,
+        tiles: *mut u32, tiles_n: usize, tally: *mut u32, tally_n: usize, refs: *mut u32, refs_n: usize, segments: *mut f32, segments_n: usize,
+        stage: &mut u32, item: &mut u32, lines: &mut u32, made: &mut u32,
+    ) -> u32 {
+        let mut n = [*stage, *item, *lines, *made];
+        let slices = vec![
+            r(nos, nos_n), r(coords, coords_n), r(paths, paths_n), w(backs, backs_n), w(tiles, tiles_n), w(tally, tally_n), w(refs, refs_n),
+            w(segments, segments_n),
+        ];
+        let answer = call(7, &mut n, slices);
+        [*stage, *item, *lines, *made] = n;
+        answer
+    }
+
+    #[no_mangle]
+    unsafe extern "C" fn gp_write_lists(
+        paths: *const u32, paths_n: usize, paints: *const u32, paints_n: usize, backs: *const i32, backs_n: usize, stored: *const u32, stored_n: usize,
+        tally: *const u32, tally_n: usize, cols: u32, rows: u32, room: u32, words: *mut u32, words_n: usize, item: &mut u32,
+    ) -> u32 {
+        let mut n = [cols, rows, room, *item];
+        let slices = vec![r(paths, paths_n), r(paints, paints_n), r(backs, backs_n), r(stored, stored_n), r(tally, tally_n), w(words, words_n)];
+        let answer = call(8, &mut n, slices);
+        *item = n[3];
+        answer
+    }
 }

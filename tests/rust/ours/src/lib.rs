@@ -1,13 +1,12 @@
-//! The exported calls of the static library, behind safe ones over slices.
+//! The calls of the crate `groatpocket` with the rules' parameters and their numbers for answers, as `rules` has them.
 //!
-//! A slice crosses as a pointer and a length; the answer is the refusal number; the item and the running numbers
-//! come back through pointers. A call whose feature is off panics: ask `has` first. Where the archive is for another
-//! processor the calls go through an emulator, and times say nothing (`BRIDGED`).
+//! A call whose feature is off panics: ask `has` first. Where the archive is for another processor `bridge` stands in for
+//! it and the calls go through an emulator; times say nothing then (`BRIDGED`).
 
 #[cfg(bridge)]
 mod bridge;
-#[cfg(not(bridge))]
-mod linked;
+#[cfg(all(feature = "floats", not(bridge)))]
+mod floats;
 
 /// Whether the calls run under an emulator.
 pub const BRIDGED: bool = cfg!(bridge);
@@ -21,214 +20,139 @@ pub mod has {
     pub const TILE: bool = cfg!(feature = "tile");
     pub const FILL: bool = cfg!(feature = "fill");
     pub const FINE: bool = cfg!(feature = "fine");
+    pub const FRAME: bool = cfg!(feature = "frame");
+    pub const LISTS: bool = cfg!(feature = "lists");
 }
 
-/// One of two bodies, by how the calls are reached; neither where the stage's feature is off.
+/// The body, or a panic where the stage's feature is off.
 macro_rules! stage {
-    ($feature:literal, $bridged:expr, $linked:expr, $($unused:ident),*) => {{
-        #[cfg(all(bridge, feature = $feature))]
-        {
-            #[allow(unused_imports)]
-            use bridge::{call, words, words_mut, Lent::*};
-            $bridged
-        }
-        #[cfg(all(not(bridge), feature = $feature))]
-        // SAFETY: every pointer and length is a slice's, lent for the call alone.
-        #[allow(unused_unsafe)]
-        unsafe { use linked::*; $linked }
+    ($feature:literal, $body:expr, $($unused:ident),*) => {{
+        #[cfg(feature = $feature)]
+        { $body }
         #[cfg(not(feature = $feature))]
         { let _ = ($($unused,)*); panic!("not linked") }
     }};
 }
 
+/// The refusal's number, its item in `item`; 0 and 0 where the call is done.
+#[cfg(any(feature = "backdrop", feature = "tile", feature = "fine", feature = "lists"))]
+fn told(answer: Result<(), groatpocket::Refused>, item: &mut u32) -> u32 {
+    *item = answer.err().map_or(0, |r| r.item);
+    number(answer)
+}
+
+#[cfg(any(feature = "backdrop", feature = "tile", feature = "fine", feature = "lists", feature = "hand_out", feature = "fill"))]
+fn number(answer: Result<(), groatpocket::Refused>) -> u32 {
+    answer.err().map_or(0, |r| r.refusal.number())
+}
+
 /// A float helper over many operands; the numbers are those of the list of floats (01 floor .. 20 clamp).
 pub fn many(helper: u32, xs: [&[u32]; 3], out: &mut [u32]) {
-    stage!(
-        "floats",
-        {
-            let slices = vec![Read(xs[0]), Read(xs[1]), Read(xs[2]), Changed(out)];
-            call(0, &mut [helper], slices);
-        },
-        many(helper, xs, out),
-        helper,
-        xs,
-        out
-    )
+    #[cfg(bridge)]
+    use bridge as floats;
+    stage!("floats", floats::many(helper, xs, out), helper, xs, out)
 }
 
 pub fn backdrop(paths: &[u32], backdrops: &mut [i32], item: &mut u32) -> u32 {
-    stage!(
-        "backdrop",
-        call(2, std::slice::from_mut(item), vec![Read(paths), Changed(words_mut(backdrops))]),
-        gp_backdrop(paths.as_ptr(), paths.len(), backdrops.as_mut_ptr(), backdrops.len(), item),
-        paths,
-        backdrops,
-        item
-    )
+    stage!("backdrop", told(groatpocket::backdrop(paths, backdrops), item), paths, backdrops, item)
 }
 
 pub fn hand_out(counts: &mut [u32], tally: &mut [u32], room: u32) -> u32 {
-    stage!(
-        "hand_out",
-        call(3, &mut [room], vec![Changed(counts), Changed(tally)]),
-        gp_hand_out(counts.as_mut_ptr(), counts.len(), tally.as_mut_ptr(), tally.len(), room),
-        counts,
-        tally,
-        room
-    )
+    stage!("hand_out", number(groatpocket::hand_out(counts, tally, room)), counts, tally, room)
 }
 
+#[rustfmt::skip]
 pub fn count(
-    path_nos: &[u32],
-    coords: &[f32],
-    paths: &[u32],
-    backdrops: &mut [i32],
-    counts: &mut [u32],
-    refs: &mut [u32],
-    end: u32,
-    lines: &mut u32,
-    made: &mut u32,
-    item: &mut u32,
+    path_nos: &[u32], coords: &[f32], paths: &[u32], backdrops: &mut [i32], counts: &mut [u32], refs: &mut [u32],
+    end: u32, lines: &mut u32, made: &mut u32, item: &mut u32,
 ) -> u32 {
     stage!(
         "count",
         {
-            let mut numbers = [end, *lines, *made, *item];
-            let slices = vec![Read(path_nos), Read(words(coords)), Read(paths), Changed(words_mut(backdrops)), Changed(counts), Changed(refs)];
-            let answer = call(1, &mut numbers, slices);
-            (*lines, *made, *item) = (numbers[1], numbers[2], numbers[3]);
-            answer
+            let running = groatpocket::Running { lines: *lines, references: *made };
+            let answer = groatpocket::count(running, end, path_nos, coords, paths, backdrops, counts, refs);
+            let (number, of, running) = match answer {
+                Ok(running) => (0, 0, running),
+                Err(stopped) => (stopped.refused.refusal.number(), stopped.refused.item, stopped.running),
+            };
+            (*lines, *made, *item) = (running.lines, running.references, of);
+            number
         },
-        gp_count(
-            path_nos.as_ptr(),
-            path_nos.len(),
-            coords.as_ptr(),
-            coords.len(),
-            paths.as_ptr(),
-            paths.len(),
-            backdrops.as_mut_ptr(),
-            backdrops.len(),
-            counts.as_mut_ptr(),
-            counts.len(),
-            refs.as_mut_ptr(),
-            refs.len(),
-            end,
-            lines,
-            made,
-            item
-        ),
-        path_nos,
-        coords,
-        paths,
-        backdrops,
-        counts,
-        refs,
-        end,
-        lines,
-        made,
-        item
+        path_nos, coords, paths, backdrops, counts, refs, end, lines, made, item
     )
 }
 
+#[rustfmt::skip]
 pub fn tile(
-    path_nos: &[u32],
-    coords: &[f32],
-    paths: &[u32],
-    indices: &[u32],
-    refs: &[u32],
-    from: u32,
-    to: u32,
-    segments: &mut [f32],
-    item: &mut u32,
+    path_nos: &[u32], coords: &[f32], paths: &[u32], indices: &[u32], refs: &[u32], from: u32, to: u32,
+    segments: &mut [f32], item: &mut u32,
 ) -> u32 {
     stage!(
         "tile",
-        {
-            let mut numbers = [from, to, *item];
-            let slices = vec![Read(path_nos), Read(words(coords)), Read(paths), Read(indices), Read(refs), Changed(words_mut(segments))];
-            let answer = call(4, &mut numbers, slices);
-            *item = numbers[2];
-            answer
-        },
-        gp_tile(
-            path_nos.as_ptr(),
-            path_nos.len(),
-            coords.as_ptr(),
-            coords.len(),
-            paths.as_ptr(),
-            paths.len(),
-            indices.as_ptr(),
-            indices.len(),
-            refs.as_ptr(),
-            refs.len(),
-            from,
-            to,
-            segments.as_mut_ptr(),
-            segments.len(),
-            item
-        ),
-        path_nos,
-        coords,
-        paths,
-        indices,
-        refs,
-        from,
-        to,
-        segments,
-        item
+        told(groatpocket::tile(from, to, path_nos, coords, paths, indices, refs, segments), item),
+        path_nos, coords, paths, indices, refs, from, to, segments, item
     )
 }
 
+/// A rule word that is neither 0 nor 1 goes past the safe call, which has a bool there.
+#[rustfmt::skip]
 pub fn fill(segments: &[f32], first: u32, number: u32, even_odd: u32, backdrop: i32, x_tile: f32, y_tile: f32, area: &mut [f32]) -> u32 {
     stage!(
         "fill",
-        {
-            let mut numbers = [first, number, even_odd, backdrop as u32, x_tile.to_bits(), y_tile.to_bits()];
-            call(5, &mut numbers, vec![Read(words(segments)), Changed(words_mut(area))])
+        if even_odd > 1 {
+            let (s, n) = (segments.as_ptr(), segments.len());
+            // SAFETY: every pointer and length is a slice's, lent for the call alone.
+            unsafe { groatpocket::raw::gp_fill(s, n, first, number, even_odd, backdrop, x_tile, y_tile, area.as_mut_ptr(), area.len()) }
+        } else {
+            let fill = groatpocket::Fill { first, number, even_odd: even_odd == 1, backdrop, x_tile, y_tile };
+            self::number(groatpocket::fill(segments, fill, area))
         },
-        gp_fill(segments.as_ptr(), segments.len(), first, number, even_odd, backdrop, x_tile, y_tile, area.as_mut_ptr(), area.len()),
-        segments,
-        first,
-        number,
-        even_odd,
-        backdrop,
-        x_tile,
-        y_tile,
-        area
+        segments, first, number, even_odd, backdrop, x_tile, y_tile, area
     )
 }
 
-pub fn fine(words_lent: &[u32], segments: &[f32], width: u32, cols: u32, rows: u32, from: u32, to: u32, pixels: &mut [u32], item: &mut u32) -> u32 {
+#[rustfmt::skip]
+pub fn fine(words: &[u32], segments: &[f32], width: u32, cols: u32, rows: u32, from: u32, to: u32, pixels: &mut [u32], item: &mut u32) -> u32 {
     stage!(
         "fine",
         {
-            let mut numbers = [width, cols, rows, from, to, *item];
-            let answer = call(6, &mut numbers, vec![Read(words_lent), Read(words(segments)), Changed(pixels)]);
-            *item = numbers[5];
-            answer
+            let screen = groatpocket::Screen { width, cols, rows };
+            told(groatpocket::fine(words, segments, screen, from, to, pixels), item)
         },
-        gp_fine(
-            words_lent.as_ptr(),
-            words_lent.len(),
-            segments.as_ptr(),
-            segments.len(),
-            width,
-            cols,
-            rows,
-            from,
-            to,
-            pixels.as_mut_ptr(),
-            pixels.len(),
-            item
-        ),
-        words_lent,
-        segments,
-        width,
-        cols,
-        rows,
-        from,
-        to,
-        pixels,
-        item
+        words, segments, width, cols, rows, from, to, pixels, item
+    )
+}
+
+/// `told` is the stage, the item, and the lines and references counted.
+#[rustfmt::skip]
+pub fn frame(
+    path_nos: &[u32], coords: &[f32], paths: &[u32], backdrops: &mut [i32], tiles: &mut [u32], tally: &mut [u32], refs: &mut [u32],
+    segments: &mut [f32], told: &mut [u32; 4],
+) -> u32 {
+    stage!(
+        "frame",
+        match groatpocket::frame(path_nos, coords, paths, backdrops, tiles, tally, refs, segments) {
+            Ok(running) => {
+                *told = [0, 0, running.lines, running.references];
+                0
+            }
+            Err(stopped) => {
+                *told = [stopped.stage as u32, stopped.refused.item, stopped.running.lines, stopped.running.references];
+                stopped.refused.refusal.number()
+            }
+        },
+        path_nos, coords, paths, backdrops, tiles, tally, refs, segments, told
+    )
+}
+
+#[rustfmt::skip]
+pub fn write_lists(
+    paths: &[u32], paints: &[u32], backdrops: &[i32], stored: &[u32], tally: &[u32], cols: u32, rows: u32, room: u32,
+    words: &mut [u32], item: &mut u32,
+) -> u32 {
+    stage!(
+        "lists",
+        told(groatpocket::write_lists(paths, paints, backdrops, stored, tally, cols, rows, room, words), item),
+        paths, paints, backdrops, stored, tally, cols, rows, room, words, item
     )
 }

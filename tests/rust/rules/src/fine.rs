@@ -11,17 +11,17 @@ pub const COLOR: u32 = 3;
 pub const JUMP: u32 = 4;
 
 /// The high byte is red, the low one alpha.
-fn unpack(color: u32) -> [f32; 4] {
+pub fn unpack(color: u32) -> [f32; 4] {
     [24, 16, 8, 0].map(|shift| (color >> shift & 0xff) as f32 * (1.0 / 255.0))
 }
 
 /// Red lowest; NaN packs as 0.
-fn pack(rgba: [f32; 4]) -> u32 {
+pub fn pack(rgba: [f32; 4]) -> u32 {
     let byte = |v: f32| (v.clamp(0.0, 1.0) * 255.0).round() as u32;
     byte(rgba[0]) | byte(rgba[1]) << 8 | byte(rgba[2]) << 16 | byte(rgba[3]) << 24
 }
 
-fn over(under: [f32; 4], color: [f32; 4], area: f32) -> [f32; 4] {
+pub fn over(under: [f32; 4], color: [f32; 4], area: f32) -> [f32; 4] {
     let fore = color.map(|v| v * area);
     let mut out = [0.0; 4];
     for j in 0..4 {

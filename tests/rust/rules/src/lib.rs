@@ -9,8 +9,10 @@ pub mod checks;
 pub mod count;
 pub mod fill;
 pub mod fine;
+pub mod frame;
 pub mod hand_out;
 pub mod limits;
+pub mod lists;
 pub mod tile;
 pub mod walk;
 
@@ -18,5 +20,7 @@ pub use backdrop::backdrop;
 pub use count::{count, count_seen, Seen};
 pub use fill::fill;
 pub use fine::fine;
+pub use frame::frame;
 pub use hand_out::hand_out;
+pub use lists::write_lists;
 pub use tile::tile;

@@ -1,6 +1,6 @@
 //! The traces of docs/RULES.md, so that the rules as restated here are seen to be the rules.
 
-use rules::{backdrop, count, fill, fine, hand_out, tile};
+use rules::{backdrop, count, fill, fine, frame, hand_out, tile, write_lists};
 
 struct Counted {
     number: u32,
@@ -123,4 +123,48 @@ fn commands() {
     assert_eq!(screen(&[0, 1, 2, 0], &[]).0, 13);
     assert_eq!(screen(&[0, 1, 2, 0, 0, 0], &[]).0, 13);
     assert_eq!(screen(&[0, 1, 0, 1, 0, 0], &[]).0, 13);
+}
+
+#[test]
+fn frames() {
+    let (line, paths) = ([8.0, 8.0, 8.0, 24.0], [0, 0, 2, 2, 0]);
+    let framed = |tally: usize, slots: usize| {
+        let (mut b, mut t, mut y) = (vec![9; 4], vec![9; 4], vec![9; tally]);
+        let (mut refs, mut segments, mut told) = (vec![0; 4], vec![0.0; 5 * slots], [7; 4]);
+        let number = frame(&[0], &line, &paths, &mut b, &mut t, &mut y, &mut refs, &mut segments, &mut told);
+        (number, told, b, t, y)
+    };
+    let stored = vec![4_294_967_295, 0, 4_294_967_294, 0];
+    assert_eq!(framed(4, 2), (0, [0, 0, 1, 2], vec![0, 0, 0, -1], stored, vec![1, 0, 1, 0]));
+    assert_eq!(framed(3, 2), (1, [1, 0, 0, 0], vec![9; 4], vec![9; 4], vec![9; 3]));
+    assert_eq!(framed(4, 1), (9, [4, 0, 1, 2], vec![0, 0, 0, -1], vec![1, 0, 1, 0], vec![9; 4]));
+}
+
+/// So many paths over the only screen tile, each with this tally, first slot and backdrop.
+fn listed(n: usize, tally: u32, backdrop: i32, rule: u32, words: usize) -> (u32, u32, Vec<u32>) {
+    let paths: Vec<u32> = (0..n as u32).flat_map(|k| [0, 0, 1, 1, k]).collect();
+    let paints: Vec<u32> = (0..n as u32).flat_map(|k| [0xc000 + k, rule]).collect();
+    let (mut words, mut item) = (vec![7; words], 9);
+    let stored = vec![if tally > 0 { !3 } else { 0 }; n];
+    let number = write_lists(&paths, &paints, &vec![backdrop; n], &stored, &vec![tally; n], 1, 1, 5, &mut words, &mut item);
+    (number, item, words)
+}
+
+#[test]
+fn lists() {
+    assert_eq!(listed(1, 2, -1, 1, 64).2[..9], [7, 1, 5, 3, u32::MAX, 3, 0xc000, 0, 7]);
+    for (backdrop, rule, covers) in [(-1, 0, true), (2, 0, true), (0, 0, false), (-3, 1, true), (-2, 1, false), (i32::MIN, 1, false)] {
+        let words = listed(1, 0, backdrop, rule, 64).2;
+        assert_eq!(words[..7], if covers { [7, 2, 0, 3, 0xc000, 0, 7] } else { [7, 0, 7, 7, 7, 7, 7] });
+    }
+    // fifteen pairs in the tile's own region, the sixteenth at the first word of the fresh one
+    assert_eq!(listed(15, 0, 1, 0, 64).2[57..64], [2, 0, 3, 0xc00e, 0, 7, 7]);
+    let (number, _, words) = listed(16, 0, 1, 0, 128);
+    assert_eq!((number, &words[61..69]), (0, &[4, 64, 7, 2, 0, 3, 0xc00f, 0][..]));
+    assert_eq!(listed(16, 0, 1, 0, 127), (9, 0, vec![7; 127]));
+    // slots 3 and 4 of five
+    assert_eq!((listed(1, 2, 0, 0, 64).0, listed(1, 3, 0, 0, 64).0), (0, 9));
+    // 4,096 commands, and more; 15 comes before 9
+    assert_eq!((listed(1_982, 0, 1, 0, 64 * 133).0, listed(1_983, 0, 1, 0, 0).0), (0, 15));
+    assert_eq!((listed(1_950, 1, 1, 0, 64 * 195).0, listed(1_951, 1, 1, 0, 0).0), (0, 15));
 }

@@ -1,0 +1,92 @@
+//! A panel of three channels drawn in three calls: frame, command lists, pixels. examples/c/panel.c does the same in C,
+//! and both print examples/panel.out. Once `rt staticlib groatpocket` has written the archive: `cargo run`.
+use groatpocket::{
+    fine, frame, words_needed, write_lists, Screen, Stage, LINE_FLOATS, REF_WORDS, SEGMENT_FLOATS,
+};
+use std::error::Error;
+
+const SCREEN: Screen = Screen { width: 48, cols: 3, rows: 2 };
+const CHANNELS: usize = 3;
+const ROOM: usize = 64;
+
+fn main() -> Result<(), Box<dyn Error>> {
+    // Channel 0 is a triangle, 1 a bar; a gauge of channel 2 sends something that is no number.
+    let mut path_nos = vec![0, 0, 0, 1, 1, 1, 1, 2, 2];
+    #[rustfmt::skip]
+    let mut coords = vec![
+        4.0, 28.0, 16.0, 4.0,  16.0, 4.0, 28.0, 28.0,  28.0, 28.0, 4.0, 28.0,
+        20.0, 12.0, 44.0, 12.0,  44.0, 12.0, 44.0, 20.0,  44.0, 20.0, 20.0, 20.0,  20.0, 20.0, 20.0, 12.0,
+        4.0, 4.0, 40.0, f32::NAN,  40.0, 8.0, 4.0, 4.0,
+    ];
+    // Each channel may draw on the whole screen: its box, then its first tile.
+    let paths = [0, 0, 3, 2, 0, 0, 0, 3, 2, 6, 0, 0, 3, 2, 12];
+    let paints = [0xff0000ff, 0, 0x0000ffff, 1, 0x00ff00ff, 0];
+    let (mut backdrops, mut tiles, mut tally) = ([0; 18], [0; 18], [0; 18]);
+    let (mut refs, mut segments) = ([0; REF_WORDS * ROOM], [0.0; SEGMENT_FLOATS * ROOM]);
+
+    // A channel with a refused line is shown as faulty, and the frame is drawn without it.
+    let done = loop {
+        let stopped = match frame(
+            &path_nos,
+            &coords,
+            &paths,
+            &mut backdrops,
+            &mut tiles,
+            &mut tally,
+            &mut refs,
+            &mut segments,
+        ) {
+            Ok(done) => break done,
+            Err(stopped) => stopped,
+        };
+        let item = stopped.refused.item as usize;
+        let line = match stopped.stage {
+            Stage::Count => item,
+            Stage::Tile => refs[REF_WORDS * item] as usize,
+            _ => return Err(stopped.into()),
+        };
+        let channel = path_nos[line];
+        if channel as usize >= CHANNELS {
+            return Err(stopped.into());
+        }
+        println!("channel {channel} is faulty: refusal {} at line {line}", stopped.refused.refusal.number());
+        let mut kept = path_nos.iter().map(|&no| no != channel);
+        coords =
+            coords.chunks(LINE_FLOATS).filter(|_| kept.next() == Some(true)).flatten().copied().collect();
+        path_nos.retain(|&no| no != channel);
+    };
+    println!("frame: 0, lines {}, references {}", done.lines, done.references);
+
+    let mut words = vec![0; words_needed(SCREEN.cols, SCREEN.rows, CHANNELS)];
+    write_lists(
+        &paths,
+        &paints,
+        &backdrops,
+        &tiles,
+        &tally,
+        SCREEN.cols,
+        SCREEN.rows,
+        ROOM as u32,
+        &mut words,
+    )?;
+    println!("lists: 0");
+
+    let mut pixels = [0u32; 48 * 32];
+    fine(&words, &segments, SCREEN, 0, SCREEN.cols * SCREEN.rows, &mut pixels)?;
+    println!("fine: 0");
+
+    // Red is in a pixel's lowest byte, blue in its third.
+    for row in pixels.chunks(SCREEN.width as usize).step_by(2) {
+        let shown = |p: &u32| {
+            if p >> 24 < 64 {
+                '.'
+            } else if p & 255 > p >> 16 & 255 {
+                'r'
+            } else {
+                'b'
+            }
+        };
+        println!("{}", row.iter().map(shown).collect::<String>());
+    }
+    Ok(())
+}

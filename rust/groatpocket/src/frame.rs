@@ -1,0 +1,103 @@
+//! One call for a frame: counting, sums, hand-out and tiling.
+use crate::raw;
+use crate::refusal::{answered, Refused, UNTOLD};
+use crate::stages::Running;
+use std::fmt;
+
+/// The part of a frame that refused.
+#[derive(Clone, Copy, Debug, PartialEq, Eq, Hash)]
+#[repr(u32)]
+pub enum Stage {
+    /// The checks of what is lent; nothing has changed.
+    Lent = 1,
+    /// Counting; the item is a line.
+    Count = 2,
+    /// The sums of the backdrops; the item is a path.
+    Sums = 3,
+    /// Hand-out: the segments lent have too few slots; the item is 0.
+    HandOut = 4,
+    /// Tiling; the item is a reference.
+    Tile = 5,
+}
+
+impl Stage {
+    const ALL: [Stage; 5] = [Stage::Lent, Stage::Count, Stage::Sums, Stage::HandOut, Stage::Tile];
+}
+
+/// A frame that stopped: where, why, and the running numbers of its count.
+#[derive(Clone, Copy, Debug, PartialEq, Eq, Hash)]
+pub struct FrameStopped {
+    /// The part that refused. What the parts before it did stands.
+    pub stage: Stage,
+    /// Why, and the item.
+    pub refused: Refused,
+    /// Lines and references counted; both 0 where the checks refused.
+    pub running: Running,
+}
+
+impl fmt::Display for FrameStopped {
+    fn fmt(&self, f: &mut fmt::Formatter<'_>) -> fmt::Result {
+        write!(f, "{:?}: {}", self.stage, self.refused)
+    }
+}
+
+impl std::error::Error for FrameStopped {}
+
+/// Draws all lines into tiles and segments: backdrops and tiles are cleared, the lines counted, the
+/// backdrops summed, slots handed out with room for the segments lent, and every reference tiled.
+/// Afterwards `backdrops` are the sums, `tiles` the indices of hand-out, `tally` the counts, and the
+/// segments below `references` are written.
+///
+/// ```
+/// use groatpocket::{frame, Refusal, Stage};
+/// let (path_nos, coords, paths) = ([0], [8.0, 8.0, 8.0, 24.0], [0, 0, 2, 2, 0]);
+/// let (mut backdrops, mut tiles, mut tally) = ([7; 4], [7; 4], [7; 4]);
+/// let (mut refs, mut segments) = ([0; 8], [0.0; 10]);
+/// let done = frame(
+///     &path_nos, &coords, &paths, &mut backdrops, &mut tiles, &mut tally, &mut refs, &mut segments,
+/// ).unwrap();
+/// assert_eq!((done.lines, done.references), (1, 2));
+/// assert_eq!((backdrops, tally), ([0, 0, 0, -1], [1, 0, 1, 0]));
+/// assert_eq!(segments[5..10], [7.999999, 0.0, 7.999999, 8.0, 1e9]);
+///
+/// // Room for one segment only: hand-out refuses, and what was counted stands.
+/// let stopped = frame(
+///     &path_nos, &coords, &paths, &mut backdrops, &mut tiles, &mut tally, &mut refs, &mut segments[..5],
+/// ).unwrap_err();
+/// assert_eq!((stopped.stage, stopped.refused.refusal), (Stage::HandOut, Refusal::NoRoom));
+/// ```
+#[allow(clippy::too_many_arguments)]
+pub fn frame(
+    path_nos: &[u32],
+    coords: &[f32],
+    paths: &[u32],
+    backdrops: &mut [i32],
+    tiles: &mut [u32],
+    tally: &mut [u32],
+    refs: &mut [u32],
+    segments: &mut [f32],
+) -> Result<Running, FrameStopped> {
+    let (mut stage, mut item, mut lines, mut made) = (UNTOLD, UNTOLD, UNTOLD, UNTOLD);
+    // SAFETY: as for `count`.
+    #[rustfmt::skip]
+    let number = unsafe {
+        raw::gp_frame(
+            path_nos.as_ptr(), path_nos.len(),
+            coords.as_ptr(), coords.len(),
+            paths.as_ptr(), paths.len(),
+            backdrops.as_mut_ptr(), backdrops.len(),
+            tiles.as_mut_ptr(), tiles.len(),
+            tally.as_mut_ptr(), tally.len(),
+            refs.as_mut_ptr(), refs.len(),
+            segments.as_mut_ptr(), segments.len(),
+            &mut stage, &mut item, &mut lines, &mut made,
+        )
+    };
+    let running = Running { lines, references: made };
+    let Err(refused) = answered(number, item) else {
+        debug_assert_eq!(stage, 0, "a stage where nothing is refused");
+        return Ok(running);
+    };
+    let stage = Stage::ALL[stage as usize - 1];
+    Err(FrameStopped { stage, refused, running })
+}

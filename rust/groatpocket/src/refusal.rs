@@ -1,0 +1,91 @@
+//! Why a call refuses, and of what.
+use std::fmt;
+
+/// Why a call refused.
+#[derive(Clone, Copy, Debug, PartialEq, Eq, Hash)]
+#[repr(u32)]
+pub enum Refusal {
+    /// 1: no whole records, paired slices that differ, or a bad range.
+    NotWhole = 1,
+    /// 2: too many paths, tiles or screen tiles.
+    TooMany = 2,
+    /// 3: a box edge over the limit, or edges the wrong way round.
+    BadBox = 3,
+    /// 4: a path's tiles overlap those before it, or run past the tiles.
+    BadRange = 4,
+    /// 5: counting: line number 65,536 or more.
+    LineNumber = 5,
+    /// 6: a coordinate not finite, or over 16,384 in size.
+    Coordinate = 6,
+    /// 7: no such path; in a reference, no such line or one that the walk skips.
+    NoSuch = 7,
+    /// 8: a step number or a tile's count over its limit.
+    CountOver = 8,
+    /// 9: no room for references, slots, regions of commands or a file.
+    NoRoom = 9,
+    /// 10: a step outside its path's box.
+    Outside = 10,
+    /// 11: a backdrop or a running sum leaves 32 bits.
+    SumOver = 11,
+    /// 12: a segment end outside its tile.
+    Crooked = 12,
+    /// 13: command words or segments past the end of those lent.
+    PastEnd = 13,
+    /// 14: an unknown command.
+    Unknown = 14,
+    /// 15: over 4,096 commands on one tile.
+    TooLong = 15,
+    /// 16: a screen too narrow, or too few pixels.
+    BadScreen = 16,
+    /// 17: a picture's width or height outside 1 to 16,384.
+    BadSize = 17,
+    /// 18: no P6 file: another header, or bytes missing or left over.
+    BadFile = 18,
+}
+
+impl Refusal {
+    /// All of them; number n stands at n - 1.
+    #[rustfmt::skip]
+    pub const ALL: [Refusal; 18] = {
+        use Refusal::*;
+        [
+            NotWhole, TooMany, BadBox, BadRange, LineNumber, Coordinate, NoSuch, CountOver, NoRoom,
+            Outside, SumOver, Crooked, PastEnd, Unknown, TooLong, BadScreen, BadSize, BadFile,
+        ]
+    };
+
+    /// The rules' number.
+    pub fn number(self) -> u32 {
+        self as u32
+    }
+}
+
+/// A refusal with its item: the number of the line, path, reference or screen tile refused.
+#[derive(Clone, Copy, Debug, PartialEq, Eq, Hash)]
+pub struct Refused {
+    /// Why.
+    pub refusal: Refusal,
+    /// Of what: for 3 and 4 the path's number; 0 where no item is at fault (docs/RULES.md).
+    pub item: u32,
+}
+
+impl fmt::Display for Refused {
+    fn fmt(&self, f: &mut fmt::Formatter<'_>) -> fmt::Result {
+        write!(f, "refused with {} ({:?}) at item {}", self.refusal.number(), self.refusal, self.item)
+    }
+}
+
+impl std::error::Error for Refused {}
+
+/// What an item holds before a call: each call writes it, 0 where it is done.
+pub(crate) const UNTOLD: u32 = u32::MAX;
+
+/// A call's number and item as a result.
+pub(crate) fn answered(number: u32, item: u32) -> Result<(), Refused> {
+    let Some(place) = number.checked_sub(1) else {
+        debug_assert_eq!(item, 0, "an item where nothing is refused");
+        return Ok(());
+    };
+    let refusal = Refusal::ALL[place as usize];
+    Err(Refused { refusal, item })
+}

@@ -1,0 +1,90 @@
+//! Pixels: the coverage of a tile, and screen tiles by their lists of commands.
+use crate::raw;
+use crate::refusal::{answered, Refused, UNTOLD};
+
+/// One fill of a tile: its segments, its rule, its backdrop and the tile's corner.
+#[derive(Clone, Copy, Debug, PartialEq)]
+pub struct Fill {
+    /// The first segment.
+    pub first: u32,
+    /// How many.
+    pub number: u32,
+    /// Even-odd, else non-zero.
+    pub even_odd: bool,
+    /// What the area starts at.
+    pub backdrop: i32,
+    /// The tile's corner that the segments are relative to.
+    pub x_tile: f32,
+    /// The tile's corner that the segments are relative to.
+    pub y_tile: f32,
+}
+
+/// The coverage of a tile's 256 pixels, into `area`.
+///
+/// ```
+/// use groatpocket::{fill, Fill};
+/// let mut area = [0.0; 256];
+/// let whole = Fill { first: 0, number: 0, even_odd: false, backdrop: 2, x_tile: 0.0, y_tile: 0.0 };
+/// fill(&[], whole, &mut area).unwrap();
+/// assert!(area.iter().all(|a| *a == 1.0));
+/// fill(&[], Fill { even_odd: true, ..whole }, &mut area).unwrap();
+/// assert!(area.iter().all(|a| *a == 0.0));
+/// ```
+pub fn fill(segments: &[f32], fill: Fill, area: &mut [f32]) -> Result<(), Refused> {
+    let rule = fill.even_odd as u32;
+    // SAFETY: as for `count`.
+    #[rustfmt::skip]
+    let number = unsafe {
+        raw::gp_fill(
+            segments.as_ptr(), segments.len(),
+            fill.first, fill.number, rule, fill.backdrop, fill.x_tile, fill.y_tile,
+            area.as_mut_ptr(), area.len(),
+        )
+    };
+    answered(number, 0)
+}
+
+/// A screen: pixels to a row, and its tiles in columns and rows.
+#[derive(Clone, Copy, Debug, PartialEq, Eq)]
+pub struct Screen {
+    /// Pixels to a row.
+    pub width: u32,
+    /// Tile columns.
+    pub cols: u32,
+    /// Tile rows.
+    pub rows: u32,
+}
+
+/// Draws the screen tiles `from..to`, each by its list of commands. It stops before the first refused,
+/// whose pixels and all later ones keep what they held.
+///
+/// ```
+/// use groatpocket::{fine, Screen};
+/// // Tile 0: SOLID, then COLOR 0x204060ff, then END.
+/// let words = [0, 2, 0, 3, 0x204060ff, 0];
+/// let mut pixels = [0; 256];
+/// fine(&words, &[], Screen { width: 16, cols: 1, rows: 1 }, 0, 1, &mut pixels).unwrap();
+/// assert!(pixels.iter().all(|p| *p == 0xff604020));
+/// ```
+pub fn fine(
+    words: &[u32],
+    segments: &[f32],
+    screen: Screen,
+    from: u32,
+    to: u32,
+    pixels: &mut [u32],
+) -> Result<(), Refused> {
+    let mut item = UNTOLD;
+    // SAFETY: as for `count`.
+    #[rustfmt::skip]
+    let number = unsafe {
+        raw::gp_fine(
+            words.as_ptr(), words.len(),
+            segments.as_ptr(), segments.len(),
+            screen.width, screen.cols, screen.rows, from, to,
+            pixels.as_mut_ptr(), pixels.len(),
+            &mut item,
+        )
+    };
+    answered(number, item)
+}

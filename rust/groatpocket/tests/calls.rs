@@ -1,0 +1,167 @@
+//! The safe calls: a trace through all stages, batches, and the refusals as a caller meets them.
+use groatpocket::*;
+
+const PATHS: [u32; 5] = [0, 0, 2, 2, 0];
+
+fn counted(coords: &[f32], paths: &[u32], refs: &mut [u32]) -> Result<Running, Stopped> {
+    let path_nos = vec![0; coords.len() / LINE_FLOATS];
+    let end = path_nos.len() as u32;
+    let (mut b, mut c) = ([0; 4], [0; 4]);
+    count(Running::default(), end, &path_nos, coords, paths, &mut b, &mut c, refs)
+}
+
+#[test]
+fn numbers_and_names_agree() {
+    for (k, refusal) in Refusal::ALL.iter().enumerate() {
+        assert_eq!(refusal.number() as usize, k + 1);
+    }
+    let refused = Refused { refusal: Refusal::Outside, item: 3 };
+    assert_eq!(refused.to_string(), "refused with 10 (Outside) at item 3");
+}
+
+#[test]
+fn batches_make_what_one_batch_makes() {
+    let path_nos = [0, 0, 0];
+    let coords = [4.0, 4.0, 28.0, 4.0, 28.0, 4.0, 16.0, 28.0, 16.0, 28.0, 4.0, 4.0];
+    let mut whole = ([0; 4], [0; 4], [0; 32]);
+    let mut cut = whole;
+    let (b, c, r) = (&mut whole.0, &mut whole.1, &mut whole.2);
+    let all = count(Running::default(), 3, &path_nos, &coords, &PATHS, b, c, r).unwrap();
+    let mut running = Running::default();
+    for end in [1, 1, 3] {
+        let (b, c, r) = (&mut cut.0, &mut cut.1, &mut cut.2);
+        running = count(running, end, &path_nos, &coords, &PATHS, b, c, r).unwrap();
+    }
+    assert_eq!((running, cut), (all, whole));
+    assert_eq!((all.lines, all.references), (3, 6));
+}
+
+#[test]
+fn a_refused_line_has_its_number_and_changes_nothing() {
+    let mut refs = [7; 8];
+    let coords = [8.0, 8.0, 8.0, 12.0, 1.0, 2.0, 16_385.0, 3.0];
+    let stopped = counted(&coords, &PATHS, &mut refs).unwrap_err();
+    assert_eq!((stopped.refused.refusal, stopped.refused.item), (Refusal::Coordinate, 1));
+    assert_eq!(stopped.running, Running { lines: 1, references: 1 });
+    assert_eq!(refs, [0, 0, 7, 7, 7, 7, 7, 7]);
+}
+
+#[test]
+fn what_is_lent_is_checked() {
+    let line = [8.0, 8.0, 8.0, 24.0];
+    let number = |coords: &[f32], paths: &[u32], room: usize| {
+        let mut refs = vec![0; room];
+        counted(coords, paths, &mut refs).map_err(|s| s.refused.refusal.number())
+    };
+    assert_eq!(number(&line, &PATHS[..4], 8), Err(1));
+    assert_eq!(number(&line, &[0; 5 * 4_097], 8), Err(2));
+    assert_eq!(number(&line, &[0, 0, 1_025, 2, 0], 8), Err(3));
+    assert_eq!(number(&line, &[0, 0, 2, 2, 1], 8), Err(4));
+    assert_eq!(number(&line, &[], 8), Err(7));
+    assert_eq!(number(&line, &PATHS, 2), Err(9));
+    assert_eq!(number(&line, &PATHS, 4).map(|r| r.references), Ok(2));
+}
+
+#[test]
+fn sums_slots_and_segments() {
+    let mut backdrops = [i32::MAX, 1];
+    let refused = backdrop(&[0, 0, 2, 1, 0], &mut backdrops).unwrap_err();
+    assert_eq!(refused.refusal, Refusal::SumOver);
+    let (mut counts, mut tally) = ([1, 0, 1, 0], [0; 4]);
+    let refused = hand_out(&mut counts, &mut tally, 1).unwrap_err();
+    assert_eq!((refused.refusal, counts), (Refusal::NoRoom, [1, 0, 1, 0]));
+    hand_out(&mut counts, &mut tally, 2).unwrap();
+
+    let (path_nos, coords) = ([0], [8.0, 8.0, 8.0, 24.0]);
+    let mut segments = [0.0; 10];
+    let refs = [0, 0, 0, 1, 0, 9];
+    tile(0, 2, &path_nos, &coords, &PATHS, &counts, &refs, &mut segments).unwrap();
+    assert_eq!(segments[..5], [7.999999, 8.0, 7.999999, 16.0, 1e9]);
+    let refused = tile(2, 3, &path_nos, &coords, &PATHS, &counts, &refs, &mut segments);
+    assert_eq!(refused.unwrap_err().refusal, Refusal::Outside);
+}
+
+#[test]
+fn a_screen_and_its_commands() {
+    let screen = Screen { width: 16, cols: 1, rows: 1 };
+    let mut pixels = [5; 256];
+    let mut number =
+        |words: &[u32]| fine(words, &[], screen, 0, 1, &mut pixels).map_err(|r| r.refusal.number());
+    assert_eq!(number(&[]), Err(13));
+    assert_eq!(number(&[0, 9]), Err(14));
+    assert_eq!(number(&[0, 4, 1]), Err(15));
+    assert_eq!(number(&[0, 1, 2, 0, 0, 0]), Err(13));
+    assert_eq!(number(&[0, 0]), Ok(()));
+    let narrow = Screen { width: 15, ..screen };
+    let refused = fine(&[0, 0], &[], narrow, 0, 1, &mut pixels).unwrap_err();
+    assert_eq!(refused.refusal, Refusal::BadScreen);
+    assert_eq!(pixels, [0; 256]);
+}
+
+#[cfg(all(feature = "frame", feature = "lists"))]
+#[test]
+fn a_frame_is_drawn() {
+    let coords = [4.0, 0.0, 4.0, 16.0, 12.0, 16.0, 12.0, 0.0];
+    let (mut b, mut t, mut y) = ([9; 4], [9; 4], [9; 4]);
+    let (mut refs, mut segments) = ([0; 8], [0.0; 20]);
+    let done = frame(&[0, 0], &coords, &PATHS, &mut b, &mut t, &mut y, &mut refs, &mut segments);
+    assert_eq!(done.unwrap().references, 2);
+    let mut words = vec![7; words_needed(2, 2, 1)];
+    write_lists(&PATHS, &[0xffffffff, 0], &b, &t, &y, 2, 2, 4, &mut words).unwrap();
+    let screen = Screen { width: 32, cols: 2, rows: 2 };
+    let mut pixels = [0; 1_024];
+    fine(&words, &segments, screen, 0, 4, &mut pixels).unwrap();
+    let row: Vec<u32> = pixels[..32].iter().map(|p| p >> 24).collect();
+    assert!(row[..4].iter().all(|a| *a == 0) && row[4..12].iter().all(|a| *a >= 254));
+    assert!(row[12..].iter().all(|a| *a <= 1));
+}
+
+#[cfg(feature = "frame")]
+#[test]
+fn a_frame_says_which_part_refused() {
+    let line = [8.0, 8.0, 8.0, 24.0];
+    let stage = |coords: &[f32], tally: usize, refs: usize, slots: usize| {
+        let (mut b, mut t, mut y) = ([9; 4], [9; 4], vec![9; tally]);
+        let (mut refs, mut segments) = (vec![0; 2 * refs], vec![0.0; 5 * slots]);
+        frame(&[0], coords, &PATHS, &mut b, &mut t, &mut y, &mut refs, &mut segments)
+            .map_err(|s| (s.stage, s.refused.refusal, b[0]))
+    };
+    assert_eq!(stage(&line, 3, 2, 2).unwrap_err(), (Stage::Lent, Refusal::NotWhole, 9));
+    assert_eq!(stage(&line, 4, 1, 2).unwrap_err(), (Stage::Count, Refusal::NoRoom, 0));
+    assert_eq!(stage(&line, 4, 2, 1).unwrap_err(), (Stage::HandOut, Refusal::NoRoom, 0));
+    let low = f32::from_bits(0x80000008);
+    assert_eq!(stage(&[0.0, low, 0.0, 16.0], 4, 2, 2).unwrap_err().0, Stage::Tile);
+    assert!(stage(&line, 4, 2, 2).is_ok());
+}
+
+#[cfg(feature = "lists")]
+#[test]
+fn lists_are_refused_whole() {
+    let mut words = [7; 64];
+    let mut number = |tally: u32, stored: u32, room: u32, tiles: u32| {
+        write_lists(&[0, 0, 1, 1, 0], &[1, 0], &[1], &[stored], &[tally], tiles, 1, room, &mut words)
+            .map_err(|r| r.refusal.number())
+    };
+    assert_eq!(number(1, !4, 4, 1), Err(9));
+    assert_eq!(number(1, 0, 4, 1), Err(9));
+    assert_eq!(number(0, 0, 4, 2), Err(9));
+    assert_eq!(number(0, 0, 4, 1_048_577), Err(2));
+    assert_eq!(number(1, !3, 4, 1), Ok(()));
+    assert_eq!(words[..8], [7, 1, 2, 3, 1, 3, 1, 0]);
+    assert!(words[8..].iter().all(|w| *w == 7));
+}
+
+#[cfg(feature = "picture")]
+#[test]
+fn a_picture_comes_back() {
+    let pixels: Vec<u32> = (0..12).map(|k| 0xff000000 | (0x123456 * k)).collect();
+    let (mut file, mut back) = (vec![0; 64], vec![0; 36]);
+    let n = ppm_write(&pixels, 4, 3, &mut file).unwrap();
+    assert_eq!(ppm_read(&file[..n], &mut back).unwrap(), (4, 3));
+    assert!(pixels.iter().zip(back.chunks(3)).all(|(p, b)| p.to_le_bytes()[..3] == *b));
+    let number = |r: Result<(u32, u32), Refused>| r.unwrap_err().refusal.number();
+    assert_eq!(number(ppm_read(&file[..n - 1], &mut back)), 18);
+    assert_eq!(number(ppm_read(b"P6 0 3 255\n", &mut back)), 17);
+    assert_eq!(number(ppm_read(&file[..n], &mut back[..35])), 9);
+    assert_eq!(ppm_write(&pixels, 0, 3, &mut file).unwrap_err().refusal, Refusal::BadSize);
+}

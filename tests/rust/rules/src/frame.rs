@@ -1,0 +1,79 @@
+//! A frame: all that is lent is checked first, then count, sums, hand-out and tiling over cleared tiles.
+
+use crate::checks::*;
+use crate::limits::*;
+use crate::{backdrop, count, hand_out, tile};
+
+/// The parts of a frame that may refuse.
+pub const LENT: u32 = 1;
+pub const COUNTING: u32 = 2;
+pub const SUMS: u32 = 3;
+pub const HAND_OUT: u32 = 4;
+pub const TILING: u32 = 5;
+
+/// `told` is the stage, the item, and the lines and references counted; all 0 but the last two where it is done.
+pub fn frame(
+    path_nos: &[u32],
+    coords: &[f32],
+    paths: &[u32],
+    backdrops: &mut [i32],
+    tiles: &mut [u32],
+    tally: &mut [u32],
+    refs: &mut [u32],
+    segments: &mut [f32],
+    told: &mut [u32; 4],
+) -> u32 {
+    let (mut lines, mut made, mut item) = (0, 0, 0);
+    let checked = lent(path_nos, coords, paths, backdrops, tiles, tally, refs, segments);
+    let mut number = answer(checked, &mut item);
+    let mut stage = LENT;
+    if number == DONE {
+        backdrops.fill(0);
+        tiles.fill(0);
+        stage = COUNTING;
+        let all = path_nos.len() as u32;
+        number = count(path_nos, coords, paths, backdrops, tiles, refs, all, &mut lines, &mut made, &mut item);
+    }
+    if number == DONE {
+        stage = SUMS;
+        number = backdrop(paths, backdrops, &mut item);
+    }
+    if number == DONE {
+        stage = HAND_OUT;
+        let room = (segments.len() / SEGMENT).min(ROOM_MOST as usize) as u32;
+        number = hand_out(tiles, tally, room);
+    }
+    if number == DONE {
+        stage = TILING;
+        number = tile(path_nos, coords, paths, tiles, refs, 0, made, segments, &mut item);
+    }
+    *told = if number == DONE { [0, 0, lines, made] } else { [stage, item, lines, made] };
+    number
+}
+
+/// Checks 1 of every stage, then 2, 3 and 4.
+fn lent(
+    path_nos: &[u32],
+    coords: &[f32],
+    paths: &[u32],
+    backdrops: &[i32],
+    tiles: &[u32],
+    tally: &[u32],
+    refs: &[u32],
+    segments: &[f32],
+) -> Result<(), No> {
+    let shape = whole(coords.len(), LINE)
+        && path_nos.len() == coords.len() / LINE
+        && whole(paths.len(), PATH)
+        && backdrops.len() == tiles.len()
+        && tally.len() == tiles.len()
+        && whole(refs.len(), REF)
+        && whole(segments.len(), SEGMENT);
+    if !shape {
+        return Err((BAD_SHAPE, 0));
+    }
+    if too_many(paths, tiles.len()) {
+        return Err((TOO_MANY, 0));
+    }
+    check_paths(paths, tiles.len())
+}
