@@ -1,2 +1,3 @@
 -- What the exported functions' proofs share.
 pub mod Told
+pub mod ToldPpm

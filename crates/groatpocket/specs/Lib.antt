@@ -1,3 +1,4 @@
 -- What a caller in C or Rust sees of a call. Definitions only.
 pub mod Seen
 pub mod Calls
+pub mod CallPpm
