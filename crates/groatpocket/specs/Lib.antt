@@ -1,4 +1,5 @@
 -- What a caller in C or Rust sees of a call. Definitions only.
 pub mod Seen
 pub mod Calls
+pub mod CallLists
 pub mod CallPpm

@@ -6,6 +6,7 @@ pub mod call_count;
 pub mod call_fill;
 pub mod call_fine;
 pub mod call_hand_out;
+pub mod call_lists;
 pub mod call_ppm;
 pub mod call_tile;
 pub mod floats;

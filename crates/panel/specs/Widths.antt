@@ -1,4 +1,4 @@
--- How wide the records lent are, and where a path's words stand. Definitions only.
+-- How wide the records lent are, and where a path's and a paint's words stand. Definitions only.
 use mathlib.Core.List.{List, [], _∷_}
 use Prim.Native.Nat.{ℕ}
 
@@ -18,6 +18,10 @@ refWords = 2
 abbrev pub segmentFloats : ℕ
 segmentFloats = 5
 
+-- words to a paint, one for each path: its colour, then its fill rule
+abbrev pub paintWords : ℕ
+paintWords = 2
+
 -- the places of a path's words
 abbrev pub placeX0 : ℕ
 placeX0 = 0
@@ -34,6 +38,13 @@ placeY1 = 3
 abbrev pub placeFirst : ℕ
 placeFirst = 4
 
+-- the places of a paint's words
+abbrev pub placeColour : ℕ
+placeColour = 0
+
+abbrev pub placeRule : ℕ
+placeRule = 1
+
 -- all of them
 abbrev pub widths : List ℕ
 widths =
@@ -41,9 +52,12 @@ widths =
     ∷ lineFloats
     ∷ refWords
     ∷ segmentFloats
+    ∷ paintWords
     ∷ placeX0
     ∷ placeY0
     ∷ placeX1
     ∷ placeY1
     ∷ placeFirst
+    ∷ placeColour
+    ∷ placeRule
     ∷ []

@@ -1,4 +1,4 @@
-// The widths of the records lent, and the places of a path's words, each named once in code.
+// The widths of the records lent, and the places of a path's and a paint's words, each named once in code.
 // specs/Widths.antt names them for the contracts, and the function at the end says that the two
 // agree. docs/RULES.md, "How the records are lent".
 ghost use mathlib.Core.Path.{_≡_};
@@ -12,6 +12,8 @@ pub const REF_WORDS: usize = 2;
 
 pub const SEGMENT_FLOATS: usize = 5;
 
+pub const PAINT_WORDS: usize = 2;
+
 // A path's words: its box's left, top, right and bottom edge, and its first tile.
 pub const PATH_X0: usize = 0;
 
@@ -23,8 +25,13 @@ pub const PATH_Y1: usize = 3;
 
 pub const PATH_FIRST: usize = 4;
 
+// A paint's words: its path's colour, and its fill rule.
+pub const PAINT_COLOUR: usize = 0;
+
+pub const PAINT_RULE: usize = 1;
+
 // All of them.
-pub fn all() -> [usize; 9]
+pub fn all() -> [usize; 12]
     ensures { λ r. ⌜ r ≡ widths ⌝ }
 {
     [
@@ -32,10 +39,13 @@ pub fn all() -> [usize; 9]
         LINE_FLOATS,
         REF_WORDS,
         SEGMENT_FLOATS,
+        PAINT_WORDS,
         PATH_X0,
         PATH_Y0,
         PATH_X1,
         PATH_Y1,
         PATH_FIRST,
+        PAINT_COLOUR,
+        PAINT_RULE,
     ]
 }

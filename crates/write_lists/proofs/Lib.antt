@@ -1,0 +1,8 @@
+-- Laws that the functions' proofs cite, and an example, computed.
+pub mod Signed
+pub mod SizeLaws
+pub mod PairLaws
+pub mod WeighLaws
+pub mod LayLaws
+pub mod TileLaws
+pub mod Example

@@ -1,0 +1,94 @@
+-- A tile's weight, pair by pair, comes to its pairs, its JUMPs and whether its slots fit. Assumes nothing.
+use mathlib.Core.Path.{_≡_, refl, sym, ap, _∙_}
+use mathlib.Core.Bool.{Bool, true, false, _&&_}
+use mathlib.Core.List.{List, [], _∷_, _++_}
+use Prim.Native.Nat.{ℕ, zero, suc, _+_, _-_, _*_, _≤_, _<_}
+use native.Mathlib.Omega.{arith}
+use lib.ListN.{length}
+use Rattle.lists.specs.Run.{actAll, actAll-append}
+use Rattle.lists.specs.Sums.{from}
+use Rattle.commands.specs.Numbers.{tileWords}
+use Rattle.write_lists.specs.Pairs.{Tables, onPath, pairsOf, putList}
+use Rattle.write_lists.specs.Layout.{pairSize, fits, jumpCount, leftAt, leftAfter, jumpsOf}
+use Rattle.write_lists.specs.Lists.{slotsFit, allFit}
+use Rattle.write_lists.specs.Ready.{weightOf, weighPair, weighAll}
+use Rattle.write_lists.specs.declared.pairs.Pair.{Pair}
+use Rattle.write_lists.specs.declared.pairs.Put.{Put}
+use Rattle.write_lists.specs.declared.pairs.Put.the-variants.{Nothing, Puts}
+use Rattle.write_lists.specs.declared.weigh.Weight.{Weight}
+use Rattle.write_lists.proofs.SizeLaws.{jump-small, left-small}
+
+pub and-all : (a : Bool) → a && true ≡ a
+and-all true = refl
+and-all false = refl
+
+pub and-assoc : (a b c : Bool) → (a && b) && c ≡ a && (b && c)
+and-assoc true b c = refl
+and-assoc false b c = refl
+
+-- one pair, by its parts
+pub weigh-is : (room : ℕ) (p : Pair) (w : Weight) (ok : Bool) (size jump here : ℕ) (within : Bool) → ok ≡ fits p (w .left) → size ≡ pairSize p
+    → jump ≡ jumpCount ok → here ≡ leftAt ok (w .left) → within ≡ slotsFit room p
+    → weightOf (w .pairs + 1) (w .jumps + jump) (here - size) (w .slots && within) ≡ weighPair room p w
+unfolding weighPair
+weigh-is room p w ok size jump here within e f g h k = rw (g, h, k, e, f)
+
+-- what so many paths at most put on a tile
+pub record Light (k : ℕ) (w : Weight) : Type 0 where
+  pub pairs : w .pairs ≤ k
+  pub jumps : w .jumps ≤ k
+  pub left : w .left ≤ tileWords
+
+pub put-light : (room k : ℕ) (put : Put) (w : Weight) → Light k w → Light (k + 1) (weighAll room (putList put) w)
+unfolding weighPair
+put-light room k Nothing w l = record { pairs = omega (arith, l .pairs); jumps = omega (arith, l .jumps); left = l .left }
+put-light room k (Puts p) w l =
+    record {
+      pairs = omega (arith, l .pairs);
+      jumps = omega (arith, l .jumps, jump-small (fits p (w .left)));
+      left = left-small p (w .left) (l .left);
+    }
+
+-- ---- a loop over the paths
+
+pub from-turn : (k n : ℕ) → k < n → from k (n - k) ≡ k ∷ from (k + 1) (n - (k + 1))
+from-turn k n h =
+    let more : n - k ≡ suc (n - (k + 1)) = omega arith in
+    let next : k + 1 ≡ suc k = omega arith in
+    ap (from k) more ∙ ap (λ (j : ℕ). k ∷ from j (n - (k + 1))) (sym next)
+
+pub from-end : (k n : ℕ) → n ≤ k → from k (n - k) ≡ []
+from-end k n h = let none : n - k ≡ 0 = omega arith in ap (from k) none
+
+pub from-all : (n : ℕ) → from 0 (n - 0) ≡ from 0 n
+from-all n = let all : n - 0 ≡ n = omega arith in ap (from 0) all
+
+module _ (s : Tables) (x y n k : ℕ) where
+  pub pairs-turn : k < n → (hs : List Pair) → hs ≡ onPath s x y k → pairsOf s x y (from k (n - k)) ≡ hs ++ pairsOf s x y (from (k + 1) (n - (k + 1)))
+  pairs-turn h hs e = ap (pairsOf s x y) (from-turn k n h) ∙ ap (λ (l : List Pair). l ++ pairsOf s x y (from (k + 1) (n - (k + 1)))) (sym e)
+
+  pub pairs-end : n ≤ k → pairsOf s x y (from k (n - k)) ≡ []
+  pairs-end h = ap (pairsOf s x y) (from-end k n h)
+
+  pub weigh-turn : (room : ℕ) (hs : List Pair) (w w′ : Weight) → k < n → hs ≡ onPath s x y k → w′ ≡ weighAll room hs w
+      → weighAll room (pairsOf s x y (from (k + 1) (n - (k + 1)))) w′ ≡ weighAll room (pairsOf s x y (from k (n - k))) w
+  weigh-turn room hs w w′ h e f =
+      let rest = pairsOf s x y (from (k + 1) (n - (k + 1))) in
+      ap (weighAll room rest) f ∙ sym (actAll-append (weighPair room) hs rest w) ∙ ap (λ (l : List Pair). weighAll room l w) (sym (pairs-turn h hs e))
+
+-- ---- what a weight comes to
+
+pub weighed-pairs : (room : ℕ) (ps : List Pair) (w : Weight) → weighAll room ps w .pairs ≡ w .pairs + length ps
+unfolding weighPair
+weighed-pairs room [] w = omega arith
+weighed-pairs room (p ∷ ps) w = weighed-pairs room ps (weighPair room p w) ∙ omega arith
+
+pub weighed-jumps : (room : ℕ) (ps : List Pair) (w : Weight) → weighAll room ps w .jumps ≡ w .jumps + jumpsOf (w .left) ps
+unfolding weighPair
+weighed-jumps room [] w = omega arith
+weighed-jumps room (p ∷ ps) w = weighed-jumps room ps (weighPair room p w) ∙ omega arith
+
+pub weighed-slots : (room : ℕ) (ps : List Pair) (w : Weight) → weighAll room ps w .slots ≡ w .slots && allFit room ps
+unfolding weighPair
+weighed-slots room [] w = sym (and-all (w .slots))
+weighed-slots room (p ∷ ps) w = weighed-slots room ps (weighPair room p w) ∙ and-assoc (w .slots) (slotsFit room p) (allFit room ps)

@@ -1,0 +1,149 @@
+// A tile's list written: its pairs in regions of words, JUMPs between the regions, END.
+use crate::pairs::Pair;
+use crate::pairs::Put;
+use crate::pairs::on_path;
+use crate::sizes::fits;
+use crate::sizes::pair_size;
+use commands::numbers::COLOR;
+use commands::numbers::END;
+use commands::numbers::FILL;
+use commands::numbers::FILL_WORDS;
+use commands::numbers::JUMP;
+use commands::numbers::LIST_START;
+use commands::numbers::SOLID;
+use commands::numbers::SOLID_WORDS;
+use commands::numbers::TILE_WORDS;
+use panel::widths::PATH_WORDS;
+ghost use mathlib.Core.Path.{_≡_};
+ghost use mathlib.Core.Bool.{true};
+ghost use mathlib.Core.List.{[], _∷_};
+ghost use Prim.Native.Nat.{_+_, _*_, _<_, _≤_};
+ghost use lib.ListN.{length};
+ghost use lib.Seq.{sets};
+ghost use Rattle.panel.specs.Limits.{mostSlots, mostTiles};
+ghost use Rattle.commands.specs.Numbers.{jumpWords, tileWords};
+ghost use Rattle.write_lists.specs.Pairs.{tables, tilePairs, putList};
+ghost use Rattle.write_lists.specs.Layout.{pairWords, pairSize, jumpIf, turned, after, pairChunks, jumpCount, begun, penAfter, laid, jumpsOf, ownWords, penOf, written};
+ghost use Rattle.write_lists.specs.Lists.{slotsFit, allFit, wordsNamed};
+ghost use Rattle.write_lists.specs.Ready.{Ready, Room};
+
+// Where the next word goes, how many words are left in its region, and where the next fresh region
+// is.
+pub struct Pen {
+    pub at: usize,
+    pub left: usize,
+    pub fresh: usize,
+}
+
+// A pair's words. SOLID's second word says nothing.
+fn put_pair(words: &mut [u32], at: usize, pair: Pair)
+    requires { ⌜ (at + pairSize pair ≤ length (now words)) × (slotsFit mostSlots pair ≡ true) ⌝ }
+    ensures { λ _. ⌜ now (words .exit) ≡ sets (now (words .entry)) at (pairWords pair) ⌝ }
+{
+    match pair {
+        Pair::Fill {
+            count,
+            rule,
+            first,
+            backdrop,
+            colour,
+        } => {
+            words[at] = FILL;
+            words[at + 1] = 2 * count + rule % 2;
+            words[at + 2] = first;
+            words[at + 3] = backdrop;
+            words[at + FILL_WORDS] = COLOR;
+            words[at + FILL_WORDS + 1] = colour;
+        }
+        Pair::Solid(colour) => {
+            words[at] = SOLID;
+            words[at + 1] = 0;
+            words[at + SOLID_WORDS] = COLOR;
+            words[at + SOLID_WORDS + 1] = colour;
+        }
+    }
+}
+
+// Where the next pair doesn't fit: a JUMP to the fresh region's first word, and on from there.
+fn turn(words: &mut [u32], pen: Pen, fits: bool) -> Pen
+    requires { ⌜ (pen .at + jumpWords ≤ length (now words)) × (pen .fresh + tileWords * jumpCount fits ≤ wordsNamed) ⌝ }
+    ensures { λ r. ⌜ (r ≡ turned fits pen) × (now (words .exit) ≡ written (jumpIf fits pen) (now (words .entry))) ⌝ }
+{
+    if fits {
+        return pen;
+    }
+    let at = pen.at;
+    let fresh = pen.fresh;
+    words[at] = JUMP;
+    words[at + 1] = fresh as u32;
+    Pen {
+        at: fresh,
+        left: TILE_WORDS,
+        fresh: fresh + TILE_WORDS,
+    }
+}
+
+// A pair, and a JUMP before it where it needs one.
+fn lay_pair(words: &mut [u32], pen: Pen, pair: Pair) -> Pen
+    requires { ⌜ (Room pen (pair ∷ []) (length (now words))) × (slotsFit mostSlots pair ≡ true) ⌝ }
+    ensures { λ r. ⌜ (r ≡ after pair pen) × (now (words .exit) ≡ written (pairChunks pair pen) (now (words .entry))) ⌝ }
+{
+    let ok = fits(pair, pen.left);
+    let size = pair_size(pair);
+    let here = turn(words, pen, ok);
+    let at = here.at;
+    put_pair(words, at, pair);
+    Pen {
+        at: at + size,
+        left: here.left - size,
+        fresh: here.fresh,
+    }
+}
+
+// What one path puts there.
+fn lay_put(words: &mut [u32], pen: Pen, put: Put) -> Pen
+    requires { ⌜ (Room pen (putList put) (length (now words))) × (allFit mostSlots (putList put) ≡ true) ⌝ }
+    ensures { λ r. ⌜ (r ≡ penAfter pen (putList put)) × (now (words .exit) ≡ written (begun pen (putList put)) (now (words .entry))) ⌝ }
+{
+    match put {
+        Put::Nothing => pen,
+        Put::Puts(pair) => lay_pair(words, pen, pair),
+    }
+}
+
+// Screen tile t's list; where the next fresh region is after it.
+pub fn lay_tile(
+    paths: &[u32],
+    paints: &[u32],
+    backdrops: &[i32],
+    stored: &[u32],
+    tally: &[u32],
+    cols: u32,
+    t: u32,
+    fresh: usize,
+    words: &mut [u32],
+) -> usize
+    requires { ⌜ (Ready (tables (now paths) (now paints) (now backdrops) (now stored) (now tally))) × (0 < cols) × (t < mostTiles)
+        × (Room (penOf t fresh) (tilePairs (tables (now paths) (now paints) (now backdrops) (now stored) (now tally)) cols t) (length (now words)))
+        × (allFit mostSlots (tilePairs (tables (now paths) (now paints) (now backdrops) (now stored) (now tally)) cols t) ≡ true) ⌝ }
+    ensures { λ r. ⌜ (now (words .exit) ≡ written (laid (penOf t fresh) (tilePairs (tables (now (paths .entry)) (now (paints .entry)) (now (backdrops .entry)) (now (stored .entry)) (now (tally .entry))) cols t)) (now (words .entry)))
+        × (r ≡ fresh + tileWords * jumpsOf ownWords (tilePairs (tables (now (paths .entry)) (now (paints .entry)) (now (backdrops .entry)) (now (stored .entry)) (now (tally .entry))) cols t)) ⌝ }
+{
+    let n = (paths.len() / PATH_WORDS) as u32;
+    let x = t % cols;
+    let y = t / cols;
+    let mut pen = Pen {
+        at: TILE_WORDS * (t as usize) + LIST_START,
+        left: TILE_WORDS - LIST_START,
+        fresh,
+    };
+    let mut p = 0u32;
+    while p < n {
+        let put = on_path(paths, paints, backdrops, stored, tally, x, y, p);
+        pen = lay_put(words, pen, put);
+        p += 1;
+    }
+    let at = pen.at;
+    words[at] = END;
+    pen.fresh
+}

@@ -1,0 +1,108 @@
+// How long a tile's list is, before a word of it is written.
+use crate::pairs::Pair;
+use crate::pairs::Put;
+use crate::pairs::on_path;
+use crate::sizes::fits;
+use crate::sizes::jump_count;
+use crate::sizes::left_at;
+use crate::sizes::pair_size;
+use commands::numbers::LIST_START;
+use commands::numbers::TILE_WORDS;
+use panel::limits::MOST_SLOTS;
+use panel::widths::PATH_WORDS;
+ghost use mathlib.Core.Path.{_≡_};
+ghost use Prim.Native.Nat.{_<_, _≤_};
+ghost use Rattle.panel.specs.Limits.{mostPaths};
+ghost use Rattle.commands.specs.Numbers.{tileWords};
+ghost use Rattle.write_lists.specs.Pairs.{tables, tilePairs, putList};
+ghost use Rattle.write_lists.specs.Lists.{slotsFit};
+ghost use Rattle.write_lists.specs.Ready.{Ready, noWeight, weighPair, weighAll};
+
+// A tile's pairs so far: how many, how many JUMPs between them, the words left in the region, and
+// whether all FILLs' slots fit.
+pub struct Weight {
+    pub pairs: u32,
+    pub jumps: u32,
+    pub left: usize,
+    pub slots: bool,
+}
+
+// Whether a FILL's slots lie within the room named and the limit, in 64 bits.
+fn slots_fit(room: u32, pair: Pair) -> bool
+    ensures { λ r. ⌜ r ≡ slotsFit room pair ⌝ }
+{
+    match pair {
+        Pair::Fill {
+            count,
+            rule: _,
+            first,
+            backdrop: _,
+            colour: _,
+        } => {
+            let end = first as u64 + count as u64;
+            (end <= room as u64) & (end <= MOST_SLOTS as u64)
+        }
+        Pair::Solid(_) => true,
+    }
+}
+
+// One pair more.
+fn weigh_pair(w: Weight, room: u32, pair: Pair) -> Weight
+    requires { ⌜ (w .pairs < mostPaths) × (w .jumps < mostPaths) × (w .left ≤ tileWords) ⌝ }
+    ensures { λ r. ⌜ r ≡ weighPair room pair w ⌝ }
+{
+    let ok = fits(pair, w.left);
+    let size = pair_size(pair);
+    let jump = jump_count(ok);
+    let here = left_at(ok, w.left);
+    let within = slots_fit(room, pair);
+    Weight {
+        pairs: w.pairs + 1,
+        jumps: w.jumps + jump,
+        left: here - size,
+        slots: w.slots & within,
+    }
+}
+
+// What one path puts there.
+fn weigh_put(w: Weight, room: u32, put: Put) -> Weight
+    requires { ⌜ (w .pairs < mostPaths) × (w .jumps < mostPaths) × (w .left ≤ tileWords) ⌝ }
+    ensures { λ r. ⌜ r ≡ weighAll room (putList put) w ⌝ }
+{
+    match put {
+        Put::Nothing => w,
+        Put::Puts(pair) => weigh_pair(w, room, pair),
+    }
+}
+
+// All that the paths put on screen tile t.
+pub fn weigh(
+    paths: &[u32],
+    paints: &[u32],
+    backdrops: &[i32],
+    stored: &[u32],
+    tally: &[u32],
+    cols: u32,
+    t: u32,
+    room: u32,
+) -> Weight
+    requires { ⌜ (Ready (tables (now paths) (now paints) (now backdrops) (now stored) (now tally))) × (0 < cols) ⌝ }
+    ensures { λ r. ⌜ r ≡ weighAll room (tilePairs (tables (now (paths .entry)) (now (paints .entry)) (now (backdrops .entry)) (now (stored .entry)) (now (tally .entry))) cols t) noWeight ⌝ }
+{
+    let n = (paths.len() / PATH_WORDS) as u32;
+    let x = t % cols;
+    let y = t / cols;
+    let mut w = Weight {
+        pairs: 0,
+        jumps: 0,
+        left: TILE_WORDS - LIST_START,
+        slots: true,
+    };
+    let mut p = 0u32;
+    while p < n {
+        let put = on_path(paths, paints, backdrops, stored, tally, x, y, p);
+        w = weigh_put(w, room, put);
+        p += 1;
+    }
+    w
+}
