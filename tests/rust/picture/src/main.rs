@@ -86,7 +86,7 @@ fn damaged(seed: u64, n: u64, names: &[String]) {
         let mut rng = Rng::of_case(seed, case);
         let base = &good[rng.below(good.len() as u64) as usize];
         let file = files::damaged(base, &mut rng);
-        let room = if rng.one_in(6) { rng.below(base.len() as u64) as usize } else { file.len() + rng.below(9) as usize };
+        let room = if rng.one_in(3) { rng.below(base.len() as u64) as usize } else { file.len() + rng.below(9) as usize };
         let answer = read_as_ruled(&file, room);
         *found.entry(answer.map_or_else(|number| number, |_| rules::DONE)).or_default() += 1;
     }
