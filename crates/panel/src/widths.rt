@@ -1,5 +1,5 @@
-// The widths of the records lent, and the places of a path's and a paint's words, each named once in code.
-// specs/Widths.antt names them for the contracts, and the function at the end says that the two
+// The widths of the records lent, and the places of a path's and a paint's words, each named once in
+// code. specs/Widths.antt names them for the contracts, and the function at the end says that the two
 // agree. docs/RULES.md, "How the records are lent".
 ghost use mathlib.Core.Path.{_≡_};
 ghost use Rattle.panel.specs.Widths.{widths};

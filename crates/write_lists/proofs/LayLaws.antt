@@ -1,8 +1,8 @@
 -- Lists laid out and written, pair by pair: what is left from here comes to the same as all of it. Assumes nothing.
-use mathlib.Core.Path.{_≡_, refl, sym, ap, subst, _∙_}
-use mathlib.Core.Bool.{Bool, true, false, _&&_}
+use mathlib.Core.Path.{_≡_, refl, sym, ap, _∙_}
+use mathlib.Core.Bool.{Bool, true, false}
 use mathlib.Core.List.{List, [], _∷_, _++_, append-assoc}
-use Prim.Native.Nat.{ℕ, zero, suc, _+_, _-_, _*_, _≤_, _<_}
+use Prim.Native.Nat.{ℕ, suc, _+_, _-_, _*_, _≤_}
 use native.Mathlib.Omega.{arith}
 use borrow.Author.Tests.{leb-true}
 use lib.Dec.{leb}
@@ -11,9 +11,9 @@ use lib.Seq.{sets, length-sets}
 use Rattle.lists.specs.Run.{actAll-append}
 use Rattle.panel.specs.Limits.{mostSlots}
 use Rattle.panel.proofs.PathLaws.{and-true}
-use Rattle.commands.specs.Numbers.{jumpWords, tileWords, endNo}
+use Rattle.commands.specs.Numbers.{jumpNo, jumpWords, tileWords}
 use Rattle.write_lists.specs.Pairs.{putList}
-use Rattle.write_lists.specs.Layout.{Chunk, chunk, penAt, pairSize, pairWords, fits, jumpIf, turned, past, after, pairChunks, laid, jumpCount, leftAt, leftAfter, jumpsOf, written, begun, penAfter}
+use Rattle.write_lists.specs.Layout.{Chunk, chunk, penAt, pairSize, pairWords, fits, jumpIf, turned, after, pairChunks, laid, jumpCount, leftAt, leftAfter, jumpsOf, written, begun, penAfter}
 use Rattle.write_lists.specs.Lists.{slotsFit, allFit, wordsNamed}
 use Rattle.write_lists.specs.Ready.{Room}
 use Rattle.write_lists.specs.declared.pairs.Pair.{Pair}
@@ -21,7 +21,7 @@ use Rattle.write_lists.specs.declared.pairs.Pair.the-variants.{Fill}
 use Rattle.write_lists.specs.declared.pairs.Put.{Put}
 use Rattle.write_lists.specs.declared.pairs.Put.the-variants.{Puts}
 use Rattle.write_lists.specs.declared.lay.Pen.{Pen}
-use Rattle.write_lists.proofs.SizeLaws.{pair-small, left-fits}
+use Rattle.write_lists.proofs.SizeLaws.{left-fits}
 
 -- ---- memory
 
@@ -150,10 +150,10 @@ solid-stores l i a b c d =
     let two : i + 2 ≡ suc (suc i) = omega arith in
     rw (one, three, two)
 
-pub jump-stores : (l : List ℕ) (i a b : ℕ) → set (set l i a) (i + 1) b ≡ sets l i (a ∷ b ∷ [])
-jump-stores l i a b =
-    let one : i + 1 ≡ suc i = omega arith in
-    rw one
+-- a JUMP to the fresh region's first word
+pub jump-laid : (pen : Pen) (to : ℕ) (words : List ℕ) → to ≡ pen .fresh
+    → (penAt to tileWords (pen .fresh + tileWords) ≡ turned false pen) × (set (set words (pen .at) jumpNo) (pen .at + 1) to ≡ written (jumpIf false pen) words)
+jump-laid pen to words e = let one : pen .at + 1 ≡ suc (pen .at) = omega arith in (rw e, rw (e, one))
 
 -- a FILL whose slots fit has few segments
 pub fill-few : (p : Pair) (count rule first backdrop colour : ℕ) → p ≡ Fill count rule first backdrop colour → slotsFit mostSlots p ≡ true → count ≤ mostSlots

@@ -1,13 +1,13 @@
 -- What a path puts on a tile, case by case. Assumes nothing.
-use mathlib.Core.Path.{_≡_, refl, sym, ap, _∙_}
-use mathlib.Core.Bool.{Bool, true, false, _&&_}
-use mathlib.Core.List.{List, [], _∷_, _++_}
-use Prim.Native.Nat.{ℕ, zero, suc, _+_, _-_, _*_, _≤_, _<_}
+use mathlib.Core.Path.{_≡_}
+use mathlib.Core.Bool.{true, false, _&&_}
+use mathlib.Core.List.{[], _∷_}
+use Prim.Native.Nat.{ℕ, _+_, _-_, _*_, _≤_, _<_}
 use native.Mathlib.Omega.{arith}
 use borrow.Author.Tests.{lt-ltb, le-ltb, leb-true, ltb-true}
 use lib.Dec.{leb, ltb}
-use lib.IntN.{ℤ, pos}
-use lib.ListN.{length, getD}
+use lib.IntN.{ℤ}
+use lib.ListN.{length}
 use Rattle.panel.specs.Limits.{mostTiles}
 use Rattle.panel.specs.Widths.{paintWords}
 use Rattle.panel.specs.Paths.{pathAt, pathCount, widthOf, endOf, tileOf}
@@ -15,9 +15,8 @@ use Rattle.panel.specs.Slots.{not32}
 use Rattle.panel.specs.declared.kinds.Path.{Path}
 use Rattle.panel.proofs.PathLaws.{InBox, own-tile, and-true, checked}
 use Rattle.commands.specs.Pixel.{evenOddOf}
-use Rattle.write_lists.specs.Pairs.{Tables, colourAt, ruleAt, inBox, covers, bitsOf, onTile, byPath, onPath}
+use Rattle.write_lists.specs.Pairs.{Tables, inBox, covers, bitsOf, onTile, byPath, onPath}
 use Rattle.write_lists.specs.Ready.{Ready}
-use Rattle.write_lists.specs.declared.pairs.Pair.{Pair}
 use Rattle.write_lists.specs.declared.pairs.Pair.the-variants.{Fill, Solid}
 
 -- ---- on a tile

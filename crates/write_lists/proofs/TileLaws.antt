@@ -1,12 +1,12 @@
 -- The screen's tiles one by one: those left, checked or written from here, come to the same as all of them. Assumes nothing.
 use mathlib.Core.Path.{_≡_, refl, sym, ap, _∙_}
 use mathlib.Core.Bool.{Bool, true, false, _&&_}
-use mathlib.Core.List.{List, [], _∷_, _++_}
-use Prim.Native.Nat.{ℕ, zero, suc, _+_, _-_, _*_, _%_, _/_, _≤_, _<_}
+use mathlib.Core.List.{List, [], _∷_}
+use Prim.Native.Nat.{ℕ, zero, suc, _+_, _*_, _/_, _≤_, _<_}
 use native.Mathlib.Nat.{zero-mul}
 use native.Mathlib.Omega.{arith}
 use borrow.Author.Tests.{eqb-true, leb-true}
-use lib.Dec.{eqb, leb}
+use lib.Dec.{leb}
 use lib.ListN.{length}
 use Rattle.lists.specs.Sums.{from}
 use Rattle.panel.specs.Limits.{mostTiles, mostSlots, mostCommands}
@@ -14,16 +14,14 @@ use Rattle.panel.specs.Refusals.{tooLong}
 use Rattle.panel.specs.Widths.{pathWords, paintWords}
 use Rattle.panel.specs.Checks.{firstNo, unless}
 use Rattle.panel.specs.Paths.{pathsAnswer}
-use Rattle.panel.specs.declared.kinds.Verdict.{Verdict}
-use Rattle.panel.specs.declared.kinds.Verdict.the-variants.{Fine}
 use Rattle.panel.specs.declared.kinds.Answer.{Answer}
 use Rattle.panel.specs.declared.kinds.Answer.the-variants.{Done, Refused}
 use Rattle.panel.proofs.CheckLaws.{all-ok, unless-done}
 use Rattle.panel.proofs.PathLaws.{and-true}
-use Rattle.commands.specs.Numbers.{jumpWords, tileWords}
+use Rattle.commands.specs.Numbers.{tileWords}
 use Rattle.write_lists.specs.Pairs.{Tables, tilePairs}
-use Rattle.write_lists.specs.Layout.{Chunk, laid, jumpsOf, ownWords, penOf, commandsOf, written}
-use Rattle.write_lists.specs.Lists.{lentChecks, callAnswer, longFrom, freshOf, slotsFit, allFit, fillsFit, wordsNamed, roomChecks, listsFrom, screenTiles, regionsOf, thenCheck, answerOf, listsOf, left, writeListsOf}
+use Rattle.write_lists.specs.Layout.{laid, jumpsOf, ownWords, penOf, commandsOf, written}
+use Rattle.write_lists.specs.Lists.{lentChecks, callAnswer, longFrom, freshOf, slotsFit, allFit, fillsFit, wordsNamed, roomChecks, listsFrom, regionsOf, thenCheck, answerOf, listsOf, left, writeListsOf}
 use Rattle.write_lists.specs.Ready.{Ready, noWeight, weighAll, tilesAnswer, Room}
 use Rattle.write_lists.specs.declared.pairs.Pair.{Pair}
 use Rattle.write_lists.specs.declared.pairs.Pair.the-variants.{Fill, Solid}

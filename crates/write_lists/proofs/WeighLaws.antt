@@ -2,14 +2,14 @@
 use mathlib.Core.Path.{_≡_, refl, sym, ap, _∙_}
 use mathlib.Core.Bool.{Bool, true, false, _&&_}
 use mathlib.Core.List.{List, [], _∷_, _++_}
-use Prim.Native.Nat.{ℕ, zero, suc, _+_, _-_, _*_, _≤_, _<_}
+use Prim.Native.Nat.{ℕ, suc, _+_, _-_, _≤_, _<_}
 use native.Mathlib.Omega.{arith}
 use lib.ListN.{length}
-use Rattle.lists.specs.Run.{actAll, actAll-append}
+use Rattle.lists.specs.Run.{actAll-append}
 use Rattle.lists.specs.Sums.{from}
 use Rattle.commands.specs.Numbers.{tileWords}
 use Rattle.write_lists.specs.Pairs.{Tables, onPath, pairsOf, putList}
-use Rattle.write_lists.specs.Layout.{pairSize, fits, jumpCount, leftAt, leftAfter, jumpsOf}
+use Rattle.write_lists.specs.Layout.{pairSize, fits, jumpCount, leftAt, jumpsOf}
 use Rattle.write_lists.specs.Lists.{slotsFit, allFit}
 use Rattle.write_lists.specs.Ready.{weightOf, weighPair, weighAll}
 use Rattle.write_lists.specs.declared.pairs.Pair.{Pair}

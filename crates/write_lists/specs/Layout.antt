@@ -1,7 +1,7 @@
 -- How a tile's pairs are laid out in regions of words: which words go where. No memory here. docs/RULES.md, "Command lists". Definitions only.
 use mathlib.Core.Bool.{Bool, true, false}
 use mathlib.Core.List.{List, [], _∷_, _++_}
-use Prim.Native.Nat.{ℕ, _+_, _-_, _*_, _%_}
+use Prim.Native.Nat.{ℕ, _+_, _-_, _*_}
 use lib.Dec.{leb}
 use lib.ListN.{length}
 use lib.Seq.{sets}

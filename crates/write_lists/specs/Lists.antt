@@ -11,7 +11,7 @@ use Rattle.panel.specs.Refusals.{notWhole, tooMany, noRoom, tooLong}
 use Rattle.panel.specs.Widths.{pathWords, paintWords}
 use Rattle.panel.specs.Kinds.{paperOf}
 use Rattle.panel.specs.Checks.{Check, check, firstNo, unless}
-use Rattle.panel.specs.Paths.{pathCount, pathsAnswer}
+use Rattle.panel.specs.Paths.{pathsAnswer}
 use Rattle.panel.specs.declared.kinds.Answer.{Answer}
 use Rattle.panel.specs.declared.kinds.Answer.the-variants.{Done, Refused}
 use Rattle.commands.specs.Numbers.{tileWords}

@@ -2,11 +2,9 @@
 use mathlib.Core.Path.{_≡_}
 use mathlib.Core.Bool.{Bool, true, _&&_}
 use mathlib.Core.List.{List}
-use Prim.Native.Nat.{ℕ, _+_, _*_, _/_, _≤_}
+use Prim.Native.Nat.{ℕ, _+_, _*_, _≤_}
 use lib.ListN.{length}
 use Rattle.lists.specs.Run.{actAll}
-use Rattle.lists.specs.Sums.{from}
-use Rattle.panel.specs.Refusals.{noRoom}
 use Rattle.panel.specs.Widths.{paintWords}
 use Rattle.panel.specs.Checks.{firstNo, unless}
 use Rattle.panel.specs.Paths.{pathCount, pathsAnswer}

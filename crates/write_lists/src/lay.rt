@@ -27,6 +27,10 @@ ghost use Rattle.write_lists.specs.Layout.{pairWords, pairSize, jumpIf, 
 ghost use Rattle.write_lists.specs.Lists.{slotsFit, allFit, wordsNamed};
 ghost use Rattle.write_lists.specs.Ready.{Ready, Room};
 
+// The word of a fresh region that a list goes on at: its first. In a tile's own region it starts at
+// LIST_START.
+const FRESH_START: usize = 0;
+
 // Where the next word goes, how many words are left in its region, and where the next fresh region
 // is.
 pub struct Pen {
@@ -74,10 +78,11 @@ fn turn(words: &mut [u32], pen: Pen, fits: bool) -> Pen
     }
     let at = pen.at;
     let fresh = pen.fresh;
+    let to = fresh + FRESH_START;
     words[at] = JUMP;
-    words[at + 1] = fresh as u32;
+    words[at + 1] = to as u32;
     Pen {
-        at: fresh,
+        at: to,
         left: TILE_WORDS,
         fresh: fresh + TILE_WORDS,
     }
@@ -112,7 +117,7 @@ fn lay_put(words: &mut [u32], pen: Pen, put: Put) -> Pen
 }
 
 // Screen tile t's list; where the next fresh region is after it.
-pub fn lay_tile(
+pub(crate) fn lay_tile(
     paths: &[u32],
     paints: &[u32],
     backdrops: &[i32],

@@ -106,7 +106,7 @@ fn by_path(
 }
 
 // What path p puts on the screen tile in column x and row y.
-pub fn on_path(
+pub(crate) fn on_path(
     paths: &[u32],
     paints: &[u32],
     backdrops: &[i32],

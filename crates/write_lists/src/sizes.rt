@@ -8,7 +8,7 @@ use commands::numbers::TILE_WORDS;
 ghost use mathlib.Core.Path.{_≡_};
 ghost use Rattle.write_lists.specs.Layout.{pairSize, fits, jumpCount, leftAt};
 
-pub fn pair_size(pair: Pair) -> usize
+pub(crate) fn pair_size(pair: Pair) -> usize
     ensures { λ r. ⌜ r ≡ pairSize pair ⌝ }
 {
     match pair {
@@ -24,7 +24,7 @@ pub fn pair_size(pair: Pair) -> usize
 }
 
 // Whether so many words have room for the pair and a JUMP: then END has room too.
-pub fn fits(pair: Pair, left: usize) -> bool
+pub(crate) fn fits(pair: Pair, left: usize) -> bool
     ensures { λ r. ⌜ r ≡ fits pair left ⌝ }
 {
     let size = pair_size(pair);
@@ -32,14 +32,14 @@ pub fn fits(pair: Pair, left: usize) -> bool
 }
 
 // The JUMPs before a pair that fits, or does not.
-pub fn jump_count(fits: bool) -> u32
+pub(crate) fn jump_count(fits: bool) -> u32
     ensures { λ r. ⌜ r ≡ jumpCount fits ⌝ }
 {
     if fits { 0 } else { 1 }
 }
 
 // The words left for it then.
-pub fn left_at(fits: bool, left: usize) -> usize
+pub(crate) fn left_at(fits: bool, left: usize) -> usize
     ensures { λ r. ⌜ r ≡ leftAt fits left ⌝ }
 {
     if fits { left } else { TILE_WORDS }

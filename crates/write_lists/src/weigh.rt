@@ -76,7 +76,7 @@ fn weigh_put(w: Weight, room: u32, put: Put) -> Weight
 }
 
 // All that the paths put on screen tile t.
-pub fn weigh(
+pub(crate) fn weigh(
     paths: &[u32],
     paints: &[u32],
     backdrops: &[i32],

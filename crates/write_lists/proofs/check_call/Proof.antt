@@ -1,5 +1,5 @@
 -- `write_lists::check_call` meets its contract. Assumes nothing.
-use mathlib.Core.Path.{_≡_, sym, _∙_}
+use mathlib.Core.Path.{sym, _∙_}
 use borrow.Author.Needs.{needs}
 use Rattle.panel.proofs.CheckLaws.{unless-no, unless-fine}
 use Rattle.write_lists.specs.Lists.{callAnswer}

@@ -1,20 +1,19 @@
 -- `write_lists::check_tiles` meets its contract. The loop's invariant: the tiles left, checked from here, come to the same answer as all of them.
 -- Assumes nothing.
-use mathlib.Core.Path.{_≡_, refl, sym, ap, _∙_}
+use mathlib.Core.Path.{_≡_, sym, ap, _∙_}
 use mathlib.Core.Bool.{Bool, true, false, _&&_}
-use mathlib.Core.List.{List, [], _∷_}
-use Prim.Native.Nat.{ℕ, _+_, _-_, _*_, _^_, _≤_, _<_}
+use mathlib.Core.List.{List}
+use Prim.Native.Nat.{ℕ, _+_, _-_, _*_, _^_, _≤_}
 use native.Mathlib.Omega.{arith}
 use borrow.Author.Needs.{needs}
 use borrow.Author.Tests.{le-leb, lt-leb}
 use lib.Dec.{leb}
-use lib.ListN.{length}
 use Rattle.lists.specs.Sums.{from}
 use Rattle.panel.specs.Limits.{mostCommands}
 use Rattle.panel.proofs.LimitLaws.{small}
 use Rattle.panel.proofs.CheckLaws.{unless-no, unless-fine}
 use Rattle.write_lists.specs.Pairs.{tables, tilePairs}
-use Rattle.write_lists.specs.Layout.{jumpsOf, ownWords, commandsOf}
+use Rattle.write_lists.specs.Layout.{commandsOf}
 use Rattle.write_lists.specs.Lists.{allFit}
 use Rattle.write_lists.specs.Ready.{tilesAnswer}
 use Rattle.write_lists.proofs.WeighLaws.{from-turn, from-end, from-all}

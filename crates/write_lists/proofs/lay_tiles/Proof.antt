@@ -1,14 +1,12 @@
 -- `write_lists::lay_tiles` meets its contract. The loop's invariant: the lists left, written from here, come to the same as all of them.
 -- Assumes nothing.
-use mathlib.Core.Path.{_≡_, refl, sym, ap, subst, _∙_}
-use mathlib.Core.List.{List, [], _∷_}
-use Prim.Native.Nat.{ℕ, _+_, _-_, _*_, _≤_, _<_}
+use mathlib.Core.Path.{subst}
+use mathlib.Core.List.{List}
+use Prim.Native.Nat.{ℕ, _+_, _-_, _≤_}
 use native.Mathlib.Omega.{arith}
 use borrow.Author.Needs.{needs}
-use lib.ListN.{length}
 use Rattle.lists.specs.Sums.{from}
 use Rattle.panel.proofs.LimitLaws.{small}
-use Rattle.commands.specs.Numbers.{tileWords}
 use Rattle.write_lists.specs.Pairs.{tables}
 use Rattle.write_lists.proofs.WeighLaws.{from-turn, from-end, from-all}
 use Rattle.write_lists.proofs.TileLaws.{Tiled, tiled-start, tiled-turn, tile-room, tile-slots}

@@ -1,6 +1,6 @@
 -- `groatpocket::gp_write_lists` meets its contract. Assumes nothing.
 use borrow.Author.Needs.{needs}
-use mathlib.Core.Path.{_≡_, ap}
+use mathlib.Core.Path.{ap}
 use Rattle.write_lists.specs.Lists.{Left}
 use Rattle.groatpocket.proofs.Told.{told-at}
 use Rattle.groatpocket.proofs.call_lists.gp_write_lists.Statement.{statement}

@@ -6,7 +6,7 @@ use lib.ListN.{length}
 use Rattle.panel.specs.Limits.{mostSlots}
 use Rattle.panel.proofs.PathLaws.{and-true}
 use Rattle.write_lists.specs.Pairs.{putList}
-use Rattle.write_lists.specs.Lists.{slotsFit, allFit}
+use Rattle.write_lists.specs.Lists.{allFit}
 use Rattle.write_lists.specs.Ready.{Room}
 use Rattle.write_lists.specs.declared.pairs.Pair.{Pair}
 use Rattle.write_lists.proofs.LayLaws.{put-laid}

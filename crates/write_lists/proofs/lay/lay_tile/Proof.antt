@@ -1,9 +1,9 @@
 -- `write_lists::lay::lay_tile` meets its contract. The loop's invariant: the pairs left, laid from the pen on, come to the same as all of them.
 -- Assumes nothing.
-use mathlib.Core.Path.{_≡_, refl, sym, ap, subst, _∙_}
+use mathlib.Core.Path.{_≡_, refl, subst}
 use mathlib.Core.Bool.{true}
-use mathlib.Core.List.{List, [], _∷_, _++_}
-use Prim.Native.Nat.{ℕ, _+_, _-_, _*_, _%_, _/_, _≤_, _<_}
+use mathlib.Core.List.{List}
+use Prim.Native.Nat.{_+_, _-_, _%_, _/_, _≤_}
 use native.Mathlib.Omega.{arith}
 use borrow.Author.Needs.{needs}
 use lib.ListN.{length}
@@ -12,9 +12,8 @@ use Rattle.panel.specs.Limits.{mostSlots}
 use Rattle.panel.specs.Paths.{pathCount}
 use Rattle.panel.proofs.LimitLaws.{small}
 use Rattle.panel.proofs.PathLaws.{checked}
-use Rattle.commands.specs.Numbers.{jumpWords, endNo}
 use Rattle.write_lists.specs.Pairs.{tables, pairsOf, tilePairs, putList}
-use Rattle.write_lists.specs.Layout.{penOf, laid, written}
+use Rattle.write_lists.specs.Layout.{penOf}
 use Rattle.write_lists.specs.Lists.{allFit}
 use Rattle.write_lists.specs.Ready.{Room}
 use Rattle.write_lists.specs.declared.pairs.Pair.{Pair}

@@ -1,13 +1,11 @@
 -- `write_lists::lay::put_pair` meets its contract. Assumes nothing.
-use mathlib.Core.Path.{_≡_, sym, ap, _∙_}
-use Prim.Native.Nat.{ℕ, _+_}
+use mathlib.Core.Path.{_≡_, ap}
+use Prim.Native.Nat.{_+_}
 use native.Mathlib.Omega.{arith}
 use lib.ListN.{length-set}
-use Rattle.panel.specs.Limits.{mostSlots}
 use Rattle.panel.proofs.LimitLaws.{small}
 use Rattle.commands.specs.Numbers.{fillWords, solidWords, colorWords}
 use Rattle.write_lists.specs.Layout.{pairSize}
-use Rattle.write_lists.specs.Lists.{slotsFit}
 use Rattle.write_lists.proofs.LayLaws.{fill-few, fill-stores, solid-stores}
 use borrow.Author.Needs.{needs}
 use Rattle.write_lists.proofs.lay.put_pair.Statement.{statement}

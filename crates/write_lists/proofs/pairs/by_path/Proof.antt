@@ -1,5 +1,5 @@
 -- `write_lists::pairs::by_path` meets its contract. Assumes nothing.
-use mathlib.Core.Path.{_≡_, ap, _∙_}
+use mathlib.Core.Path.{ap, _∙_}
 use lib.IntN.{ℤ, pos}
 use lib.ListN.{getD}
 use Rattle.write_lists.specs.Pairs.{colourAt, ruleAt, onTile}

@@ -1,6 +1,6 @@
 -- `write_lists::pairs::covers` meets its contract. Assumes nothing.
-use mathlib.Core.Path.{_≡_, sym, ap, _∙_}
-use mathlib.Core.Bool.{Bool, not}
+use mathlib.Core.Path.{ap}
+use mathlib.Core.Bool.{not}
 use native.Mathlib.Omega.{arith}
 use Rattle.write_lists.proofs.Signed.{back, half-fits, odd-bit, zero-bits}
 use Rattle.write_lists.proofs.pairs.covers.Statement.{statement}

@@ -2,8 +2,7 @@
 -- of it. Assumes nothing.
 
 use mathlib.Core.Path.{_≡_, refl, sym, ap, _∙_}
-use mathlib.Core.Bool.{true}
-use Prim.Native.Nat.{ℕ, _+_, _-_, _%_, _/_, _≤_, _<_}
+use Prim.Native.Nat.{ℕ, _-_, _%_, _/_, _≤_}
 use native.Mathlib.Omega.{arith}
 use borrow.Author.Needs.{needs}
 use lib.ListN.{length}
@@ -15,7 +14,6 @@ use Rattle.panel.proofs.LimitLaws.{small}
 use Rattle.panel.proofs.PathLaws.{checked}
 use Rattle.write_lists.specs.Pairs.{tables, pairsOf, tilePairs, putList}
 use Rattle.write_lists.specs.Ready.{noWeight, weighAll}
-use Rattle.write_lists.specs.declared.weigh.Weight.{Weight}
 use Rattle.write_lists.proofs.WeighLaws.{Light, put-light, from-all, pairs-end, weigh-turn}
 use Rattle.write_lists.proofs.weigh.weigh.Statement.{statement}
 use Rattle.write_lists.proofs.weigh.weigh.Tie as tie

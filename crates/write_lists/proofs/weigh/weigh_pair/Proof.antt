@@ -1,5 +1,5 @@
 -- `write_lists::weigh::weigh_pair` meets its contract. Assumes nothing.
-use mathlib.Core.Path.{_≡_, ap, _∙_}
+use mathlib.Core.Path.{ap, _∙_}
 use mathlib.Core.Bool.{Bool}
 use native.Mathlib.Omega.{arith}
 use Rattle.write_lists.specs.Layout.{leftAt}
