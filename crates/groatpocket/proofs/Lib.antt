@@ -1,3 +1,4 @@
 -- What the exported functions' proofs share.
 pub mod Told
 pub mod ToldFrame
+pub mod ToldPpm

@@ -3,3 +3,4 @@ pub mod Seen
 pub mod Calls
 pub mod CallFrame
 pub mod CallLists
+pub mod CallPpm

@@ -7,7 +7,7 @@ use native.Mathlib.Omega.{arith}
 use lib.ListN.{length, drop, length-drop}
 use lib.Seq.{sets}
 use borrow.Author.Tests.{le-leb, lt-leb, eq-eqb, ne-eqb}
-use Rattle.panel.specs.Refusals.{doneNo, noRoom, badSize, badFile}
+use Rattle.panel.specs.Refusals.{noRoom, badSize, badFile}
 use Rattle.ppm_write.specs.Bytes.{pixelBytes}
 use Rattle.ppm_write.specs.Write.{refused, sideOk}
 use Rattle.ppm_write.proofs.Answers.{both-left, both-right}
@@ -52,7 +52,7 @@ good-held noHeader w h r e ok = let z : _≡_ {A = ℕ} 0 1 = cc in absurd (omeg
 -- a raster that is whole and has room
 read-in : (w h : ℕ) (r out out′ : List ℕ) → sideOk w && sideOk h ≡ true → length r ≡ w * h * pixelBytes → length r ≤ length out
     → out′ ≡ sets out 0 r
-    → record { answer = doneNo ∷ w ∷ h ∷ []; bytes = out′ } ≡ onHeader (size w h r) out
+    → record { answer = paperOf (Done w h); bytes = out′ } ≡ onHeader (size w h r) out
 read-in w h r out out′ ok n l copied =
     rw (ok, eq-eqb (length r) (w * h * pixelBytes) n, le-leb (length r) (length out) l, copied, sets-front r out l)
 
@@ -90,7 +90,7 @@ module _ (file out : List ℕ) (x : Head) (found : heldHeader (sizedOf file x) �
             ) at good
 
         pub done-read : w * h * pixelBytes ≤ length out → (out′ : List ℕ) → out′ ≡ sets out 0 (drop at file)
-            → record { answer = doneNo ∷ w ∷ h ∷ []; bytes = out′ } ≡ readOf file out
+            → record { answer = paperOf (Done w h); bytes = out′ } ≡ readOf file out
         done-read l out′ copied =
             let l′ : length (drop at file) ≤ length out = omega (arith, length-drop at file) in
             read-in w h (drop at file) out out′ ok (length-drop at file ∙ whole) l′ copied ∙ good

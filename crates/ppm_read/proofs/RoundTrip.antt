@@ -20,7 +20,7 @@ use Rattle.ppm_read.specs.declared.Stage.the-variants.{Start, Gap, Digit
 use Rattle.ppm_read.specs.Bytes.{isDigit, kindOf}
 use Rattle.ppm_read.specs.Header.{got, numberFrom, size, headerOf}
 use Rattle.ppm_read.proofs.ByteKinds.{kind-digit}
-use Rattle.ppm_read.specs.Read.{readIn, readOf}
+use Rattle.ppm_read.specs.Read.{readOf}
 
 digit-kind : (d : ℕ) → d < ten → kindOf (digit d) ≡ Digit d
 digit-kind d h =
@@ -100,7 +100,7 @@ header-back ps w h = rw (file-shape ps w h, width-read w, height-read h, most-re
 
 -- and is read so
 pub file-back : (ps : List ℕ) (w h : ℕ) (back : List ℕ) → sideOk w && sideOk h ≡ true → length ps ≡ w * h → length (rasterOf ps) ≤ length back
-    → readOf (fileOf ps w h) back ≡ readIn w h (rasterOf ps) back
+    → readOf (fileOf ps w h) back ≡ record { answer = doneNo ∷ w ∷ h ∷ []; bytes = rasterOf ps ++ drop (length (rasterOf ps)) back }
 unfolding readOf
 file-back ps w h back ok n room =
     let whole : length (rasterOf ps) ≡ w * h * pixelBytes = omega (arith, raster-length ps, n) in
@@ -131,11 +131,13 @@ accepted ps w h out n = go (sideOk w && sideOk h) refl (eqb (length ps) (w * h))
     go false ea b eb c e = let z : _≡_ {A = ℕ} badSize doneNo = cc in absurd (omega arith)
 
 -- The round trip. Where the writer answers that it wrote n bytes, the reader, given those n bytes and
--- room for the raster, answers the same width and height, and hands out the bytes of the pixels.
+-- room for the raster, answers the same width and height, and hands out the bytes of the pixels; what is
+-- past them stays. It is said in full here, and not in the reader's own terms.
 pub round-trip : (ps : List ℕ) (w h : ℕ) (out back : List ℕ) (n : ℕ)
     → writeOf ps w h out .answer ≡ doneNo ∷ n ∷ []
     → length (rasterOf ps) ≤ length back
-    → readOf (take n (writeOf ps w h out .bytes)) back ≡ readIn w h (rasterOf ps) back
+    → readOf (take n (writeOf ps w h out .bytes)) back
+    ≡ record { answer = doneNo ∷ w ∷ h ∷ []; bytes = rasterOf ps ++ drop (length (rasterOf ps)) back }
 round-trip ps w h out back n e room =
     let all = accepted ps w h out n e in
     let file = fileOf ps w h in

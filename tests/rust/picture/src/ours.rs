@@ -1,0 +1,22 @@
+//! The archive's writer and reader of pictures, behind safe calls.
+
+extern "C" {
+    fn gp_ppm_write(pixels: *const u32, pixels_len: usize, width: u32, height: u32, out: *mut u8, out_len: usize, size: *mut usize) -> u32;
+    fn gp_ppm_read(file: *const u8, file_len: usize, out: *mut u8, out_len: usize, width: *mut u32, height: *mut u32) -> u32;
+}
+
+/// The number, and how many bytes were written.
+pub fn write(pixels: &[u32], width: u32, height: u32, out: &mut [u8]) -> (u32, usize) {
+    let mut size = usize::MAX;
+    // SAFETY: every pointer and length is a slice's, lent for the call alone.
+    let number = unsafe { gp_ppm_write(pixels.as_ptr(), pixels.len(), width, height, out.as_mut_ptr(), out.len(), &mut size) };
+    (number, size)
+}
+
+/// The number, the width and the height.
+pub fn read(file: &[u8], out: &mut [u8]) -> (u32, u32, u32) {
+    let (mut width, mut height) = (u32::MAX, u32::MAX);
+    // SAFETY: as above.
+    let number = unsafe { gp_ppm_read(file.as_ptr(), file.len(), out.as_mut_ptr(), out.len(), &mut width, &mut height) };
+    (number, width, height)
+}
