@@ -1,9 +1,6 @@
 //! The archive's writer and reader of pictures, behind safe calls.
 
-extern "C" {
-    fn gp_ppm_write(pixels: *const u32, pixels_len: usize, width: u32, height: u32, out: *mut u8, out_len: usize, size: *mut usize) -> u32;
-    fn gp_ppm_read(file: *const u8, file_len: usize, out: *mut u8, out_len: usize, width: *mut u32, height: *mut u32) -> u32;
-}
+use groatpocket::raw::{gp_ppm_read, gp_ppm_write};
 
 /// The number, and how many bytes were written.
 pub fn write(pixels: &[u32], width: u32, height: u32, out: &mut [u8]) -> (u32, usize) {
