@@ -5,10 +5,10 @@ use Prim.Native.Nat.{ℕ, _+_, _*_, _≤_, _<_}
 use native.Mathlib.Nat.{le-of-eq}
 use native.Mathlib.Omega.{arith}
 use lib.Dec.{T, ltb, eqb}
-use lib.Ieee.{Float, nan, inf, fin, binary32, up, down, below, level, lt, eq, sub, toUnsigned, isNan}
+use lib.Ieee.{Float, nan, inf, fin, binary32, up, down, below, level, lt, eq, sub, mul, neg, ofBits, toUnsigned, isNan}
 use borrow.Author.Tests.{le-ltb, eqb-true}
 use Rattle.float32.specs.Meaning.{floorOf, ceilOf, minOf, maxOf}
-use Rattle.util.specs.Constants.{one}
+use Rattle.util.specs.Constants.{zero, half, one, minusOne}
 use Rattle.util.specs.Span.{spanOf}
 use Rattle.util.specs.declared.Vec2.{Vec2}
 use Rattle.exact.specs.Reach.{Near}
@@ -71,3 +71,9 @@ same-row a b x = go (eq a b) refl
     go : (t : Bool) → eq a b ≡ t → cond t (ceilOf (lastOf a b)) x ≡ cond t (ceilOf a) x
     go true e = ap (λ (s : Bool). ceilOf (cond s b a)) (eq-not-lt a b e)
     go false e = refl
+
+-- 0 or -1, from 1 or -1
+pub off-is : (rises : Bool) → mul binary32 (sub binary32 (cond rises one minusOne) one) half ≡ cond rises zero minusOne
+unfolding ofBits neg sub mul
+off-is true = refl
+off-is false = refl

@@ -56,7 +56,8 @@ fn counts_by(s0: Vec2, s1: Vec2, top: f32, bottom: f32) -> Counts
     Counts { count_x, count }
 }
 
-// `walk::setup::incline`, with the same rows.
+// `walk::setup::incline`, with the same rows. What is added for x0, 0 or -1, is no branch, since a line
+// falls as often as it rises.
 fn slope_by(s0: Vec2, s1: Vec2, top: f32, bottom: f32) -> Slope
     requires { ⌜ Rows s0 s1 top bottom ⌝ }
     ensures { λ r. ⌜ r ≡ slopeOf s0 s1 ⌝ }
@@ -69,7 +70,7 @@ fn slope_by(s0: Vec2, s1: Vec2, top: f32, bottom: f32) -> Slope
     let xt0 = float32::floor(s0.x * sign);
     let c = s0.x * sign - xt0;
     let ytop = pick(s0.y == s1.y, bottom, top + 1.0);
-    let x0 = xt0 * sign + pick(is_positive_slope, 0.0, -1.0);
+    let x0 = xt0 * sign + (sign - 1.0) * 0.5;
     Slope {
         dx,
         dy,
