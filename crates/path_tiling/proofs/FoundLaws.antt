@@ -20,15 +20,15 @@ real nan h = absurd (h .few)
 real (inf s) h = absurd (h .few)
 real (fin s m e) h = refl
 
+pub smaller : (a b : Float) → isNan a ≡ false → minOf a b ≡ cond (lt b a) b a
+smaller a b h = unfold minOf in rw h refl
+
 pub span-is : (a b : Float) → Near a → spanOf a b ≡ toUnsigned 32 (maxOf (sub binary32 (ceilOf (lastOf a b)) (floorOf (cond (lt b a) b a))) one)
 unfolding spanOf
 span-is a b h = ap (λ (x : Float). toUnsigned 32 (maxOf (sub binary32 (ceilOf x) (floorOf (minOf a b))) one)) (larger a b (real a h)) ∙ ap (λ (x : Float). toUnsigned 32 (maxOf (sub binary32 (ceilOf (lastOf a b)) (floorOf x)) one)) (smaller a b (real a h))
   where
     larger : (a b : Float) → isNan a ≡ false → maxOf a b ≡ lastOf a b
     larger a b h = unfold maxOf in rw h refl
-
-    smaller : (a b : Float) → isNan a ≡ false → minOf a b ≡ cond (lt b a) b a
-    smaller a b h = unfold minOf in rw h refl
 
 -- the columns, and the rows
 pub across : (a b : Float) {left right : Float} {n : ℕ} → Near a → right ≡ ceilOf (cond (lt a b) b a) → left ≡ floorOf (cond (lt b a) b a) → n ≡ toUnsigned 32 (maxOf (sub binary32 right left) one) → n ≡ spanOf a b

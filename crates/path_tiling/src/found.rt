@@ -9,7 +9,7 @@ ghost use Rattle.float32.specs.Meaning.{floorOf, ceilOf, maxOf};
 ghost use Rattle.util.specs.Constants.{one};
 ghost use Rattle.panel.specs.Widths.{lineFloats};
 ghost use Rattle.walk.specs.Setup.{Scaled, countsOf, slopeOf, aOf, walkOn};
-ghost use Rattle.walk.specs.Skip.{flatOf};
+ghost use Rattle.walk.specs.Skip.{flatOf, pastOf};
 ghost use Rattle.walk.specs.Lent.{Reached, walkedOf, walkAt};
 ghost use Rattle.path_tiling.specs.Found.{lastOf, Rows};
 use panel::checks::path_at;
@@ -42,6 +42,18 @@ fn flat_by(s0: Vec2, s1: Vec2, top: f32) -> bool
     let dx = float32::abs(s1.x - s0.x);
     let dy = s1.y - s0.y;
     (dx + dy == 0.0) | ((dy == 0.0) & (top == s0.y))
+}
+
+// `walk::skip::past`, of a line that was checked.
+fn past_by(s0: Vec2, s1: Vec2, b: Path) -> bool
+    requires { ⌜ Scaled s0 ⌝ }
+    ensures { λ r. ⌜ r ≡ pastOf s0 s1 b ⌝ }
+{
+    let left = pick(s1.x < s0.x, s1.x, s0.x);
+    let top = float32::of_u32(b.y0);
+    let right = float32::of_u32(b.x1);
+    let bottom = float32::of_u32(b.y1);
+    (s0.y >= bottom) | ((s1.y < top) | ((left >= right) | (b.x1 == b.x0)))
 }
 
 // `walk::setup::count_steps`, with the rows that the line starts and ends in.
@@ -140,7 +152,7 @@ fn walk_by(p0: Vec2, p1: Vec2, b: Path) -> Walked
         return walk::lent::walk_on(p0, p1, b);
     }
     let top = float32::floor(s0.y);
-    if flat_by(s0, s1, top) | walk::skip::past(s0, s1, b) {
+    if flat_by(s0, s1, top) | past_by(s0, s1, b) {
         return Walked::Skipped;
     }
     Walked::Line(setup_by(e, top), b)
