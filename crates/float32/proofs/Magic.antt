@@ -3,8 +3,8 @@
 use mathlib.Core.Path.{_≡_, refl, sym, ap, _∙_, subst}
 use mathlib.Core.Bool.{Bool, true, false, not, _&&_, _||_, Bool·beq, cond, true≢false, false≢true}
 use mathlib.Core.Logic.{_⊎_, inl, inr}
-use Prim.Native.Nat.{ℕ, zero, suc, _+_, _-_, _*_, _/_, _%_, _^_, _≤_, _<_, min, compare, Ordering, Ordering·lt, Ordering·eq, Ordering·gt}
-use native.Mathlib.Nat.{mul-div-cancel, eq-of-mul-eq-mul-right, le-refl, le-trans, le-of-eq, le-of-lt, le-antisymm, lt-of-lt-of-le, lt-of-le-of-lt, lt-irrefl, mul-one, one-mul, mul-assoc, mul-comm, mul-right-comm, mul-pos, mul-sub, add-mul, div-one, div-eq-of-lt-le, le-div-iff-mul-le, div-lt-iff-lt-mul, mul-le-mul-right, mul-lt-mul-of-pos-right, lt-of-mul-lt-mul-right, le-of-mul-le-mul-right}
+use Prim.Native.Nat.{ℕ, zero, suc, _+_, _-_, _*_, _/_, _%_, _^_, _≤_, _<_, zero-le, min, compare, Ordering, Ordering·lt, Ordering·eq, Ordering·gt}
+use native.Mathlib.Nat.{sub-zero, div-mul-le-self, div-add-mod', mod-lt, mul-div-cancel, eq-of-mul-eq-mul-right, le-refl, le-trans, le-of-eq, le-of-lt, le-antisymm, lt-of-lt-of-le, lt-of-le-of-lt, lt-irrefl, mul-one, one-mul, mul-assoc, mul-comm, mul-right-comm, mul-pos, mul-sub, add-mul, div-one, div-eq-of-lt-le, le-div-iff-mul-le, div-lt-iff-lt-mul, mul-le-mul-right, mul-lt-mul-of-pos-right, lt-of-mul-lt-mul-right, le-of-mul-le-mul-right}
 use native.Mathlib.Omega.{arith}
 use lib.Dec.{T, ltb, eqb, le→leb, lt→ltb, lit<, lit≤}
 use lib.Pow.{pow-pos, pow-mono}
@@ -15,11 +15,13 @@ use lib.Ieee.Fits.{down-pos, core, round-is, round-fits, nearest-le}
 use lib.Ieee.Exact.{HasValue, units-val}
 use lib.Ieee.Nearest.{closest, closest-mono, closest-same}
 use lib.Ieee.Back.{whole-unique, unsigned-back, positive-back, negative-back}
-use lib.Ieee.Scale.{round-same}
+use lib.Ieee.Scale.{round-same, finite}
 use borrow.Author.Tests.{lt-ltb, le-ltb, ltb-true, ltb-false, eq-eqb, eqb-true}
 use Rattle.float32.specs.Meaning.{whole, unit, up-div, floorOf, ceilOf}
 use Rattle.float32.proofs.Tests.{below-or-not, first}
 use Rattle.float32.proofs.Whole.{whole-fits, whole-value, reduced}
+use Rattle.float32.proofs.Order.{eq-not-lt, eq-not-gt}
+use Rattle.float32.proofs.Laws.{up-exact}
 use Rattle.float32.proofs.Steps.{lt-plus, gt-plus, lt-minus, gt-minus, one-less, up-same, trunc-exact}
 
 -- ---- from 2 ^ 23 up to 2 ^ 24 a fraction rounds to the whole number closest to it
@@ -109,6 +111,18 @@ sum-off N W c C = go (below-or-not N W)
     go (inl l) = rw (lt-ltb (N * c) (W * c) (mul-lt-mul-of-pos-right l C), lt-ltb N W l) (round-same binary32 true (W * c - N * c) c (W - N) 1 C (lit< tt) (less W N c))
     go (inr l) = rw (le-ltb (N * c) (W * c) (mul-le-mul-right c l), le-ltb N W l) (round-same binary32 false (N * c - W * c) c (N - W) 1 C (lit< tt) (less N W c))
 
+zero-more : (r : Float) (n : ℕ) → HasValue r true n 1 → add binary32 r (fin true 0 (pos 0)) ≡ whole true n
+unfolding add sum
+zero-more nan n v = absurd v
+zero-more (inf t) n v = absurd v
+zero-more (fin false k d) n v = absurd (false≢true (v .0))
+zero-more (fin true k d) n v =
+    round-same binary32 true (k * up d * 1 + 0 * 1 * down d) (down d * 1) n 1 (subst (λ (z : ℕ). 0 < z) (sym (mul-one (down d))) (down-pos d)) (lit< tt)
+    (more (k * up d) (down d) n (v .1))
+  where
+    more : (P D n : ℕ) → P * 1 ≡ n * D → (P * 1 + 0 * 1 * D) * 1 ≡ n * (D * 1)
+    more P D n h = omega (arith, mul-one D, h)
+
 -- y is the whole number N
 pub taken-off : (k j N : ℕ) (y : Float) → HasValue y false N 1
     → sub binary32 y (shift k j) ≡ cond (ltb N (k * 2 ^ j)) (whole true (k * 2 ^ j - N)) (whole false (N - k * 2 ^ j))
@@ -146,6 +160,7 @@ pub record Floored (x r : Float) : Type 0 where
   pub same : eq x r ≡ true → x ≡ floorOf x
   pub less : eq x r ≡ false → lt x r ≡ true → sub binary32 r (unit false) ≡ floorOf x
   pub more : eq x r ≡ false → lt x r ≡ false → r ≡ floorOf x
+  pub value : (s : Bool) × (n : ℕ) × (r ≡ whole s n) × HasValue r s n 1
 
 -- a whole x is its own floor
 same-size : (A D K d n : ℕ) → 0 < d → A * d ≡ K * D → K * 1 ≡ n * d → A ≡ n * D
@@ -182,6 +197,12 @@ div-is A D n l u = div-eq-of-lt-le D l (subst (λ (z : ℕ). A < z) (sym (add-mu
 
 up-is : (A D n : ℕ) → 0 < D → A ≤ n * D → n * D < A + D → up-div A D ≡ n
 up-is A D n p l u = div-is (A + (D - 1)) D n (omega arith) (omega arith)
+
+up-reach : (A D : ℕ) → 0 < D → A ≤ up-div A D * D
+up-reach A D p = go (up-div A D * D) ((A + (D - 1)) % D) (div-add-mod' (A + (D - 1)) D) (mod-lt (A + (D - 1)) p)
+  where
+    go : (x r : ℕ) → x + r ≡ A + (D - 1) → r < D → A ≤ x
+    go x r e l = omega arith
 
 -- ---- x from 0 up
 plus-bounds : (A D N W : ℕ) → 0 < D → A + W * D < N * D + D → N * D < A + W * D + D → (n : ℕ) × (N ≡ W + n) × (A < n * D + D) × (n * D < A + D)
@@ -227,7 +248,7 @@ floor-plus m e h l =
     λ g t. one-off n (near (fin false m e)) v ∙ below A D n (ltb-true A (n * D) (sym (lt-plus m e (near (fin false m e)) n v) ∙ t)) (b .4) in
     let hi : eq (fin false m e) (near (fin false m e)) ≡ false → lt (fin false m e) (near (fin false m e)) ≡ false → near (fin false m e) ≡ whole false (A / D) =
     λ g t. b .1 ∙ ap (whole false) (sym (div-is A D n (ltb-false A (n * D) (sym (lt-plus m e (near (fin false m e)) n v) ∙ t)) (b .3))) in
-    record { same = itself false m e (near (fin false m e)) false n h v; less = lo; more = hi }
+    record { same = itself false m e (near (fin false m e)) false n h v; less = lo; more = hi; value = (false, n, b .1, v) }
   where
     below : (A D n : ℕ) → A < n * D → n * D < A + D → cond (ltb n 1) (whole true (1 - n)) (whole false (n - 1)) ≡ whole false (A / D)
     below A D zero u b = absurd (none A D u)
@@ -300,7 +321,7 @@ floor-zero m e r h i l =
     λ g t.
     let z : A ≡ 0 = none A D (ltb-false 0 (A * 1 + 0 * 1 * D) (sym (ap (λ (x : Float). lt (fin true m e) x) i) ∙ t)) in
     absurd (true≢false (sym (level-zero A D z) ∙ sym (ap (λ (x : Float). eq (fin true m e) x) i) ∙ g)) in
-    record { same = itself true m e r false 0 h v; less = lo; more = hi }
+    record { same = itself true m e r false 0 h v; less = lo; more = hi; value = (false, 0, i ∙ sym zero-is, v) }
   where
     one : (A D : ℕ) → 0 < A * 1 + 0 * 1 * D → 1 * D < A + D
     one A D h = omega arith
@@ -335,7 +356,7 @@ floor-minus m e h l = go (near-minus m e l)
         λ g t. one-less r n v ∙ ap (whole true) (sym (more A D n (down-pos e) (ltb-true (n * D) A (sym (lt-minus m e r n v) ∙ t)) (b .3))) in
         let hi : eq (fin true m e) r ≡ false → lt (fin true m e) r ≡ false → r ≡ whole true (up-div A D) =
         λ g t. b .1 ∙ ap (whole true) (sym (up-is A D n (down-pos e) (ltb-false (n * D) A (sym (lt-minus m e r n v) ∙ t)) (b .4))) in
-        record { same = itself true m e r true n h v; less = lo; more = hi }
+        record { same = itself true m e r true n h v; less = lo; more = hi; value = (true, n, b .1, v) }
       where
         more : (A D n : ℕ) → 0 < D → n * D < A → A < n * D + D → up-div A D ≡ n + 1
         more A D n p u w =
@@ -353,6 +374,59 @@ floor-near (inf true) h l u = absurd (false≢true u)
 floor-near (inf false) h l u = absurd (false≢true l)
 floor-near (fin false m e) h l u = floor-plus m e h (ltb-true (m * up e) (4194304 * down e) (sym (lt-plus m e (limit false) 4194304 (refl, refl)) ∙ l))
 floor-near (fin true m e) h l u = floor-minus m e h (ltb-true (m * up e) (4194304 * down e) (sym (gt-minus m e (limit true) 4194304 (refl, refl)) ∙ u))
+
+-- ---- what `floor` makes of it: one less or none, and the smaller of that and x
+none-off : (r : Float) (s : Bool) (n : ℕ) → HasValue r s n 1 → sub binary32 r (fin false 0 (pos 0)) ≡ whole s n
+none-off r false n v = taken-off 0 0 n r v ∙ rw (le-ltb n 0 zero-le) (ap (whole false) (sub-zero n))
+none-off r true n v = minus-none r n v
+  where
+    minus-none : (r : Float) (n : ℕ) → HasValue r true n 1 → sub binary32 r (fin false 0 (pos 0)) ≡ whole true n
+    minus-none r n v = unfold sub in zero-more r n v
+
+pub floor-own : (x : Float) → T (fits binary32 x) → T (finite x) → lt (floorOf x) x ≡ false → x ≡ floorOf x
+unfolding floorOf
+floor-own nan h f l = absurd f
+floor-own (inf s) h f l = absurd f
+floor-own (fin false m e) h f l =
+    let q = m * up e / down e in
+    own false m e q h (le-antisymm (ltb-false (q * down e) (m * up e) (sym (gt-plus m e (whole false q) q (trunc-exact false m e h)) ∙ l)) (div-mul-le-self (m * up e) (down e)))
+floor-own (fin true m e) h f l =
+    let p = up-div (m * up e) (down e) in
+    let g : p * down e ≤ m * up e = ltb-false (m * up e) (p * down e) (sym (gt-minus m e (whole true p) p (up-exact true m e h)) ∙ l) in
+    let w : m * up e ≡ p * down e = le-antisymm (up-reach (m * up e) (down e) (down-pos e)) g in
+    own true m e p h w ∙ ap (whole true) (whole-part m e p w)
+
+near-finite : (x : Float) → lt x (limit false) ≡ true → lt (limit true) x ≡ true → T (finite x)
+unfolding lt
+near-finite nan l u = absurd (false≢true l)
+near-finite (inf true) l u = absurd (false≢true u)
+near-finite (inf false) l u = absurd (false≢true l)
+near-finite (fin s m e) l u = tt
+
+-- f is what is left, less the step
+pub record Least (x f : Float) : Type 0 where
+  pub below : lt f x ≡ true → f ≡ floorOf x
+  pub level : lt f x ≡ false → x ≡ floorOf x
+
+pub floor-least : (x step : Float) → T (fits binary32 x) → lt x (limit false) ≡ true → lt (limit true) x ≡ true
+    → ((lt x (near x) ≡ true) × (step ≡ unit false)) ⊎ ((lt x (near x) ≡ false) × (step ≡ fin false 0 (pos 0)))
+    → Least x (sub binary32 (near x) step)
+floor-least x step h l u w = go (floor-near x h l u) (eq x (near x)) refl w
+  where
+    clash : {b : Bool} → b ≡ true → b ≡ false → ⊥
+    clash p q = true≢false (sym p ∙ q)
+
+    stays : (F : Floored x (near x)) → step ≡ fin false 0 (pos 0) → sub binary32 (near x) step ≡ near x
+    stays F p = ap (sub binary32 (near x)) p ∙ none-off (near x) (F .value .0) (F .value .1) (F .value .3) ∙ sym (F .value .2)
+
+    from : sub binary32 (near x) step ≡ floorOf x → Least x (sub binary32 (near x) step)
+    from i = record { below = λ t. i; level = λ t. floor-own x h (near-finite x l u) (sym (ap (λ (y : Float). lt y x) i) ∙ t) }
+
+    go : Floored x (near x) → (t : Bool) → eq x (near x) ≡ t → ((lt x (near x) ≡ true) × (step ≡ unit false)) ⊎ ((lt x (near x) ≡ false) × (step ≡ fin false 0 (pos 0))) → Least x (sub binary32 (near x) step)
+    go F false e (inl w) = from (ap (sub binary32 (near x)) (w .1) ∙ F .less e (w .0))
+    go F false e (inr w) = from (stays F (w .1) ∙ F .more e (w .0))
+    go F true e (inl w) = absurd (clash (w .0) (eq-not-lt x (near x) e))
+    go F true e (inr w) = record { below = λ t. absurd (clash (sym (ap (λ (y : Float). lt y x) (stays F (w .1))) ∙ t) (eq-not-gt x (near x) e)); level = λ t. F .same e }
 
 -- ---- a whole x as an integer, by what is left
 abbrev Cast : Float → Float → Type 0

@@ -124,14 +124,16 @@ fn floor_far(x: f32) -> f32
     if x < t { t - 1.0 } else { t }
 }
 
-// The largest whole number that is at most x. A whole x, -0 too, is its own.
+// The largest whole number that is at most x. A whole x, -0 too, is its own. The choices are masks and a
+// minimum in the compiled code.
 pub fn floor(x: f32) -> f32
     ensures { λ r. ⌜ r ≡ floorOf x ⌝ }
 {
     if (x < NEAR) & (-NEAR < x) {
         let r = (x + SHIFT) - SHIFT;
-        let below = if x < r { r - 1.0 } else { r };
-        if x == r { x } else { below }
+        let step = if x < r { 1.0 } else { 0.0 };
+        let below = r - step;
+        if below < x { below } else { x }
     } else {
         floor_far(x)
     }

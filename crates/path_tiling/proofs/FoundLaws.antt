@@ -1,14 +1,11 @@
 -- Of a checked line's ends no one is a NaN, so the smaller and the larger are picked by one test; and equal rows are one row. Assumes nothing.
 use mathlib.Core.Path.{_≡_, refl, sym, ap, _∙_}
-use mathlib.Core.Bool.{Bool, true, false, not, _&&_, _||_, Bool·beq, cond, true≢false, false≢true}
-use Prim.Native.Nat.{ℕ, _+_, _*_, _≤_, _<_}
-use native.Mathlib.Nat.{le-of-eq}
-use native.Mathlib.Omega.{arith}
-use lib.Dec.{T, ltb, eqb}
-use lib.Ieee.{Float, nan, inf, fin, binary32, up, down, below, level, lt, eq, sub, toUnsigned, isNan}
-use borrow.Author.Tests.{le-ltb, eqb-true}
+use mathlib.Core.Bool.{Bool, true, false, cond}
+use Prim.Native.Nat.{ℕ}
+use lib.Ieee.{Float, nan, inf, fin, binary32, lt, eq, sub, mul, neg, ofBits, toUnsigned, isNan}
 use Rattle.float32.specs.Meaning.{floorOf, ceilOf, minOf, maxOf}
-use Rattle.util.specs.Constants.{one}
+use Rattle.float32.proofs.Order.{eq-not-lt}
+use Rattle.util.specs.Constants.{zero, half, one, minusOne}
 use Rattle.util.specs.Span.{spanOf}
 use Rattle.util.specs.declared.Vec2.{Vec2}
 use Rattle.exact.specs.Reach.{Near}
@@ -20,15 +17,15 @@ real nan h = absurd (h .few)
 real (inf s) h = absurd (h .few)
 real (fin s m e) h = refl
 
+pub smaller : (a b : Float) → isNan a ≡ false → minOf a b ≡ cond (lt b a) b a
+smaller a b h = unfold minOf in rw h refl
+
 pub span-is : (a b : Float) → Near a → spanOf a b ≡ toUnsigned 32 (maxOf (sub binary32 (ceilOf (lastOf a b)) (floorOf (cond (lt b a) b a))) one)
 unfolding spanOf
 span-is a b h = ap (λ (x : Float). toUnsigned 32 (maxOf (sub binary32 (ceilOf x) (floorOf (minOf a b))) one)) (larger a b (real a h)) ∙ ap (λ (x : Float). toUnsigned 32 (maxOf (sub binary32 (ceilOf (lastOf a b)) (floorOf x)) one)) (smaller a b (real a h))
   where
     larger : (a b : Float) → isNan a ≡ false → maxOf a b ≡ lastOf a b
     larger a b h = unfold maxOf in rw h refl
-
-    smaller : (a b : Float) → isNan a ≡ false → minOf a b ≡ cond (lt b a) b a
-    smaller a b h = unfold minOf in rw h refl
 
 -- the columns, and the rows
 pub across : (a b : Float) {left right : Float} {n : ℕ} → Near a → right ≡ ceilOf (cond (lt a b) b a) → left ≡ floorOf (cond (lt b a) b a) → n ≡ toUnsigned 32 (maxOf (sub binary32 right left) one) → n ≡ spanOf a b
@@ -37,33 +34,6 @@ across a b {left} h r l e = e ∙ ap (λ (x : Float). toUnsigned 32 (maxOf (sub 
 pub along : (s0 s1 : Vec2) (top bottom : Float) {n : ℕ} → Near (s0 .y) → Rows s0 s1 top bottom → n ≡ toUnsigned 32 (maxOf (sub binary32 bottom top) one) → n ≡ spanOf (s0 .y) (s1 .y)
 along s0 s1 top bottom h r e = across (s0 .y) (s1 .y) h (r .last) (r .first ∙ ap (λ (t : Bool). floorOf (cond t (s1 .y) (s0 .y))) (sym (r .ordered))) e
 
--- ---- what is equal is not below
-first : (x y : Bool) → (x && y) ≡ true → x ≡ true
-first true y e = refl
-first false y e = e
-
-second : (x y : Bool) → (x && y) ≡ true → y ≡ true
-second true y e = e
-second false y e = absurd (false≢true e)
-
-same-not-below : (s t : Bool) (a b : ℕ) → level s a t b ≡ true → below s a t b ≡ false
-same-not-below false false a b h = le-ltb a b (omega (arith, eqb-true a b (first (eqb a b) true h)))
-same-not-below false true a b h = refl
-same-not-below true false a b h = le-ltb 0 (a + b) (omega (arith, eqb-true a b (first (eqb a b) (eqb a 0) h), eqb-true a 0 (second (eqb a b) (eqb a 0) h)))
-same-not-below true true a b h = le-ltb b a (omega (arith, eqb-true a b (first (eqb a b) true h)))
-
-pub eq-not-lt : (x y : Float) → eq x y ≡ true → lt x y ≡ false
-unfolding eq lt
-eq-not-lt nan y h = absurd (false≢true h)
-eq-not-lt (inf s) nan h = absurd (false≢true h)
-eq-not-lt (inf true) (inf true) h = refl
-eq-not-lt (inf true) (inf false) h = absurd (false≢true h)
-eq-not-lt (inf false) (inf t) h = refl
-eq-not-lt (inf s) (fin t n d) h = absurd (false≢true h)
-eq-not-lt (fin s m e) nan h = absurd (false≢true h)
-eq-not-lt (fin s m e) (inf t) h = absurd (false≢true h)
-eq-not-lt (fin s m e) (fin t n d) h = same-not-below s t (m * up e * down d) (n * up d * down e) h
-
 -- the larger of two equal rows is the first
 pub same-row : (a b x : Float) → cond (eq a b) (ceilOf (lastOf a b)) x ≡ cond (eq a b) (ceilOf a) x
 same-row a b x = go (eq a b) refl
@@ -71,3 +41,9 @@ same-row a b x = go (eq a b) refl
     go : (t : Bool) → eq a b ≡ t → cond t (ceilOf (lastOf a b)) x ≡ cond t (ceilOf a) x
     go true e = ap (λ (s : Bool). ceilOf (cond s b a)) (eq-not-lt a b e)
     go false e = refl
+
+-- 0 or -1, from 1 or -1
+pub off-is : (rises : Bool) → mul binary32 (sub binary32 (cond rises one minusOne) one) half ≡ cond rises zero minusOne
+unfolding ofBits neg sub mul
+off-is true = refl
+off-is false = refl

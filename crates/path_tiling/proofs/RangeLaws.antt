@@ -35,7 +35,7 @@ use Rattle.walk.specs.declared.lent.Walked.the-variants as Found
 use Rattle.walk.proofs.Boxes.{fits-boxed}
 use Rattle.walk.proofs.Lines.{skipped}
 use Rattle.path_tiling.specs.Look.{Lent, lent, lineAt, packedAt, FoundFits, foundOf, foundTo, lookOf}
-use Rattle.path_tiling.specs.Kept.{keptOf}
+use Rattle.path_tiling.specs.Kept.{keptOf, Held}
 use Rattle.path_tiling.specs.Tiling.{Range, range, lookThen, rangeOf, putOf, floatsOf, One, one, oneOf, Tiled, tiled, rangeTiled, slotsOf}
 use Rattle.path_tiling.specs.declared.look.Kept.{Kept}
 use Rattle.path_tiling.specs.declared.look.Look.{Look}
@@ -128,15 +128,15 @@ pub record Going (from to : ℕ) (L : Lent) (slots : ℕ) (segs₀ segs : List F
   pub low : from ≤ k
   pub high : k ≤ to
   pub long : length segs ≡ length segs₀
-  pub held : kept ≡ keptOf (L .pathNos) (L .coords) (L .paths) (kept .line .0)
+  pub held : Held (L .pathNos) (L .coords) (L .paths) kept
   pub left : rangeTiled (rangeOf L slots (to - k) k) segs ≡ rangeTiled (rangeOf L slots (to - from) from) segs₀
 
 -- the slots are within the segments lent
 pub slots-fit : (floats : ℕ) → slotsOf floats * segmentFloats ≤ floats
 slots-fit floats = omega arith
 
-pub held-from : (ns : List ℕ) (cs : List Float) (ps : List ℕ) (kept : Kept) (l : ℕ) → kept ≡ keptOf ns cs ps l → kept ≡ keptOf ns cs ps (kept .line .0)
-held-from ns cs ps kept l e = e ∙ ap (λ (m : ℕ). keptOf ns cs ps m) (sym (ap (λ (x : Kept). x .line .0) e))
+held-from : (ns : List ℕ) (cs : List Float) (ps : List ℕ) (kept : Kept) (l : ℕ) → kept ≡ keptOf ns cs ps l → Held ns cs ps kept
+held-from ns cs ps kept l e known = e ∙ ap (λ (m : ℕ). keptOf ns cs ps m) (sym (ap (λ (x : Kept). x .line .0) e))
 
 -- reference k, whose line is `kept`: the loop goes on, or is at its end
 module _

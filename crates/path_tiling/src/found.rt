@@ -9,7 +9,7 @@ ghost use Rattle.float32.specs.Meaning.{floorOf, ceilOf, maxOf};
 ghost use Rattle.util.specs.Constants.{one};
 ghost use Rattle.panel.specs.Widths.{lineFloats};
 ghost use Rattle.walk.specs.Setup.{Scaled, countsOf, slopeOf, aOf, walkOn};
-ghost use Rattle.walk.specs.Skip.{flatOf};
+ghost use Rattle.walk.specs.Skip.{flatOf, pastOf};
 ghost use Rattle.walk.specs.Lent.{Reached, walkedOf, walkAt};
 ghost use Rattle.path_tiling.specs.Found.{lastOf, Rows};
 use panel::checks::path_at;
@@ -44,6 +44,18 @@ fn flat_by(s0: Vec2, s1: Vec2, top: f32) -> bool
     (dx + dy == 0.0) | ((dy == 0.0) & (top == s0.y))
 }
 
+// `walk::skip::past`, of a line that was checked.
+fn past_by(s0: Vec2, s1: Vec2, b: Path) -> bool
+    requires { ⌜ Scaled s0 ⌝ }
+    ensures { λ r. ⌜ r ≡ pastOf s0 s1 b ⌝ }
+{
+    let left = pick(s1.x < s0.x, s1.x, s0.x);
+    let top = float32::of_u32(b.y0);
+    let right = float32::of_u32(b.x1);
+    let bottom = float32::of_u32(b.y1);
+    (s0.y >= bottom) | ((s1.y < top) | ((left >= right) | (b.x1 == b.x0)))
+}
+
 // `walk::setup::count_steps`, with the rows that the line starts and ends in.
 fn counts_by(s0: Vec2, s1: Vec2, top: f32, bottom: f32) -> Counts
     requires { ⌜ Scaled s0 × Scaled s1 × Rows s0 s1 top bottom ⌝ }
@@ -56,7 +68,8 @@ fn counts_by(s0: Vec2, s1: Vec2, top: f32, bottom: f32) -> Counts
     Counts { count_x, count }
 }
 
-// `walk::setup::incline`, with the same rows.
+// `walk::setup::incline`, with the same rows. What is added for x0, 0 or -1, is no branch, since a line
+// falls as often as it rises.
 fn slope_by(s0: Vec2, s1: Vec2, top: f32, bottom: f32) -> Slope
     requires { ⌜ Rows s0 s1 top bottom ⌝ }
     ensures { λ r. ⌜ r ≡ slopeOf s0 s1 ⌝ }
@@ -69,7 +82,7 @@ fn slope_by(s0: Vec2, s1: Vec2, top: f32, bottom: f32) -> Slope
     let xt0 = float32::floor(s0.x * sign);
     let c = s0.x * sign - xt0;
     let ytop = pick(s0.y == s1.y, bottom, top + 1.0);
-    let x0 = xt0 * sign + pick(is_positive_slope, 0.0, -1.0);
+    let x0 = xt0 * sign + (sign - 1.0) * 0.5;
     Slope {
         dx,
         dy,
@@ -139,7 +152,7 @@ fn walk_by(p0: Vec2, p1: Vec2, b: Path) -> Walked
         return walk::lent::walk_on(p0, p1, b);
     }
     let top = float32::floor(s0.y);
-    if flat_by(s0, s1, top) | walk::skip::past(s0, s1, b) {
+    if flat_by(s0, s1, top) | past_by(s0, s1, b) {
         return Walked::Skipped;
     }
     Walked::Line(setup_by(e, top), b)

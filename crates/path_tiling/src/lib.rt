@@ -86,7 +86,7 @@ fn tile_range(
     ensures { λ r. ⌜ tiled r (now (segments .exit)) ≡ rangeTiled (rangeOf (lent (now («path_nos» .entry)) (now (coords .entry)) (now (paths .entry)) (now (indices .entry)) (now (refs .entry))) (slotsOf (length (now (segments .entry)))) (to - from) from) (now (segments .entry)) ⌝ }
 {
     let slots = slots_of(segments.len());
-    let mut kept = look::first_kept(path_nos, coords, paths);
+    let mut kept = look::none_kept();
     let mut k = from;
     while k < to {
         let at = (k as usize) * REF_WORDS;

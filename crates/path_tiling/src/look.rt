@@ -1,6 +1,7 @@
 // What one reference comes to: path_tiling.rs, lines 30 to 39 and 62 to 86, with the refusals in the
 // place of its panics.
 ghost use mathlib.Core.Path.{_≡_};
+ghost use mathlib.Core.Bool.{false};
 ghost use Prim.Native.Nat.{_*_, _<_, _≤_};
 ghost use lib.ListN.{length};
 ghost use Rattle.panel.specs.Limits.{mostSteps, mostTiles, edgeMost};
@@ -8,7 +9,7 @@ ghost use Rattle.panel.specs.Widths.{lineFloats};
 ghost use Rattle.panel.specs.Paths.{endOf};
 ghost use Rattle.walk.specs.Step.{Boxed, stepOf};
 ghost use Rattle.segment.specs.Clips.{pieceOf};
-ghost use Rattle.path_tiling.specs.Kept.{keptOf};
+ghost use Rattle.path_tiling.specs.Kept.{keptOf, Held};
 ghost use Rattle.path_tiling.specs.Look.{StepFits, FoundFits, pieceTo, wordTo, stepTo, foundTo, foundOf};
 use panel::kinds::LineNo;
 use panel::kinds::Path;
@@ -116,31 +117,40 @@ fn found_at(path_nos: &[u32], coords: &[f32], paths: &[u32], line: LineNo) -> Wa
     }
 }
 
-// A line as the walk found it, kept while the next reference names the same line.
+// A line as the walk found it, kept while the next reference names the same line. `known` is false
+// before the first reference, when no line is kept.
 pub struct Kept {
+    pub known: bool,
     pub line: LineNo,
     pub found: Walked,
 }
 
-pub fn first_kept(path_nos: &[u32], coords: &[f32], paths: &[u32]) -> Kept
-    requires { ⌜ length (now «path_nos») * lineFloats ≤ length (now coords) ⌝ }
-    ensures { λ r. ⌜ r ≡ keptOf (now («path_nos» .entry)) (now (coords .entry)) (now (paths .entry)) 0 ⌝ }
+pub fn none_kept() -> Kept
+    ensures { λ r. ⌜ r .known ≡ false ⌝ }
 {
     let line = LineNo(0);
-    let found = found_at(path_nos, coords, paths, line);
-    Kept { line, found }
+    let found = Walked::Skipped;
+    Kept {
+        known: false,
+        line,
+        found,
+    }
 }
 
 impl Kept {
     // The line of the next reference.
     pub fn next(self, path_nos: &[u32], coords: &[f32], paths: &[u32], line: LineNo) -> Self
-        requires { ⌜ (length (now «path_nos») * lineFloats ≤ length (now coords)) × (self ≡ keptOf (now «path_nos») (now coords) (now paths) (self .line .0)) ⌝ }
+        requires { ⌜ (length (now «path_nos») * lineFloats ≤ length (now coords)) × Held (now «path_nos») (now coords) (now paths) self ⌝ }
         ensures { λ r. ⌜ r ≡ keptOf (now («path_nos» .entry)) (now (coords .entry)) (now (paths .entry)) (line .0) ⌝ }
     {
-        if line.0 == self.line.0 {
+        if self.known & (line.0 == self.line.0) {
             return self;
         }
         let found = found_at(path_nos, coords, paths, line);
-        Kept { line, found }
+        Kept {
+            known: true,
+            line,
+            found,
+        }
     }
 }

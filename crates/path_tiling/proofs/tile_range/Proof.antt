@@ -1,15 +1,16 @@
 -- `path_tiling::tile_range` meets its contract. The loop's invariant, `Going`: what is left from reference k on, on the segments as they are now, is
--- what the range comes to, and the line kept is the one that its number names. The measure is what is left of the references. Assumes nothing.
+-- what the range comes to, and the line kept, if there is one, is the one that its number names. The measure is what is left of the references. Assumes nothing.
 use Prim.Native.Nat.{_+_, _-_, _*_, _/_, _≤_, _<_}
 use native.Mathlib.Nat.{le-refl}
 use native.Mathlib.Omega.{arith}
 use mathlib.Core.Path.{_≡_, refl, sym, ap, _∙_}
+use mathlib.Core.Bool.{false≢true}
 use borrow.Author.Needs.{needs}
 use lib.ListN.{length}
 use Rattle.panel.specs.Widths.{refWords, segmentFloats}
 use Rattle.path_tiling.specs.Look.{Lent, lent}
 use Rattle.path_tiling.specs.Tiling.{slotsOf}
-use Rattle.path_tiling.proofs.RangeLaws.{Going, held-from, found-fits, slots-fit, turned, stopped, over}
+use Rattle.path_tiling.proofs.RangeLaws.{Going, found-fits, slots-fit, turned, stopped, over}
 use Rattle.path_tiling.proofs.tile_range.Statement.{statement}
 use Rattle.path_tiling.proofs.tile_range.Tie as tie
 
@@ -20,12 +21,12 @@ Inv-loop from to path-nos coords paths indices refs segments₀ slots kept₀ k�
 abbrev μ-loop : tie.MeasureT-loop
 μ-loop from to path-nos coords paths indices refs segments₀ slots kept₀ k₀ segments kept k = to - k
 
-first-kept-requires : tie.Need-first-kept-requires Inv-loop μ-loop
-first-kept-requires c κs = c .before .before .before .before .before .before .before .pre .lines
+none-kept-requires : tie.Need-none-kept-requires Inv-loop μ-loop
+none-kept-requires c κs = search needs
 
 loop-holds : tie.Need-loop-holds Inv-loop μ-loop
 loop-holds c =
-    record { low = le-refl _; high = c .before .before .before .before .before .before .before .before .pre .forward; long = refl; held = held-from _ _ _ _ 0 (c .first-kept .ensures); left = refl }
+    record { low = le-refl _; high = c .before .before .before .before .before .before .before .before .pre .forward; long = refl; held = λ known. absurd (false≢true (sym (c .none-kept .ensures) ∙ known)); left = refl }
 
 cast-at : tie.Need-cast-at Inv-loop μ-loop
 cast-at c = search needs
@@ -90,7 +91,7 @@ tile-range-spec =
     Inv-loop
     μ-loop
     (λ c κs. tt)
-    first-kept-requires
+    none-kept-requires
     loop-holds
     cast-at
     mul-at

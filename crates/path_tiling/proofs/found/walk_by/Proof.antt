@@ -21,13 +21,16 @@ floor-requires c κs = search needs
 flat-by-requires : tie.Need-flat-by-requires
 flat-by-requires c κs = search needs
 
-past-requires : tie.Need-past-requires
-past-requires c κs = search needs
+past-by-requires : tie.Need-past-by-requires
+past-by-requires c κs =
+    let s = c .before .before .before .before .before .before .before .before in
+    let e : Scaled (c .before .before .before .before .before .before .before .order .result .s0) × Scaled (c .before .before .before .before .before .before .before .order .result .s1) = rw (c .before .before .before .before .before .before .before .order .ensures) (ends-scaled (s .args .p0) (s .args .p1) (s .pre)) in
+    e .0
 
 returns-2 : tie.Need-returns-2
 returns-2 c =
     let s = c .before .before .before .before .before .before .before .before .before .before in
-    skips (s .args .p0) (s .args .p1) (s .args .b) (rw (c .before .before .flat-by .ensures, c .before .past .ensures, c .before .before .before .before .before .before .before .before .before .order .ensures) at (c .if2 .taken))
+    skips (s .args .p0) (s .args .p1) (s .args .b) (rw (c .before .before .flat-by .ensures, c .before .past-by .ensures, c .before .before .before .before .before .before .before .before .before .order .ensures) at (c .if2 .taken))
 
 setup-by-requires : tie.Need-setup-by-requires
 setup-by-requires c κs =
@@ -38,7 +41,7 @@ setup-by-requires c κs =
 returns-3 : tie.Need-returns-3
 returns-3 c =
     let s = c .before .before .before .before .before .before .before .before .before .before .before in
-    walks (s .args .p0) (s .args .p1) (s .args .b) (c .setup-by .result) (rw (c .before .before .before .flat-by .ensures, c .before .before .past .ensures, c .before .before .before .before .before .before .before .before .before .before .order .ensures) at (c .before .if2 .left)) (rw (c .before .before .before .before .before .before .before .before .before .before .order .ensures) at (c .setup-by .ensures))
+    walks (s .args .p0) (s .args .p1) (s .args .b) (c .setup-by .result) (rw (c .before .before .before .flat-by .ensures, c .before .before .past-by .ensures, c .before .before .before .before .before .before .before .before .before .before .order .ensures) at (c .before .if2 .left)) (rw (c .before .before .before .before .before .before .before .before .before .before .order .ensures) at (c .setup-by .ensures))
 
 pub walk-by-spec : {M : Type 1} → statement M
-walk-by-spec = tie.close (tie.spec order-requires walk-on-requires returns floor-requires flat-by-requires past-requires returns-2 setup-by-requires returns-3)
+walk-by-spec = tie.close (tie.spec order-requires walk-on-requires returns floor-requires flat-by-requires past-by-requires returns-2 setup-by-requires returns-3)
