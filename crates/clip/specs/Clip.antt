@@ -12,13 +12,13 @@ use Rattle.walk.specs.declared.setup.Walk.{Walk}
 use Rattle.clip.specs.declared.Clip.{Clip}
 
 -- the step at which the walk comes to the row `edge`: iminf and imaxf
-unfoldable pub rowStepOf : Walk → Float → ℕ
-rowStepOf w edge =
-    let a = w .pace .a in
-    let b = w .pace .b in
-    let y0 = w .pace .y0 in
+unfoldable pub rowStepBy : (a b y0 edge : Float) → ℕ
+rowStepBy a b y0 edge =
     let f = sub binary32 (roundOf (div binary32 (sub binary32 (add binary32 (sub binary32 edge y0) b) a) (sub binary32 one a))) one in
     toUnsigned 32 (cond (lt (sub binary32 (add binary32 y0 f) (zAt a b f)) edge) (add binary32 f one) f)
+
+abbrev pub rowStepOf : Walk → Float → ℕ
+rowStepOf w edge = rowStepBy (w .pace .a) (w .pace .b) (w .pace .y0) edge
 
 -- the step at which it comes to the column `edge`: f
 unfoldable pub colStepOf : Walk → Float → Float

@@ -10,7 +10,7 @@ use Rattle.panel.specs.declared.kinds.Path.{Path}
 use Rattle.walk.specs.Num.{float, rowOf}
 use Rattle.walk.specs.Step.{zAt}
 use Rattle.walk.specs.declared.setup.Walk.{Walk}
-use Rattle.clip.specs.Clip.{rowStepOf, colStepOf, firstStepOf, lastStepOf, rowsOf, leftOf, enterOf, leaveOf, byLeftOf, byRightOf, colsOf, clipOf}
+use Rattle.clip.specs.Clip.{rowStepBy, colStepOf, firstStepOf, lastStepOf, rowsOf, leftOf, enterOf, leaveOf, byLeftOf, byRightOf, colsOf, clipOf}
 use Rattle.clip.specs.declared.Clip.{Clip}
 
 unfoldable pub clippedOf : Walk → Path → Clip
@@ -68,5 +68,5 @@ clippedOf w box =
     record { imin = h .imin; imax = max (h .imin) (h .imax); ymin = max (h .ymin) (box .y0); ymax = min (h .ymax) (box .y1) }
 
 pub by-parts : (w : Walk) (b : Path) → clipOf w b ≡ clippedOf w b
-unfolding zAt rowStepOf colStepOf firstStepOf lastStepOf rowsOf leftOf enterOf leaveOf byLeftOf byRightOf colsOf clipOf clippedOf
+unfolding zAt rowStepBy colStepOf firstStepOf lastStepOf rowsOf leftOf enterOf leaveOf byLeftOf byRightOf colsOf clipOf clippedOf
 by-parts w b = refl

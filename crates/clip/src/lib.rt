@@ -3,7 +3,7 @@
 ghost use mathlib.Core.Path.{_≡_};
 ghost use mathlib.Core.Bool.{cond};
 ghost use Prim.Native.Nat.{min, max};
-ghost use Rattle.clip.specs.Clip.{rowStepOf, colStepOf, firstStepOf, lastStepOf, rowsOf, leftOf, enterOf, leaveOf, byLeftOf, byRightOf, colsOf};
+ghost use Rattle.clip.specs.Clip.{rowStepBy, colStepOf, firstStepOf, lastStepOf, rowsOf, leftOf, enterOf, leaveOf, byLeftOf, byRightOf, colsOf};
 ghost use Rattle.clip.specs.Page.{clippedOf};
 use panel::kinds::Path;
 use walk::choose::pick;
@@ -33,12 +33,9 @@ fn max_u32(x: u32, y: u32) -> u32
 }
 
 // The step at which the walk comes to the row `edge`: iminf and imaxf.
-fn row_step(w: Walk, edge: f32) -> u32
-    ensures { λ r. ⌜ r ≡ rowStepOf w edge ⌝ }
+fn row_step(a: f32, b: f32, y0: f32, edge: f32) -> u32
+    ensures { λ r. ⌜ r ≡ rowStepBy a b y0 edge ⌝ }
 {
-    let a = w.pace.a;
-    let b = w.pace.b;
-    let y0 = w.pace.y0;
     let f = float32::round((edge - y0 + b - a) / (1.0 - a)) - 1.0;
     float32::to_u32(pick(y0 + f - z_at(a, b, f) < edge, f + 1.0, f))
 }
@@ -65,7 +62,11 @@ fn col_step(w: Walk, edge: f32) -> f32
 fn first_step(w: Walk, top: f32) -> u32
     ensures { λ r. ⌜ r ≡ firstStepOf w top ⌝ }
 {
-    if w.e.s0.y < top { row_step(w, top) } else { 0 }
+    if w.e.s0.y < top {
+        row_step(w.pace.a, w.pace.b, w.pace.y0, top)
+    } else {
+        0
+    }
 }
 
 // imax, by its bottom.
@@ -73,7 +74,7 @@ fn last_step(w: Walk, bottom: f32) -> u32
     ensures { λ r. ⌜ r ≡ lastStepOf w bottom ⌝ }
 {
     if w.e.s1.y > bottom {
-        row_step(w, bottom)
+        row_step(w.pace.a, w.pace.b, w.pace.y0, bottom)
     } else {
         w.k.count
     }

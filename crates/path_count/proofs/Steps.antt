@@ -151,6 +151,13 @@ word-next k tiles h = go (eqb (k % 2) 1) refl
     go true e = omega (arith, eqb-true (k % 2) 1 e)
     go false e = omega arith
 
+-- both tests, by a choice
+pub pick-both : (c x r : Bool) → r ≡ cond c x false → (x && c) ≡ r
+pick-both true true r e = sym e
+pick-both true false r e = sym e
+pick-both false true r e = sym e
+pick-both false false r e = sym e
+
 -- one more word
 pub notes-more : (f : ℕ → Hit) (a n : ℕ) (ks : List ℕ) (tiles k : ℕ) → n < length ks → Notes f a n ks tiles → Told (f (a + n)) k tiles → Notes f a (n + 1) (set ks n k) tiles
 notes-more f a n ks tiles k l h t j g = go (below-or-not j n)

@@ -19,6 +19,7 @@ use panel::limits::MOST_COUNT;
 use panel::refusals::COUNT_OVER;
 use panel::refusals::OUTSIDE;
 use panel::refusals::SUM_OVER;
+use walk::choose::pick_bool;
 use walk::edges::Edges;
 use walk::edges::edges_of;
 use walk::edges::step_by;
@@ -44,13 +45,13 @@ fn check_step(
     let Step::Tile(tile, x, _, z) = step_at(pace, path, i) else {
         return Seen::Against(OUTSIDE);
     };
-    let t = tile.0 as usize;
-    if counts[t] >= MOST_COUNT {
+    let own = tile.0 as usize;
+    if counts[own] >= MOST_COUNT {
         return Seen::Against(COUNT_OVER);
     }
     // One test, since which steps mark can't be foretold.
     let marks = crosses(pace.on_top, path.x1, i, last_z, x, z);
-    let q = next_if(t, marks);
+    let q = next_if(own, marks);
     if marks & leaves(backs[q], up) {
         return Seen::Against(SUM_OVER);
     }
@@ -122,7 +123,8 @@ fn note_step(
     }
     let marks = crosses(pace.on_top, path.x1, i, last_z, x, z);
     let q = next_if(t, marks);
-    if marks & leaves(backs[q], up) {
+    // The rare test first: which steps mark can't be foretold.
+    if pick_bool(leaves(backs[q], up), marks, false) {
         return Noted::Against(SUM_OVER);
     }
     Noted::Passed(z, word_of(tile.0, marks))

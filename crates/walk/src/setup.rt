@@ -1,6 +1,10 @@
 // The walk's numbers, in the order of path_count.rs, lines 22 to 52: a stage each, by value.
 ghost use mathlib.Core.Path.{_≡_};
+ghost use mathlib.Core.Bool.{cond};
 ghost use Prim.Native.Nat.{_≤_, _^_};
+ghost use lib.Ieee.{binary32, add, eq};
+ghost use Rattle.float32.specs.Meaning.{ceilOf};
+ghost use Rattle.util.specs.Constants.{one};
 ghost use Rattle.walk.specs.Setup.{endsOf, countsOf, slopeOf, aOf, bOf, walkOn, Scaled};
 use super::choose::pick;
 use super::choose::pick_vec;
@@ -81,6 +85,16 @@ pub fn count_steps(s0: Vec2, s1: Vec2) -> Counts
     Counts { count_x, count }
 }
 
+// The row below s0, whose row is y0. Few lines are level, so that branch is foretold.
+fn row_below(s0: f32, s1: f32, y0: f32) -> f32
+    ensures { λ r. ⌜ r ≡ cond (eq s0 s1) (ceilOf s0) (add binary32 y0 one) ⌝ }
+{
+    if s0 == s1 {
+        return float32::ceil(s0);
+    }
+    y0 + 1.0
+}
+
 pub fn incline(s0: Vec2, s1: Vec2) -> Slope
     ensures { λ r. ⌜ r ≡ slopeOf s0 s1 ⌝ }
 {
@@ -92,7 +106,7 @@ pub fn incline(s0: Vec2, s1: Vec2) -> Slope
     let xt0 = float32::floor(s0.x * sign);
     let c = s0.x * sign - xt0;
     let y0 = float32::floor(s0.y);
-    let ytop = pick(s0.y == s1.y, float32::ceil(s0.y), y0 + 1.0);
+    let ytop = row_below(s0.y, s1.y, y0);
     let x0 = xt0 * sign + pick(is_positive_slope, 0.0, -1.0);
     Slope {
         dx,

@@ -1,6 +1,6 @@
 -- `clip::row_step` meets its contract. Assumes nothing.
 use borrow.Author.Needs.{needs}
-use Rattle.clip.specs.Clip.{rowStepOf}
+use Rattle.clip.specs.Clip.{rowStepBy}
 use Rattle.clip.proofs.row_step.Statement.{statement}
 use Rattle.clip.proofs.row_step.Tie as tie
 
@@ -17,7 +17,7 @@ to-u32-requires : tie.Need-to-u32-requires
 to-u32-requires c κs = search needs
 
 returns : tie.Need-returns
-unfolding rowStepOf
+unfolding rowStepBy
 returns c = cc
 
 pub row-step-spec : {M : Type 1} → statement M

@@ -41,8 +41,8 @@ returns c =
     ap (λ (v : Verdict). seenOf v (zOf (c .before .before .before .before .args .pace) (c .before .before .before .before .args .i)))
     (check-off _ _ _ _ _ (hit-off (c .before .before .before .before .args .pace) (c .before .before .before .before .args .path) (c .before .before .before .before .args .i) (sym (c .before .before .step-at .ensures) ∙ c .enum-told .given .1)))
 
-cast-t : tie.Need-cast-t
-cast-t c = search needs
+cast-own : tie.Need-cast-own
+cast-own c = search needs
 
 mul-if1 : tie.Need-mul-if1
 mul-if1 c = search needs
@@ -118,7 +118,7 @@ check-step-spec =
     enum-known-tile
     enum-told
     returns
-    cast-t
+    cast-own
     mul-if1
     shared-slice-read-if1
     returns-2

@@ -1,6 +1,6 @@
 -- `path_count::checks::note_step` meets its contract.
 -- Assumes nothing.
-use mathlib.Core.Bool.{not, cond}
+use mathlib.Core.Bool.{not, cond, _&&_}
 use mathlib.Core.Path.{_≡_, refl, sym, ap, _∙_}
 use native.Mathlib.Omega.{arith}
 use Prim.Native.Nat.{ℕ, _+_, _<_}
@@ -17,7 +17,7 @@ use Rattle.path_count.specs.Steps.{hitAt, zOf, wordOf, notedOf}
 use Rattle.path_count.specs.declared.kinds.Noted.{Noted}
 use Rattle.path_count.specs.declared.kinds.Noted.the-variants.{Passed}
 use Rattle.walk.proofs.Tiles.{step-told, tile-in}
-use Rattle.path_count.proofs.Steps.{hit-off, hit-on, next-below}
+use Rattle.path_count.proofs.Steps.{hit-off, hit-on, next-below, pick-both}
 use Rattle.path_count.proofs.checks.note_step.Statement.{statement}
 use Rattle.path_count.proofs.checks.note_step.Tie as tie
 use Rattle.path_count.proofs.checks.note_step.Reads as reads
@@ -99,24 +99,32 @@ said c =
     told (getD (c .before .before .before .before .before .before .before .before .before .before .before .before .args .backs .now) (c .before .before .next-if .result) (pos 0)) (deltaOf (c .before .before .before .before .before .before .before .before .before .before .before .before .args .up)) (c .leaves .result) (c .before .leaves-arg .given) (c .leaves .ensures)
     ∙ ap (λ (q : ℕ). not (inI32 (getD (c .before .before .before .before .before .before .before .before .before .before .before .before .args .backs .now) q (pos 0) +ℤ deltaOf (c .before .before .before .before .before .before .before .before .before .before .before .before .args .up)))) (c .before .before .next-if .ensures)
 
+pick-bool-requires : tie.Need-pick-bool-requires
+pick-bool-requires c κs = search needs
+
+-- the two tests, as the choice makes them
+both : (c : tie.After-pick-bool) → (c .before .before .before .before .crosses .result && c .before .leaves .result) ≡ c .pick-bool .result
+both c = pick-both (c .before .leaves .result) (c .before .before .before .before .crosses .result) (c .pick-bool .result) (c .pick-bool .ensures)
+
 returns-3 : tie.Need-returns-3
 returns-3 c =
-    ap (λ (v : Verdict). notedOf v (zOf (c .before .before .before .before .before .before .before .before .before .before .before .before .before .args .pace) (c .before .before .before .before .before .before .before .before .before .before .before .before .before .args .i)) (wordOf (hitAt (c .before .before .before .before .before .before .before .before .before .before .before .before .before .args .pace) (c .before .before .before .before .before .before .before .before .before .before .before .before .before .args .path) (c .before .before .before .before .before .before .before .before .before .before .before .before .before .args .i))))
-    (check-marked _ _ _ _ _ _ _ (hit (c .before .before .before .before)) (c .before .leaves .result) (c .before .before .before .before .before .if1 .left) (said (c .before)) (c .if2 .taken))
+    let s = c .before .before .before .before .before .before .before .before .before .before .before .before .before .before in
+    ap (λ (v : Verdict). notedOf v (zOf (s .args .pace) (s .args .i)) (wordOf (hitAt (s .args .pace) (s .args .path) (s .args .i))))
+    (check-marked _ _ _ _ _ _ _ (hit (c .before .before .before .before .before)) (c .before .before .leaves .result) (c .before .before .before .before .before .before .if1 .left) (said (c .before .before)) (both (c .before) ∙ c .if2 .taken))
 
 word-of-requires : tie.Need-word-of-requires
 word-of-requires c κs =
-    let s = c .before .before .before .before .before .before .before .before .before .before .before .before .before in
-    omega (arith, below (c .before .before .before .before .before .before .before .before .before), s .pre .0 .few)
+    let s = c .before .before .before .before .before .before .before .before .before .before .before .before .before .before in
+    omega (arith, below (c .before .before .before .before .before .before .before .before .before .before), s .pre .0 .few)
 
 returns-4 : tie.Need-returns-4
 returns-4 c =
-    let s = c .before .before .before .before .before .before .before .before .before .before .before .before .before .before in
-    let h = hit (c .before .before .before .before .before) in
-    ap (λ z. Passed z (c .word-of .result)) (sym (step-told (s .args .pace) (s .args .path) (s .args .i) _ _ _ _ (fell (c .before .before .before .before .before .before .before .before .before .before)) .is-z))
+    let s = c .before .before .before .before .before .before .before .before .before .before .before .before .before .before .before in
+    let h = hit (c .before .before .before .before .before .before) in
+    ap (λ z. Passed z (c .word-of .result)) (sym (step-told (s .args .pace) (s .args .path) (s .args .i) _ _ _ _ (fell (c .before .before .before .before .before .before .before .before .before .before .before)) .is-z))
     ∙ ap (Passed (zOf (s .args .pace) (s .args .i))) (c .word-of .ensures ∙ ap wordOf (sym h))
     ∙ ap (λ (v : Verdict). notedOf v (zOf (s .args .pace) (s .args .i)) (wordOf (hitAt (s .args .pace) (s .args .path) (s .args .i))))
-    (check-passes _ _ _ _ _ _ _ h (c .before .before .leaves .result) (c .before .before .before .before .before .before .if1 .left) (said (c .before .before)) (c .before .if2 .left))
+    (check-passes _ _ _ _ _ _ _ h (c .before .before .before .leaves .result) (c .before .before .before .before .before .before .before .if1 .left) (said (c .before .before .before)) (both (c .before .before) ∙ c .before .if2 .left))
 
 pub note-step-spec : {M : Type 1} → statement M
 note-step-spec =
@@ -135,6 +143,7 @@ note-step-spec =
     mul-leaves
     shared-slice-copy-out-leaves
     leaves-requires
+    pick-bool-requires
     returns-3
     word-of-requires
     returns-4)

@@ -16,14 +16,11 @@ floor-requires c κs = search needs
 floor-requires-2 : tie.Need-floor-requires-2
 floor-requires-2 c κs = search needs
 
-ceil-requires : tie.Need-ceil-requires
-ceil-requires c κs = search needs
+row-below-requires : tie.Need-row-below-requires
+row-below-requires c κs = search needs
 
 pick-requires-2 : tie.Need-pick-requires-2
 pick-requires-2 c κs = search needs
-
-pick-requires-3 : tie.Need-pick-requires-3
-pick-requires-3 c κs = search needs
 
 returns : tie.Need-returns
 unfolding slopeOf
@@ -37,7 +34,6 @@ incline-spec =
     pick-requires
     floor-requires
     floor-requires-2
-    ceil-requires
+    row-below-requires
     pick-requires-2
-    pick-requires-3
     returns)
