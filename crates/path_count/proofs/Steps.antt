@@ -30,7 +30,7 @@ use Rattle.panel.specs.Refusals.{outside}
 use Rattle.acts.specs.Acts.{Hit, on, off, checkNo, stepActs, stepsActs}
 use Rattle.acts.proofs.Laws.{check-off, steps-same}
 use Rattle.acts.proofs.Plans.{Apart}
-use Rattle.path_count.specs.Steps.{hitOf, hitAt, seenOf, wordOf, notedOf, hitsBy, Told, Notes, noteWords, notedTo, OnTiles}
+use Rattle.path_count.specs.Steps.{hitOf, hitAt, seenOf, wordOf, notedOf, notedBy, hitsBy, Told, Notes, noteWords, notedTo, OnTiles}
 use Rattle.path_count.specs.declared.kinds.Noted.{Noted}
 use Rattle.path_count.specs.declared.kinds.Noted.the-variants.{Passed as NotedPassed, Against as NotedAgainst}
 use Rattle.path_count.specs.declared.kinds.Seen.{Seen}
@@ -151,12 +151,15 @@ word-next k tiles h = go (eqb (k % 2) 1) refl
     go true e = omega (arith, eqb-true (k % 2) 1 e)
     go false e = omega arith
 
--- both tests, by a choice
-pub pick-both : (c x r : Bool) → r ≡ cond c x false → (x && c) ≡ r
-pick-both true true r e = sym e
-pick-both true false r e = sym e
-pick-both false true r e = sym e
-pick-both false false r e = sym e
+-- what a step's check says, with its word
+pub noted-by : (v : Verdict) (u : Float) (k : ℕ) → notedBy (seenOf v u) k ≡ notedOf v u k
+noted-by Fine u k = refl
+noted-by (Against n) u k = refl
+
+-- a mark that leaves no end stays
+pub none-leaves : (x c : Bool) → c ≡ false → (x && c) ≡ false
+none-leaves true c e = e
+none-leaves false c e = refl
 
 -- one more word
 pub notes-more : (f : ℕ → Hit) (a n : ℕ) (ks : List ℕ) (tiles k : ℕ) → n < length ks → Notes f a n ks tiles → Told (f (a + n)) k tiles → Notes f a (n + 1) (set ks n k) tiles

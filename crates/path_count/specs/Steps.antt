@@ -56,6 +56,10 @@ abbrev pub notedOf : Verdict → Float → ℕ → Noted
 notedOf Fine z k = NotedPassed z k
 notedOf (Against n) z k = NotedAgainst n
 
+abbrev pub notedBy : Seen → ℕ → Noted
+notedBy (Passed z) k = NotedPassed z k
+notedBy (SeenAgainst n) k = NotedAgainst n
+
 -- where the step of a word falls
 abbrev pub hitBy : ℕ → Hit
 hitBy k = on (k / 2) (eqb (k % 2) 1)

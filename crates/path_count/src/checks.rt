@@ -8,7 +8,7 @@ ghost use Rattle.panel.specs.Limits.{mostSteps, mostTiles};
 ghost use Rattle.panel.specs.declared.kinds.Verdict.the-variants.{Fine};
 ghost use Rattle.walk.specs.Step.{lastZ, edgesOf};
 ghost use Rattle.acts.specs.Acts.{on, checkNo, stepActs, stepsActs, deltaOf};
-ghost use Rattle.path_count.specs.Steps.{hitAt, zOf, seenOf, wordOf, notedOf, Notes, noteWords, OnTiles};
+ghost use Rattle.path_count.specs.Steps.{hitAt, zOf, seenOf, wordOf, notedOf, notedBy, Notes, noteWords, OnTiles};
 use super::kinds::Noted;
 use super::kinds::Seen;
 use acts::leaves;
@@ -19,7 +19,6 @@ use panel::limits::MOST_COUNT;
 use panel::refusals::COUNT_OVER;
 use panel::refusals::OUTSIDE;
 use panel::refusals::SUM_OVER;
-use walk::choose::pick_bool;
 use walk::edges::Edges;
 use walk::edges::edges_of;
 use walk::edges::step_by;
@@ -99,6 +98,16 @@ fn word_of(t: u32, marks: bool) -> u32
     if marks { t * 2 + 1 } else { t * 2 }
 }
 
+// What a step's check says, with its word.
+fn noted_of(seen: Seen, word: u32) -> Noted
+    ensures { λ r. ⌜ r ≡ notedBy seen word ⌝ }
+{
+    match seen {
+        Seen::Passed(z) => Noted::Passed(z, word),
+        Seen::Against(why) => Noted::Against(why),
+    }
+}
+
 // One step of a checked line, with the word to note of it.
 fn note_step(
     pace: Pace,
@@ -123,11 +132,12 @@ fn note_step(
     }
     let marks = crosses(pace.on_top, path.x1, i, last_z, x, z);
     let q = next_if(t, marks);
-    // The rare test first: which steps mark can't be foretold.
-    if pick_bool(leaves(backs[q], up), marks, false) {
-        return Noted::Against(SUM_OVER);
+    let word = word_of(tile.0, marks);
+    // Which steps mark can't be foretold, so nothing branches on it. A backdrop at the end of i32 is rare.
+    if leaves(backs[q], up) {
+        return noted_of(check_step(pace, path, up, i, last_z, backs, counts), word);
     }
-    Noted::Passed(z, word_of(tile.0, marks))
+    Noted::Passed(z, word)
 }
 
 // The steps from .. to, in order, each with its note.

@@ -1,6 +1,6 @@
 -- `path_count::checks::note_step` meets its contract.
 -- Assumes nothing.
-use mathlib.Core.Bool.{not, cond, _&&_}
+use mathlib.Core.Bool.{not, cond}
 use mathlib.Core.Path.{_≡_, refl, sym, ap, _∙_}
 use native.Mathlib.Omega.{arith}
 use Prim.Native.Nat.{ℕ, _+_, _<_}
@@ -10,19 +10,21 @@ use borrow.Author.Needs.{needs}
 use Rattle.panel.specs.declared.kinds.Verdict.{Verdict}
 use Rattle.walk.specs.Step.{stepOf}
 use Rattle.walk.specs.declared.step.Step.the-variants.{Tile}
-use Rattle.acts.specs.Acts.{on, inI32, deltaOf}
+use Rattle.acts.specs.Acts.{on, inI32, deltaOf, checkNo, stepActs}
 use Rattle.acts.proofs.Signs.{told}
-use Rattle.acts.proofs.Laws.{check-off, check-full, check-marked, check-passes}
-use Rattle.path_count.specs.Steps.{hitAt, zOf, wordOf, notedOf}
+use Rattle.acts.proofs.Laws.{check-off, check-full, check-passes}
+use Rattle.path_count.specs.Steps.{hitAt, zOf, wordOf, notedOf, notedBy}
 use Rattle.path_count.specs.declared.kinds.Noted.{Noted}
+use Rattle.path_count.specs.declared.kinds.Seen.{Seen}
 use Rattle.path_count.specs.declared.kinds.Noted.the-variants.{Passed}
 use Rattle.walk.proofs.Tiles.{step-told, tile-in}
-use Rattle.path_count.proofs.Steps.{hit-off, hit-on, next-below, pick-both}
+use Rattle.path_count.proofs.Steps.{hit-off, hit-on, next-below, noted-by, none-leaves}
 use Rattle.path_count.proofs.checks.note_step.Statement.{statement}
 use Rattle.path_count.proofs.checks.note_step.Tie as tie
 use Rattle.path_count.proofs.checks.note_step.Reads as reads
 use Rattle.path_count.proofs.checks.note_step.Lts as lts
 use Rattle.acts.proofs.leaves.Reads as leaves-reads
+use Rattle.path_count.proofs.checks.check_step.Reads as check-step-reads
 use Rattle.acts.proofs.next_if.Reads as next-if-reads
 use Rattle.walk.proofs.step.crosses.Reads as crosses-reads
 use Rattle.walk.proofs.edges.step_by.Reads as step-by-reads
@@ -81,10 +83,10 @@ next c =
     )
 
 mul-leaves : tie.Need-mul-leaves
-mul-leaves c = omega (arith, next (c), c .before .before .before .before .before .before .before .before .before .before .pre .0 .few, c .before .before .before .before .before .before .before .before .before .before .pre .0 .paired)
+mul-leaves c = omega (arith, next (c .before), c .before .before .before .before .before .before .before .before .before .before .before .pre .0 .few, c .before .before .before .before .before .before .before .before .before .before .before .pre .0 .paired)
 
 shared-slice-copy-out-leaves : tie.Need-shared-slice-copy-out-leaves
-shared-slice-copy-out-leaves c = next (c)
+shared-slice-copy-out-leaves c = next (c .before)
 
 leaves-requires : tie.Need-leaves-requires
 leaves-requires c κs = search needs
@@ -94,37 +96,43 @@ hit : (c : tie.After-crosses) → hitAt (c .before .before .before .before .befo
 hit c = hit-on (c .before .before .before .before .before .before .before .before .before .args .pace) (c .before .before .before .before .before .before .before .before .before .args .path) (c .before .before .before .before .before .before .before .before .before .args .i) _ _ _ _ (fell (c .before .before .before .before .before)) (c .before .before .before .before .before .before .before .before .before .args .last-z) (c .crosses .result) (c .before .before .before .before .before .before .before .before .before .pre .2) (c .crosses .ensures)
 
 -- what `leaves` says of the backdrop itself
-said : (c : tie.After-leaves) → c .leaves .result ≡ not (inI32 (getD (c .before .before .before .before .before .before .before .before .before .before .before .before .args .backs .now) (cond (c .before .before .before .crosses .result) (c .before .before .before .before .before .before .before .before .tile .given .0 .0 .0 + 1) (c .before .before .before .before .before .before .before .before .tile .given .0 .0 .0)) (pos 0) +ℤ deltaOf (c .before .before .before .before .before .before .before .before .before .before .before .before .args .up)))
+said : (c : tie.After-leaves) → c .leaves .result ≡ not (inI32 (getD (c .before .before .before .before .before .before .before .before .before .before .before .before .before .args .backs .now) (cond (c .before .before .before .before .crosses .result) (c .before .before .before .before .before .before .before .before .before .tile .given .0 .0 .0 + 1) (c .before .before .before .before .before .before .before .before .before .tile .given .0 .0 .0)) (pos 0) +ℤ deltaOf (c .before .before .before .before .before .before .before .before .before .before .before .before .before .args .up)))
 said c =
-    told (getD (c .before .before .before .before .before .before .before .before .before .before .before .before .args .backs .now) (c .before .before .next-if .result) (pos 0)) (deltaOf (c .before .before .before .before .before .before .before .before .before .before .before .before .args .up)) (c .leaves .result) (c .before .leaves-arg .given) (c .leaves .ensures)
-    ∙ ap (λ (q : ℕ). not (inI32 (getD (c .before .before .before .before .before .before .before .before .before .before .before .before .args .backs .now) q (pos 0) +ℤ deltaOf (c .before .before .before .before .before .before .before .before .before .before .before .before .args .up)))) (c .before .before .next-if .ensures)
-
-pick-bool-requires : tie.Need-pick-bool-requires
-pick-bool-requires c κs = search needs
-
--- the two tests, as the choice makes them
-both : (c : tie.After-pick-bool) → (c .before .before .before .before .crosses .result && c .before .leaves .result) ≡ c .pick-bool .result
-both c = pick-both (c .before .leaves .result) (c .before .before .before .before .crosses .result) (c .pick-bool .result) (c .pick-bool .ensures)
-
-returns-3 : tie.Need-returns-3
-returns-3 c =
-    let s = c .before .before .before .before .before .before .before .before .before .before .before .before .before .before in
-    ap (λ (v : Verdict). notedOf v (zOf (s .args .pace) (s .args .i)) (wordOf (hitAt (s .args .pace) (s .args .path) (s .args .i))))
-    (check-marked _ _ _ _ _ _ _ (hit (c .before .before .before .before .before)) (c .before .before .leaves .result) (c .before .before .before .before .before .before .if1 .left) (said (c .before .before)) (both (c .before) ∙ c .if2 .taken))
+    told (getD (c .before .before .before .before .before .before .before .before .before .before .before .before .before .args .backs .now) (c .before .before .before .next-if .result) (pos 0)) (deltaOf (c .before .before .before .before .before .before .before .before .before .before .before .before .before .args .up)) (c .leaves .result) (c .before .leaves-arg .given) (c .leaves .ensures)
+    ∙ ap (λ (q : ℕ). not (inI32 (getD (c .before .before .before .before .before .before .before .before .before .before .before .before .before .args .backs .now) q (pos 0) +ℤ deltaOf (c .before .before .before .before .before .before .before .before .before .before .before .before .before .args .up)))) (c .before .before .before .next-if .ensures)
 
 word-of-requires : tie.Need-word-of-requires
 word-of-requires c κs =
-    let s = c .before .before .before .before .before .before .before .before .before .before .before .before .before .before in
-    omega (arith, below (c .before .before .before .before .before .before .before .before .before .before), s .pre .0 .few)
+    let s = c .before .before .before .before .before .before .before .before .before .before in
+    omega (arith, below (c .before .before .before .before .before .before), s .pre .0 .few)
+
+check-step-requires : tie.Need-check-step-requires
+check-step-requires c κs = let s = c .before .before .before .before .before .before .before .before .before .before .before .before .before .before in (s .pre .0, s .pre .1, s .pre .2)
+
+noted-of-requires : tie.Need-noted-of-requires
+noted-of-requires c κs = search needs
+
+-- the word is the step's
+word : (c : tie.After-word-of) → let s = c .before .before .before .before .before .before .before .before .before .before .before in c .word-of .result ≡ wordOf (hitAt (s .args .pace) (s .args .path) (s .args .i))
+word c = c .word-of .ensures ∙ ap wordOf (sym (hit (c .before .before)))
+
+returns-3 : tie.Need-returns-3
+returns-3 c =
+    let s = c .before .before .before .before .before .before .before .before .before .before .before .before .before .before .before .before in
+    let v = checkNo (deltaOf (s .args .up)) (stepActs (hitAt (s .args .pace) (s .args .path) (s .args .i)) (s .args .i)) (s .args .backs .now) (s .args .counts .now) in
+    c .noted-of .ensures
+    ∙ ap (λ (x : Seen). notedBy x (c .before .before .before .before .before .word-of .result)) (c .before .check-step .ensures)
+    ∙ noted-by v (zOf (s .args .pace) (s .args .i)) (c .before .before .before .before .before .word-of .result)
+    ∙ ap (notedOf v (zOf (s .args .pace) (s .args .i))) (word (c .before .before .before .before .before))
 
 returns-4 : tie.Need-returns-4
 returns-4 c =
-    let s = c .before .before .before .before .before .before .before .before .before .before .before .before .before .before .before in
-    let h = hit (c .before .before .before .before .before .before) in
-    ap (λ z. Passed z (c .word-of .result)) (sym (step-told (s .args .pace) (s .args .path) (s .args .i) _ _ _ _ (fell (c .before .before .before .before .before .before .before .before .before .before .before)) .is-z))
-    ∙ ap (Passed (zOf (s .args .pace) (s .args .i))) (c .word-of .ensures ∙ ap wordOf (sym h))
+    let s = c .before .before .before .before .before .before .before .before .before .before .before .before .before .before in
+    let h = hit (c .before .before .before .before .before) in
+    ap (λ z. Passed z (c .before .before .before .word-of .result)) (sym (step-told (s .args .pace) (s .args .path) (s .args .i) _ _ _ _ (fell (c .before .before .before .before .before .before .before .before .before .before)) .is-z))
+    ∙ ap (Passed (zOf (s .args .pace) (s .args .i))) (word (c .before .before .before))
     ∙ ap (λ (v : Verdict). notedOf v (zOf (s .args .pace) (s .args .i)) (wordOf (hitAt (s .args .pace) (s .args .path) (s .args .i))))
-    (check-passes _ _ _ _ _ _ _ h (c .before .before .before .leaves .result) (c .before .before .before .before .before .before .before .if1 .left) (said (c .before .before .before)) (both (c .before .before) ∙ c .before .if2 .left))
+    (check-passes _ _ _ _ _ _ _ h (c .before .leaves .result) (c .before .before .before .before .before .before .if1 .left) (said (c .before)) (none-leaves (c .before .before .before .before .before .crosses .result) (c .before .leaves .result) (c .if2 .left)))
 
 pub note-step-spec : {M : Type 1} → statement M
 note-step-spec =
@@ -140,10 +148,11 @@ note-step-spec =
     returns-2
     crosses-requires
     next-if-requires
+    word-of-requires
     mul-leaves
     shared-slice-copy-out-leaves
     leaves-requires
-    pick-bool-requires
+    check-step-requires
+    noted-of-requires
     returns-3
-    word-of-requires
     returns-4)
