@@ -22,6 +22,7 @@ use panel::refusals::OUTSIDE;
 use segment::Piece;
 use segment::Segment;
 use walk::lent::Walked;
+use walk::setup::Pace;
 use walk::setup::Walk;
 use walk::step::Step;
 
@@ -71,19 +72,24 @@ fn look_step(w: Walk, step: Step, i: u32, slice: u32, indices: &[u32], slots: u3
     look_word(w, i, z, x, y, indices[tile.0 as usize], slice, slots)
 }
 
+// `walk::step::step_at`, here once more so that it is compiled into the loop over references.
+fn step_in(p: Pace, b: Path, i: u32) -> Step
+    requires { ⌜ Boxed b × (i < mostSteps) ⌝ }
+    ensures { λ r. ⌜ r ≡ stepOf p b i ⌝ }
+{
+    let f = i as f32;
+    let z = walk::step::z_at(p.a, p.b, f);
+    let x = float32::to_i32(p.x0 + p.sign * z);
+    let y = float32::to_i32(p.y0 + f - z);
+    walk::step::tile_in(b, x, y, z)
+}
+
 // Step i of a line and its slice number.
 fn look_line(w: Walk, p: Path, i: u32, slice: u32, indices: &[u32], slots: u32) -> Look
     requires { ⌜ (i < mostSteps) × (slice < mostSteps) × Boxed p × (endOf p ≤ length (now indices)) ⌝ }
     ensures { λ r. ⌜ r ≡ stepTo (now (indices .entry)) slots w i slice (stepOf (w .pace) p i) ⌝ }
 {
-    look_step(
-        w,
-        walk::step::step_at(w.pace, p, i),
-        i,
-        slice,
-        indices,
-        slots,
-    )
+    look_step(w, step_in(w.pace, p, i), i, slice, indices, slots)
 }
 
 // A reference's second word, where its line is as the walk found it: refused, or skipped (7).
