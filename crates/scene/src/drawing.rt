@@ -119,7 +119,7 @@ fn hubs(pen: Pen) -> Pen {
         .outline(&readings::STAR, DIAL_X, DIAL_Y + APART, HUB)
 }
 
-pub fn panel() -> Pen {
+pub(crate) fn panel() -> Pen {
     let strips = grid(alarms(ground(start())));
     let traces = axes(tower(sill(beams(strips))));
     hubs(needles(rings(faces(traces))))

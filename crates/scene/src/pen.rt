@@ -18,7 +18,7 @@ fn number(b: u8) -> f32 {
     b as f32
 }
 
-pub fn start() -> Pen {
+pub(crate) fn start() -> Pen {
     Pen {
         lines: 0,
         path: 0,
@@ -31,7 +31,7 @@ pub fn start() -> Pen {
 
 impl Pen {
     // The next lines are another path's.
-    pub fn of(mut self, path: u32) -> Self {
+    pub(crate) fn of(mut self, path: u32) -> Self {
         self.path = path;
         self
     }
@@ -61,7 +61,7 @@ impl Pen {
     }
 
     // A block w wide and h high, from its upper left corner.
-    pub fn block(self, x: f32, y: f32, w: f32, h: f32) -> Self {
+    pub(crate) fn block(self, x: f32, y: f32, w: f32, h: f32) -> Self {
         self.move_to(x, y)
             .line_to(x + w, y)
             .line_to(x + w, y + h)
@@ -70,7 +70,7 @@ impl Pen {
     }
 
     // n blocks, each dx and dy further on.
-    pub fn blocks(self, n: u8, x: f32, y: f32, w: f32, h: f32, dx: f32, dy: f32) -> Self {
+    pub(crate) fn blocks(self, n: u8, x: f32, y: f32, w: f32, h: f32, dx: f32, dy: f32) -> Self {
         let mut pen = self;
         let mut i: u8 = 0;
         while i < n {
@@ -83,7 +83,15 @@ impl Pen {
 
     // A trace, filled down to its line of rest, y: a reading every `step` from x on, `unit` high for each that
     // it is over `rest`.
-    pub fn trace(self, readings: &[u8], x: f32, y: f32, step: f32, unit: f32, rest: f32) -> Self {
+    pub(crate) fn trace(
+        self,
+        readings: &[u8],
+        x: f32,
+        y: f32,
+        step: f32,
+        unit: f32,
+        rest: f32,
+    ) -> Self {
         let mut pen = self.move_to(x, y);
         let mut at = x;
         let mut i = 0;
@@ -97,7 +105,7 @@ impl Pen {
     }
 
     // A closed outline from its points' x and y, those `unit` times their way from (128, 128), about (x, y).
-    pub fn outline(self, points: &[u8], x: f32, y: f32, unit: f32) -> Self {
+    pub(crate) fn outline(self, points: &[u8], x: f32, y: f32, unit: f32) -> Self {
         if points.len() < 2 {
             return self;
         }
