@@ -4,12 +4,10 @@
 --     Compare   their order
 --     Limits    the limits stay far under 2 ^ 24: the one place where they come in
 --     Bounds    from the check of a coordinate to a line's first numbers and its spans
---     Start     the first column by the first point alone
 --     Less      a whole number as a float, less one
 pub mod Signs
 pub mod Exact
 pub mod Compare
 pub mod Limits
 pub mod Bounds
-pub mod Start
 pub mod Less
