@@ -18,7 +18,7 @@ pub struct Sides {
 pub trait Stage: Sync {
     type Case: Clone + Send;
     const NAME: &'static str;
-    /// The answers that inputs can meet, each wanted at least 1,000 times.
+    /// The answers that inputs can meet, each wanted at least `LEAST` times.
     const REACHED: &'static [u32];
     /// Cases to run however long they take.
     const LEAST: u64;
@@ -38,6 +38,9 @@ pub struct Budget {
     pub cases: Option<u64>,
     pub threads: u64,
 }
+
+/// How often each answer that can be met is wanted. Through an emulator a call takes many times as long.
+const LEAST: u64 = if ours::BRIDGED { 50 } else { 1_000 };
 
 /// A check whose panic (a guard word changed, a call that faulted, a fault of the runner) is a difference too.
 fn checked<S: Stage>(stage: &S, case: &S::Case, sides: Sides, table: &mut Table) -> Result<(), String> {
@@ -109,7 +112,7 @@ pub fn run<S: Stage>(stage: &S, sides: Sides, budget: Budget) -> bool {
     }
     let mut well = true;
     for &number in S::REACHED {
-        if budget.cases.is_none() && all.answers(number) < 1_000 {
+        if budget.cases.is_none() && all.answers(number) < LEAST {
             println!("TOO FEW: {} answer {number} was met {} times", S::NAME, all.answers(number));
             well = false;
         }
