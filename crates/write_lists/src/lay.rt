@@ -21,7 +21,7 @@ ghost use Prim.Native.Nat.{_+_, _*_, _<_, _≤_};
 ghost use lib.ListN.{length};
 ghost use lib.Seq.{sets};
 ghost use Rattle.panel.specs.Limits.{mostSlots, mostTiles};
-ghost use Rattle.commands.specs.Numbers.{jumpWords, tileWords};
+ghost use Rattle.commands.specs.Numbers.{endNo, jumpWords, tileWords};
 ghost use Rattle.write_lists.specs.Pairs.{tables, tilePairs, putList};
 ghost use Rattle.write_lists.specs.Layout.{pairWords, pairSize, jumpIf, turned, after, pairChunks, jumpCount, begun, penAfter, laid, jumpsOf, ownWords, penOf, written};
 ghost use Rattle.write_lists.specs.Lists.{slotsFit, allFit, wordsNamed};
@@ -116,6 +116,14 @@ fn lay_put(words: &mut [u32], pen: Pen, put: Put) -> Pen
     }
 }
 
+// A list's last word.
+fn close(words: &mut [u32], at: usize)
+    requires { ⌜ at < length (now words) ⌝ }
+    ensures { λ _. ⌜ now (words .exit) ≡ sets (now (words .entry)) at (endNo ∷ []) ⌝ }
+{
+    words[at] = END;
+}
+
 // Screen tile t's list; where the next fresh region is after it.
 pub(crate) fn lay_tile(
     paths: &[u32],
@@ -137,18 +145,19 @@ pub(crate) fn lay_tile(
     let n = (paths.len() / PATH_WORDS) as u32;
     let x = t % cols;
     let y = t / cols;
+    let at = TILE_WORDS * (t as usize) + LIST_START;
     let mut pen = Pen {
-        at: TILE_WORDS * (t as usize) + LIST_START,
+        at,
         left: TILE_WORDS - LIST_START,
         fresh,
     };
-    let mut p = 0u32;
-    while p < n {
+    let mut ahead = n;
+    while ahead > 0 {
+        let p = n - ahead;
         let put = on_path(paths, paints, backdrops, stored, tally, x, y, p);
         pen = lay_put(words, pen, put);
-        p += 1;
+        ahead -= 1;
     }
-    let at = pen.at;
-    words[at] = END;
+    close(words, pen.at);
     pen.fresh
 }
