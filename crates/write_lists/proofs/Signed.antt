@@ -1,12 +1,12 @@
--- A signed number's bits: turned over where it is negative, the remainder by two, and whether it is 0. Assumes nothing.
+-- A signed number's bits, turned over where it is negative, its size, and whether it is 0. Assumes nothing.
 use mathlib.Core.Path.{_≡_, refl, sym, ap, _∙_, subst}
-use mathlib.Core.Bool.{true, false, not}
-use Prim.Native.Nat.{ℕ, zero, suc, _-_, _/_, _%_, _^_, _≤_, _<_}
+use mathlib.Core.Bool.{true, false}
+use Prim.Native.Nat.{ℕ, suc, _+_, _-_, _^_, _<_}
 use native.Mathlib.Omega.{arith}
 use borrow.Author.Tests.{ne-eqb}
 use lib.Dec.{T, eqb}
-use lib.IntN.{ℤ, pos, negsuc, natAbs, negℤ, _-ℤ_}
-use lib.Signed.{ltZ, nonNeg, mag, quotZ, remZ}
+use lib.IntN.{ℤ, pos, negsuc, natAbs, _-ℤ_}
+use lib.Signed.{ltZ, nonNeg}
 use mir.Syntax.{w32}
 use mir.Val.{Fits, SFits, ofZ}
 use Rattle.float32.proofs.Turned.{read, back, low, plain}
@@ -35,6 +35,14 @@ module _ (z : ℤ) (f : SFits w32 z) (t : ltZ (read z) (pos 0) ≡ true) where
   pub over-bits : not32 (natAbs (read (negsuc 0 -ℤ read z))) ≡ bitsOf z
   over-bits = ap (λ (y : ℤ). not32 (natAbs y)) over-is ∙ ap bitsOf (sym (below .1))
 
+  pub over-next : Fits w32 (natAbs (read (negsuc 0 -ℤ read z)) + 1)
+  over-next = rw over-is (record { fits = omega (arith, small) })
+
+  pub over-size : natAbs (read (negsuc 0 -ℤ read z)) + 1 ≡ natAbs z
+  over-size =
+      let next : below .0 + 1 ≡ suc (below .0) = omega arith in
+      ap (λ (y : ℤ). natAbs y + 1) over-is ∙ next ∙ ap natAbs (sym (below .1))
+
 -- ---- another one
 
 module _ (z : ℤ) (f : SFits w32 z) (t : ltZ (read z) (pos 0) ≡ false) where
@@ -50,30 +58,7 @@ module _ (z : ℤ) (f : SFits w32 z) (t : ltZ (read z) (pos 0) ≡ false) where
   pub same-bits : natAbs (read z) ≡ bitsOf z
   same-bits = ap natAbs same-is ∙ ap bitsOf (sym (above .1))
 
--- ---- by two
-
-size-neg : (r : ℕ) → mag (negℤ (pos r)) ≤ r
-size-neg zero = omega arith
-size-neg (suc r) = omega arith
-
-pub half-fits : (z : ℤ) → SFits w32 z → SFits w32 (quotZ z (pos 2))
-half-fits (pos n) f = record { sfits = omega (arith, f .sfits) }
-half-fits (negsuc n) f = record { sfits = omega (arith, f .sfits, size-neg (suc n / 2)) }
-
-one-bit : (m : ℕ) → m < 2 → not (eqb m 0) ≡ eqb m 1
-one-bit zero h = refl
-one-bit (suc zero) h = refl
-one-bit (suc (suc m)) h = absurd (omega arith)
-
-neg-bit : (m : ℕ) → m < 2 → not (eqb (ofZ w32 (negℤ (pos m))) 0) ≡ eqb m 1
-neg-bit zero h = refl
-neg-bit (suc zero) h = refl
-neg-bit (suc (suc m)) h = absurd (omega arith)
-
--- a remainder that isn't 0, also -1, is that of an odd number
-pub odd-bit : (z : ℤ) → not (eqb (ofZ w32 (remZ z (pos 2))) 0) ≡ eqb (natAbs z % 2) 1
-odd-bit (pos n) = one-bit (n % 2) (omega arith)
-odd-bit (negsuc n) = neg-bit (suc n % 2) (omega arith)
+-- ---- any
 
 pub zero-bits : (z : ℤ) → SFits w32 z → eqb (ofZ w32 z) 0 ≡ eqb (natAbs z) 0
 zero-bits (pos n) f = refl

@@ -1,20 +1,29 @@
 -- `write_lists::pairs::covers` meets its contract. Assumes nothing.
-use mathlib.Core.Path.{ap}
+use mathlib.Core.Path.{ap, _∙_}
 use mathlib.Core.Bool.{not}
-use native.Mathlib.Omega.{arith}
+use Prim.Native.Nat.{ℕ, _%_}
+use lib.Dec.{eqb}
+use lib.IntN.{natAbs}
+use borrow.Author.Needs.{needs}
 use Rattle.float32.proofs.Turned.{back}
-use Rattle.write_lists.proofs.Signed.{half-fits, odd-bit, zero-bits}
+use Rattle.write_lists.proofs.Signed.{zero-bits}
 use Rattle.write_lists.proofs.pairs.covers.Statement.{statement}
 use Rattle.write_lists.proofs.pairs.covers.Tie as tie
 
-rem-result : tie.Need-rem-result
-rem-result c = let f = c .before .fits .b in rw (back (c .before .args .b) f) (omega arith, half-fits (c .before .args .b) f)
+size-of-requires : tie.Need-size-of-requires
+size-of-requires c κs = search needs
+
+last-bit-requires : tie.Need-last-bit-requires
+last-bit-requires c κs = search needs
 
 returns : tie.Need-returns
-returns c = rw (c .if1 .taken, back (c .before .args .b) (c .before .fits .b)) (odd-bit (c .before .args .b))
+returns c =
+    let s = c .before .before .before in
+    let size = c .before .size-of .ensures ∙ ap natAbs (back (s .args .b) (s .fits .b)) in
+    rw (c .before .before .if1 .taken) (ap (λ (n : ℕ). eqb n 1) (c .last-bit .ensures ∙ ap (λ (n : ℕ). n % 2) size))
 
 returns-2 : tie.Need-returns-2
 returns-2 c = rw (c .if1 .left) (ap not (zero-bits (c .before .args .b) (c .before .fits .b)))
 
 pub covers-spec : {M : Type 1} → statement M
-covers-spec = tie.close (tie.spec rem-result returns returns-2)
+covers-spec = tie.close (tie.spec size-of-requires last-bit-requires returns returns-2)
