@@ -165,15 +165,15 @@ impl Stage for Frame {
     }
 }
 
-/// What is lent to be changed.
-struct Memory([Lent; 5]);
+/// What is lent to be changed: backdrops, tiles, tally, references, segments.
+pub struct Memory(pub [Lent; 5]);
 
 impl Memory {
-    fn of(case: &Case) -> Memory {
+    pub fn of(case: &Case) -> Memory {
         Memory([&case.backdrops, &case.tiles, &case.tally, &case.refs, &case.segments].map(|w| Lent::new(w)))
     }
 
-    fn lend<T>(&mut self, call: impl FnOnce(&mut [i32], &mut [u32], &mut [u32], &mut [u32], &mut [f32]) -> T) -> T {
+    pub fn lend<T>(&mut self, call: impl FnOnce(&mut [i32], &mut [u32], &mut [u32], &mut [u32], &mut [f32]) -> T) -> T {
         let [b, t, y, r, s] = &mut self.0;
         call(b.i32s_mut(), t.u32s_mut(), y.u32s_mut(), r.u32s_mut(), s.f32s_mut())
     }

@@ -10,6 +10,8 @@ use rules::lists::{Pair, Tables};
 
 #[derive(Clone, Debug)]
 pub struct Case {
+    /// The frame that leaves these tables, where one does: our stages then make them anew.
+    pub frame: Option<frame::Case>,
     pub paths: Vec<u32>,
     pub paints: Vec<u32>,
     pub backdrops: Vec<u32>,
@@ -44,27 +46,32 @@ fn paints(rng: &mut Rng, n: usize) -> Vec<u32> {
     (0..n).flat_map(|_| [color(rng), rule(rng)]).collect()
 }
 
-/// The tables of a frame that was drawn whole.
+/// A frame that is drawn whole, and the tables that it leaves.
 fn drawn(rng: &mut Rng) -> Option<Case> {
     let n_paths = rng.range(1, 6) as usize;
     let (paths, tiles) = near_boxes(rng, n_paths, 4);
     let n = rng.range(0, 24) as usize;
-    let mut f = frame::over(rng, paths, tiles, n, &frame::CALM);
-    let room = f.segments.len() as u32 / 5;
-    let mut b = vec![0i32; tiles];
-    let mut s: Vec<f32> = vec![0.0; f.segments.len()];
-    let number = rules::frame(&f.path_nos, as_f32(&f.coords), &f.paths, &mut b, &mut f.tiles, &mut f.tally, &mut f.refs, &mut s, &mut [0; 4]);
+    let f = frame::over(rng, paths, tiles, n, &frame::CALM);
+    left_by(f, paints(rng, n_paths))
+}
+
+/// The tables as the rules' stages leave them, where those draw the frame whole.
+fn left_by(f: frame::Case, paints: Vec<u32>) -> Option<Case> {
+    let mut memory = frame::Memory::of(&f);
+    let number = memory.lend(|b, t, y, r, s| rules::frame(&f.path_nos, as_f32(&f.coords), &f.paths, b, t, y, r, s, &mut [0; 4]));
+    let [backdrops, stored, tally, _, segments] = memory.0.map(|l| l.u32s().to_vec());
     (number == 0).then(|| Case {
-        paints: paints(rng, n_paths),
-        paths: f.paths,
-        backdrops: b.iter().map(|&v| v as u32).collect(),
-        stored: f.tiles,
-        tally: f.tally,
+        paints,
+        paths: f.paths.clone(),
+        backdrops,
+        stored,
+        tally,
         cols: 0,
         rows: 0,
-        room,
+        room: segments.len() as u32 / 5,
         words: 0,
-        segments: s.iter().map(|v| v.to_bits()).collect(),
+        segments,
+        frame: Some(f),
     })
 }
 
@@ -74,6 +81,7 @@ fn invented(rng: &mut Rng, n_paths: usize, most: i64) -> Case {
     let room = rng.pick(&[0, 1, 5, 9]) as u32;
     let fills = rng.below(5);
     let mut case = Case {
+        frame: None,
         paints: paints(rng, n_paths),
         paths,
         backdrops: vec![],
@@ -105,6 +113,7 @@ fn long(rng: &mut Rng) -> Case {
     let n = (last + rng.range(-1, 2)) as usize;
     let tile = |k: usize| [0, 0, 1, 1, k as u32];
     Case {
+        frame: None,
         paths: (0..n).flat_map(tile).collect(),
         paints: paints(rng, n),
         backdrops: (0..n).map(|_| rng.pick(&[1u32, u32::MAX])).collect(),
@@ -121,6 +130,7 @@ fn long(rng: &mut Rng) -> Case {
 /// A FILL's slots at the border of the room, or past all slots.
 fn move_slots(rng: &mut Rng, case: &mut Case) {
     let Some(t) = case.tally.iter().position(|&n| n > 0) else { return };
+    case.frame = None;
     let first = match rng.below(5) {
         0 => case.room - case.tally[t].min(case.room),
         1 => case.room - case.tally[t].min(case.room) + 1,
@@ -136,6 +146,7 @@ fn move_slots(rng: &mut Rng, case: &mut Case) {
 }
 
 fn spoil(rng: &mut Rng, case: &mut Case) {
+    case.frame = None;
     match rng.below(16) {
         0 => _ = case.paints.pop(),
         1 => case.paints.extend([1, 1]),
@@ -155,30 +166,68 @@ fn spoil(rng: &mut Rng, case: &mut Case) {
 
 type Call = fn(&[u32], &[u32], &[i32], &[u32], &[u32], u32, u32, u32, &mut [u32], &mut u32) -> u32;
 
-fn read(lent: &[Lent; 5]) -> Tables<'_> {
-    let [paths, paints, backdrops, stored, tally] = lent;
-    Tables { paths: paths.u32s(), paints: paints.u32s(), backdrops: backdrops.i32s(), stored: stored.u32s(), tally: tally.u32s() }
+/// What is lent: the tables, the segments for fine, and the words.
+struct Memory {
+    tables: [Lent; 5],
+    segments: Lent,
+    words: Lent,
+}
+
+impl Memory {
+    fn of(case: &Case) -> Memory {
+        let words: Vec<u32> = (0..case.words).map(|k| 0xc0de_0000 + k as u32).collect();
+        let tables = [&case.paths, &case.paints, &case.backdrops, &case.stored, &case.tally];
+        Memory { tables: tables.map(|w| Lent::new(w)), segments: Lent::new(&case.segments), words: Lent::new(&words) }
+    }
+
+    fn read(&self) -> Tables<'_> {
+        let [paths, paints, backdrops, stored, tally] = &self.tables;
+        Tables { paths: paths.u32s(), paints: paints.u32s(), backdrops: backdrops.i32s(), stored: stored.u32s(), tally: tally.u32s() }
+    }
+
+    /// One side's answer and item.
+    fn write(&mut self, call: Call, case: &Case) -> (u32, u32) {
+        let mut words = std::mem::replace(&mut self.words, Lent::new(&[]));
+        let (t, mut item) = (self.read(), 0xabcd);
+        let number = call(t.paths, t.paints, t.backdrops, t.stored, t.tally, case.cols, case.rows, case.room, words.u32s_mut(), &mut item);
+        self.words = words;
+        (number, item)
+    }
+
+    /// Our stages over the frame's lines, and what they leave in the tables' place.
+    fn make_anew(&mut self, f: &frame::Case) -> Result<(), String> {
+        let mut left = frame::Memory::of(f);
+        let number = left.lend(|b, t, y, r, s| ours::frame(&f.path_nos, as_f32(&f.coords), &f.paths, b, t, y, r, s, &mut [0; 4]));
+        same("our stages' answer", number, 0)?;
+        let [backdrops, stored, tally, _, segments] = left.0;
+        [self.tables[2], self.tables[3], self.tables[4]] = [backdrops, stored, tally];
+        self.segments = segments;
+        Ok(())
+    }
+
+    /// The words, and that what is only read is as it was made.
+    fn same_as(&self, wanted: &Memory) -> Result<(), String> {
+        let names = ["paths", "paints", "backdrops", "stored indices", "tally"];
+        for ((got, wanted), name) in self.tables.iter().zip(&wanted.tables).zip(names) {
+            same_words(name, got.u32s(), wanted.u32s())?;
+            same(name, got.guards_stand(), true)?;
+        }
+        same_words("segments", self.segments.u32s(), wanted.segments.u32s())?;
+        same_words("words", self.words.u32s(), wanted.words.u32s())?;
+        same("guards", self.words.guards_stand() && self.segments.guards_stand(), true)
+    }
 }
 
 impl Case {
-    /// The words lent, and the tables.
-    fn tables(&self) -> (Lent, [Lent; 5]) {
-        let words: Vec<u32> = (0..self.words).map(|k| 0xc0de_0000 + k as u32).collect();
-        (Lent::new(&words), [&self.paths, &self.paints, &self.backdrops, &self.stored, &self.tally].map(|w| Lent::new(w)))
-    }
-
-    /// One side's answer and item, and the words as it leaves them.
-    fn written(&self, call: Call, lent: &[Lent; 5], words: &mut Lent) -> (u32, u32) {
-        let t = read(lent);
-        let mut item = 0xabcd;
-        let number = call(t.paths, t.paints, t.backdrops, t.stored, t.tally, self.cols, self.rows, self.room, words.u32s_mut(), &mut item);
-        (number, item)
+    /// Another frame's tables under the same screen and words, where it is drawn whole.
+    fn framed(&self, f: frame::Case, paints: Vec<u32>) -> Option<Case> {
+        left_by(f, paints).map(|c| Case { cols: self.cols, rows: self.rows, words: self.words, ..c })
     }
 
     /// The words that the rules need, where the tables pass all other checks; for words lent near that number.
     fn needed(&self) -> usize {
-        let (_, lent) = self.tables();
-        let tables = read(&lent);
+        let lent = Memory::of(self);
+        let tables = lent.read();
         let mut regions = 0;
         for (x, y) in (0..self.rows as i64).flat_map(|y| (0..self.cols as i64).map(move |x| (x, y))) {
             regions += 1;
@@ -194,6 +243,18 @@ impl Case {
         }
         64 * regions
     }
+}
+
+/// The frame less a path and its lines; the tiles of that path lie between others then.
+fn without_path(f: &frame::Case, k: usize) -> frame::Case {
+    let mut less = f.clone();
+    less.paths.drain(5 * k..5 * k + 5);
+    (less.path_nos, less.coords) = (vec![], vec![]);
+    for (&path, line) in f.path_nos.iter().zip(f.coords.chunks_exact(4)).filter(|(&path, _)| path as usize != k) {
+        less.path_nos.push(path - (path as usize > k) as u32);
+        less.coords.extend(line);
+    }
+    less
 }
 
 impl Stage for WriteLists {
@@ -236,23 +297,22 @@ impl Stage for WriteLists {
     }
 
     fn check(&self, case: &Case, sides: Sides, table: &mut Table) -> Result<(), String> {
-        let c = case;
-        let (mut by_ours, lent) = case.tables();
-        let mut by_rules = by_ours.clone();
-        let (number, item) = case.written(rules::write_lists, &lent, &mut by_rules);
+        let mut by_rules = Memory::of(case);
+        let (number, item) = by_rules.write(rules::write_lists, case);
         table.answer(number);
+        let mut by_ours = Memory::of(case);
         if sides.ours {
-            let (our_number, our_item) = case.written(ours::write_lists, &lent, &mut by_ours);
-            same("answer", our_number, number)?;
-            same("item", our_item, item)?;
-            same_words("words", by_ours.u32s(), by_rules.u32s())?;
-            same("guards", by_ours.guards_stand() && lent.iter().all(|l| l.guards_stand()), true)?;
-            for (l, words) in lent.iter().zip([&c.paths, &c.paints, &c.backdrops, &c.stored, &c.tally]) {
-                same_words("lent to be read", l.u32s(), words)?;
+            if let (Some(f), true) = (&case.frame, ours::has::FRAME) {
+                by_ours.make_anew(f)?;
+                table.add("frames made by our stages", 1);
             }
+            let told = by_ours.write(ours::write_lists, case);
+            same("answer and item", told, (number, item))?;
+            by_ours.same_as(&by_rules)?;
         }
-        if number == 0 && c.segments.len() == 5 * c.room as usize {
-            draw(case, &read(&lent), &by_rules, sides, table)?;
+        if number == 0 && case.segments.len() == 5 * case.room as usize {
+            let lists = if sides.ours { &by_ours } else { &by_rules };
+            draw(case, lists, &by_rules, sides, table)?;
         }
         Ok(())
     }
@@ -270,8 +330,14 @@ impl Stage for WriteLists {
                 let mut c = case.clone();
                 c.paths.drain(5 * k..5 * k + 5);
                 c.paints.drain(2 * k..2 * k + 2);
-                out.push(c);
+                out.extend(match &case.frame {
+                    Some(f) => case.framed(without_path(f, k), c.paints),
+                    None => Some(c),
+                });
             }
+        }
+        if let Some(f) = &case.frame {
+            out.extend(frame::Frame.smaller(f).into_iter().filter_map(|f| case.framed(f, case.paints.clone())));
         }
         out
     }
@@ -280,9 +346,10 @@ impl Stage for WriteLists {
         if case.paths.len() > 600 {
             return format!("  {} paths, screen {} by {}, room {}, {} words", case.paths.len() / 5, case.cols, case.rows, case.room, case.words);
         }
+        let paths = || format!("  paths {:?}, tables that no frame made", case.paths);
+        let from = case.frame.as_ref().map_or_else(paths, |f| frame::Frame.show(f));
         format!(
-            "  paths {:?}\n  paints {}\n  backdrops {}\n  stored {}\n  tally {}\n  columns {}, rows {}, room {}, words {}",
-            case.paths,
+            "{from}\n  paints {}\n  backdrops {}\n  stored {}\n  tally {}\n  columns {}, rows {}, room {}, words {}",
             hex(&case.paints),
             hex(&case.backdrops),
             hex(&case.stored),
@@ -295,27 +362,29 @@ impl Stage for WriteLists {
     }
 }
 
-/// Fine over the written lists, and each tile painted without a list: by the rules, and by the Rust.
-fn draw(case: &Case, tables: &Tables, words: &Lent, sides: Sides, table: &mut Table) -> Result<(), String> {
-    let (cols, rows, list) = (case.cols, case.rows, as_f32(&case.segments));
+/// Fine over the lists, and each tile painted without a list from the rules' tables: by the rules, and by the Rust.
+fn draw(case: &Case, lists: &Memory, by_rules: &Memory, sides: Sides, table: &mut Table) -> Result<(), String> {
+    let (cols, rows) = (case.cols, case.rows);
     let width = 16 * cols as usize;
     let mut pixels = vec![0x5a5a_5a5a; 256 * (cols * rows) as usize];
     let mut item = 0;
     let fine = if sides.ours && ours::has::FINE { ours::fine } else { rules::fine };
-    let number = fine(words.u32s(), list, width as u32, cols, rows, 0, cols * rows, &mut pixels, &mut item);
+    let number = fine(lists.words.u32s(), lists.segments.f32s(), width as u32, cols, rows, 0, cols * rows, &mut pixels, &mut item);
     same("fine's answer over the written lists", (number, item), (0, 0))?;
-    let records = oracle::segments_of(list);
+    let (tables, segments) = (by_rules.read(), by_rules.segments.f32s());
+    let records = oracle::segments_of(segments);
     for t in 0..cols * rows {
         let (x, y) = ((t % cols) as i64, (t / cols) as i64);
         let at = |row: usize| width * (16 * y as usize + row) + 16 * x as usize;
         let drawn: Vec<u32> = (0..16).flat_map(|row| pixels[at(row)..at(row) + 16].to_vec()).collect();
         let pairs = tables.pairs(x, y);
-        same_words("pixels beside painting in order", &drawn, &rules::lists::painted(&pairs, list))?;
+        same_words("pixels beside painting in order", &drawn, &rules::lists::painted(&pairs, segments))?;
         if sides.rust {
-            let by_rust = oracle::fine_tile(fills_alone(tables, x, y).for_tile(1), &records);
+            let by_rust = oracle::fine_tile(fills_alone(&tables, x, y).for_tile(1), &records);
             same_words("pixels beside the Rust", &drawn, &by_rust.map_err(|_| "the Rust panicked")?)?;
         }
         table.add("tiles drawn", 1);
+        table.add("tiles drawn of a frame", case.frame.is_some() as u64);
         table.add("tiles of more than one region", (pairs.len() > 10) as u64);
         table.add("pairs drawn", pairs.len() as u64);
     }
