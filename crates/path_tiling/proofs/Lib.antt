@@ -3,6 +3,7 @@ pub mod FoundLaws
 pub mod LookLaws
 pub mod PutLaws
 pub mod RangeLaws
+pub mod RunLaws
 pub mod CallLaws
 pub mod WriteLaws
 pub mod Traces

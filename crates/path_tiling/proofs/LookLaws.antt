@@ -12,6 +12,7 @@ use Rattle.panel.specs.declared.kinds.Path.{Path}
 use Rattle.panel.specs.declared.kinds.TileNo.{TileNo}
 use Rattle.walk.specs.Num.{cutOf}
 use Rattle.walk.specs.Step.{Boxed, Within, tileIn, stepOf}
+use Rattle.walk.proofs.Walks.{StartsAt}
 use Rattle.walk.proofs.Boxes.{okOf, ok-told, told-within, tile-below}
 use Rattle.walk.specs.declared.setup.Pace.{Pace}
 use Rattle.walk.specs.declared.setup.Walk.{Walk}
@@ -30,7 +31,7 @@ slice-small packed h = omega arith
 pub tile-fits : {n : ℕ} {s : Step} {t : TileNo} {x y : ℕ} {z : Float} → s ≡ Tile t x y z → StepFits n s → (t .0 < n) × (x ≤ edgeMost) × (y ≤ edgeMost)
 tile-fits e h = rw e at h
 
-pub line-fits : {n : ℕ} {f : Walked} {w : Walk} {p : Path} → f ≡ Line w p → FoundFits n f → Boxed p × (endOf p ≤ n)
+pub line-fits : {n : ℕ} {f : Walked} {w : Walk} {p : Path} → f ≡ Line w p → FoundFits n f → Boxed p × (endOf p ≤ n) × StartsAt (w .pace)
 line-fits e h = rw e at h
 
 -- a step's tile is in its path's box, so its number is in the path's range

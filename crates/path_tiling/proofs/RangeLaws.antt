@@ -1,7 +1,7 @@
 -- A range of references, turn by turn: what is left from here, on the segments as they are now, is what the whole range comes to. Assumes nothing.
 --     look-is      a reference, by its words and its line as it was found
 --     found-fits   a line that was found has a path that passed its checks
---     goes, halts  a turn that is fine, and one that is not
+--     goes, halts  a reference that is fine, and one that is not
 --     ends         no reference is left
 use Prim.Native.Nat.{ℕ, zero, suc, _+_, _-_, _*_, _/_, _≤_, _<_}
 use native.Mathlib.Omega.{arith}
@@ -34,10 +34,9 @@ use Rattle.walk.specs.declared.lent.Walked.{Walked}
 use Rattle.walk.specs.declared.lent.Walked.the-variants as Found
 use Rattle.walk.proofs.Boxes.{fits-boxed}
 use Rattle.walk.proofs.Lines.{skipped}
+use Rattle.walk.proofs.Walks.{StartsAt, line-starts}
 use Rattle.path_tiling.specs.Look.{Lent, lent, lineAt, packedAt, FoundFits, foundOf, foundTo, lookOf}
-use Rattle.path_tiling.specs.Kept.{keptOf, Held}
 use Rattle.path_tiling.specs.Tiling.{Range, range, lookThen, rangeOf, putOf, floatsOf, One, one, oneOf, Tiled, tiled, rangeTiled, slotsOf}
-use Rattle.path_tiling.specs.declared.look.Kept.{Kept}
 use Rattle.path_tiling.specs.declared.look.Look.{Look}
 use Rattle.path_tiling.specs.declared.look.Look.the-variants.{Put, Empty, Against}
 
@@ -60,11 +59,11 @@ found-fits ns cs ps n l e =
     let p1 : Vec2 = Lines.lineAt cs l .p1 in
     let found : Walked = walkedOf p0 p1 (pathAt ps path) in
     let there : Walked = cond (ltb path (pathCount ps)) found (Found.Refused noSuch) in
-    let fits : path < pathCount ps → FoundFits n found =
-    λ h. walked-fits n p0 p1 (pathAt ps path) (fits-boxed (pathAt ps path) n (c .tiled) (c .fits path h), c .fits path h .within) in
+    let fits : reachedOf p0 p1 ≡ true → path < pathCount ps → FoundFits n found =
+    λ r h. walked-fits n p0 p1 (pathAt ps path) (fits-boxed (pathAt ps path) n (c .tiled) (c .fits path h), c .fits path h .within, line-starts p0 p1 r) in
     fits-if n (ltb l (length ns)) (cond (reachedOf p0 p1) there (Found.Refused coordinate)) (Found.Refused noSuch)
     (λ _. fits-if n (reachedOf p0 p1) there (Found.Refused coordinate)
-    (λ _. fits-if n (ltb path (pathCount ps)) found (Found.Refused noSuch) (λ h. fits (ltb-true path (pathCount ps) h)) tt) tt) tt
+    (λ r. fits-if n (ltb path (pathCount ps)) found (Found.Refused noSuch) (λ h. fits r (ltb-true path (pathCount ps) h)) tt) tt) tt
 
 -- ---- a reference
 
@@ -123,58 +122,6 @@ module _ (L : Lent) (slots : ℕ) where
   unfolding rangeOf
   ends to k segs h = let none-left : to - k ≡ 0 = omega arith in rw none-left
 
--- what holds at each turn of the loop over the references
-pub record Going (from to : ℕ) (L : Lent) (slots : ℕ) (segs₀ segs : List Float) (kept : Kept) (k : ℕ) : Type 0 where
-  pub low : from ≤ k
-  pub high : k ≤ to
-  pub long : length segs ≡ length segs₀
-  pub held : Held (L .pathNos) (L .coords) (L .paths) kept
-  pub left : rangeTiled (rangeOf L slots (to - k) k) segs ≡ rangeTiled (rangeOf L slots (to - from) from) segs₀
-
 -- the slots are within the segments lent
 pub slots-fit : (floats : ℕ) → slotsOf floats * segmentFloats ≤ floats
 slots-fit floats = omega arith
-
-held-from : (ns : List ℕ) (cs : List Float) (ps : List ℕ) (kept : Kept) (l : ℕ) → kept ≡ keptOf ns cs ps l → Held ns cs ps kept
-held-from ns cs ps kept l e known = e ∙ ap (λ (m : ℕ). keptOf ns cs ps m) (sym (ap (λ (x : Kept). x .line .0) e))
-
--- reference k, whose line is `kept`: the loop goes on, or is at its end
-module _
-    (from to : ℕ)
-    (L : Lent)
-    (slots : ℕ)
-    (segs₀ segs : List Float)
-    (kept : Kept)
-    (k : ℕ)
-    (g : Going from to L slots segs₀ segs kept k)
-  where
-    looked : (next : Kept) (v v′ : Verdict) (segs′ : List Float) → next ≡ keptOf (L .pathNos) (L .coords) (L .paths) (lineAt (L .refs) k)
-        → one v segs′ ≡ oneOf (foundTo (L .indices) slots (packedAt (L .refs) k) (next .found)) segs → v ≡ v′
-        → one v′ segs′ ≡ oneOf (lookOf L slots k) segs
-    looked next v v′ segs′ h e q =
-        rw (← q, look-is L slots k, e) (ap (λ (x : Kept). oneOf (foundTo (L .indices) slots (packedAt (L .refs) k) (x .found)) segs) h)
-
-    whole : slots ≡ slotsOf (length segs₀)
-        → rangeTiled (rangeOf L slots (to - from) from) segs₀ ≡ rangeTiled (rangeOf L (slotsOf (length segs₀)) (to - from) from) segs₀
-    whole s = ap (λ (n : ℕ). rangeTiled (rangeOf L n (to - from) from) segs₀) s
-
-    pub turned : (next : Kept) (v : Verdict) (segs′ : List Float) → k < to → next ≡ keptOf (L .pathNos) (L .coords) (L .paths) (lineAt (L .refs) k)
-        → one v segs′ ≡ oneOf (foundTo (L .indices) slots (packedAt (L .refs) k) (next .found)) segs → v ≡ Verdict.Fine
-        → Going from to L slots segs₀ segs′ next (k + 1)
-    turned next v segs′ b h e q =
-        record {
-          low = omega arith;
-          high = omega arith;
-          long = one-length (foundTo (L .indices) slots (packedAt (L .refs) k) (next .found)) v segs segs′ e ∙ g .long;
-          held = held-from (L .pathNos) (L .coords) (L .paths) next (lineAt (L .refs) k) h;
-          left = sym (goes L slots to k segs segs′ b (looked next v Verdict.Fine segs′ h e q)) ∙ g .left;
-        }
-
-    pub stopped : (next : Kept) (v : Verdict) (segs′ : List Float) (why : ℕ) → k < to → next ≡ keptOf (L .pathNos) (L .coords) (L .paths) (lineAt (L .refs) k)
-        → one v segs′ ≡ oneOf (foundTo (L .indices) slots (packedAt (L .refs) k) (next .found)) segs → v ≡ Verdict.Against why → slots ≡ slotsOf (length segs₀)
-        → tiled (Refused why k) segs′ ≡ rangeTiled (rangeOf L (slotsOf (length segs₀)) (to - from) from) segs₀
-    stopped next v segs′ why b h e q s =
-        sym (halts L slots to k why segs segs′ b (looked next v (Verdict.Against why) segs′ h e q)) ∙ g .left ∙ whole s
-
-    pub over : to ≤ k → slots ≡ slotsOf (length segs₀) → tiled Done segs ≡ rangeTiled (rangeOf L (slotsOf (length segs₀)) (to - from) from) segs₀
-    over h s = sym (ends L slots to k segs h) ∙ g .left ∙ whole s

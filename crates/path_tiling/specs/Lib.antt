@@ -1,5 +1,5 @@
 -- A segment for each reference of a range. Definitions only.
 pub mod Look
 pub mod Found
-pub mod Kept
 pub mod Tiling
+pub mod Runs

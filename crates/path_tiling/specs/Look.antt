@@ -10,6 +10,7 @@ use Rattle.panel.specs.Refusals.{noSuch, noRoom, outside, crooked}
 use Rattle.panel.specs.Widths.{refWords}
 use Rattle.panel.specs.Kinds.{slotNoOf}
 use Rattle.panel.specs.Paths.{endOf}
+use Rattle.exact.specs.Reach.{Starts}
 use Rattle.walk.specs.Step.{Boxed, stepOf}
 use Rattle.walk.specs.Lent.{walkAt}
 use Rattle.walk.specs.declared.setup.Walk.{Walk}
@@ -86,9 +87,9 @@ foundTo indices slots packed (Found.Line w p) =
 foundTo indices slots packed Found.Skipped = Against noSuch
 foundTo indices slots packed (Found.Refused why) = Against why
 
--- what a line that was found is known of: its path's box is within the limits, and its tiles are among n
+-- what a line that was found is known of: its path's box is within the limits, its tiles are among n, and it was checked
 abbrev pub FoundFits : ℕ → Walked.Walked → Type 0
-FoundFits n (Found.Line w p) = Boxed p × (endOf p ≤ n)
+FoundFits n (Found.Line w p) = Boxed p × (endOf p ≤ n) × Starts (w .pace .sign) (w .pace .x0) (w .pace .y0)
 FoundFits n Found.Skipped = Unit {0}
 FoundFits n (Found.Refused why) = Unit {0}
 

@@ -4,12 +4,12 @@ pub mod found;
 pub mod look;
 
 ghost use mathlib.Core.Path.{_≡_};
-ghost use Prim.Native.Nat.{_+_, _-_, _*_, _≤_};
+ghost use Prim.Native.Nat.{_+_, _-_, _*_, _/_, _≤_};
 ghost use lib.ListN.{length};
-ghost use Rattle.panel.specs.Widths.{segmentFloats};
+ghost use Rattle.panel.specs.Widths.{refWords, segmentFloats};
 ghost use Rattle.path_tiling.specs.Look.{lent, FoundFits, foundTo};
 ghost use Rattle.path_tiling.specs.Tiling.{putOf, one, oneOf, slotsOf, wholeOf, Ready, rangeOf, tiled, rangeTiled, tiledOf};
-use look::Kept;
+ghost use Rattle.path_tiling.specs.Runs.{ranOf, runOf};
 use look::Look;
 use panel::kinds::Answer;
 use panel::kinds::LineNo;
@@ -70,8 +70,48 @@ fn slots_of(floats: usize) -> u32
     }
 }
 
-// The references from `from` up to `to`, in order, up to the first that is refused. The numbers of a
-// line are kept while the next reference names the same line.
+// How far a run of references was tiled: up to `next`, or up to the refusal of `next`.
+pub struct Ran {
+    pub answer: Answer,
+    pub next: u32,
+}
+
+// The references from `from` up to `to`, in order, as long as they name this line, up to the first that
+// is refused. The line's numbers are found once for all of them.
+fn tile_run(
+    found: Walked,
+    line: LineNo,
+    from: u32,
+    to: u32,
+    indices: &[u32],
+    refs: &[u32],
+    slots: u32,
+    segments: &mut [f32],
+) -> Ran
+    requires { ⌜ FoundFits (length (now indices)) found × (slots * segmentFloats ≤ length (now segments)) × (from ≤ to) × (to ≤ length (now refs) / refWords) ⌝ }
+    ensures { λ r. ⌜ ranOf r (now (segments .exit)) ≡ runOf (now (indices .entry)) slots (now (refs .entry)) found (line .0) (to - from) from (now (segments .entry)) ⌝ }
+{
+    let mut k = from;
+    while k < to {
+        let at = (k as usize) * REF_WORDS;
+        let named = refs[at];
+        if named != line.0 {
+            let answer = Answer::Done;
+            return Ran { answer, next: k };
+        }
+        let packed = refs[at + 1];
+        let v = tile_one(found, packed, indices, slots, segments);
+        if let Verdict::Against(why) = v {
+            let answer = Answer::Refused(why, k);
+            return Ran { answer, next: k };
+        }
+        k += 1;
+    }
+    let answer = Answer::Done;
+    Ran { answer, next: k }
+}
+
+// The references from `from` up to `to`, in order, up to the first that is refused, run by run.
 fn tile_range(
     from: u32,
     to: u32,
@@ -86,19 +126,18 @@ fn tile_range(
     ensures { λ r. ⌜ tiled r (now (segments .exit)) ≡ rangeTiled (rangeOf (lent (now («path_nos» .entry)) (now (coords .entry)) (now (paths .entry)) (now (indices .entry)) (now (refs .entry))) (slotsOf (length (now (segments .entry)))) (to - from) from) (now (segments .entry)) ⌝ }
 {
     let slots = slots_of(segments.len());
-    let mut kept = look::none_kept();
     let mut k = from;
     while k < to {
         let at = (k as usize) * REF_WORDS;
-        let line = LineNo(refs[at]);
-        let packed = refs[at + 1];
-        kept = kept.next(path_nos, coords, paths, line);
-        let found = kept.found;
-        let v = tile_one(found, packed, indices, slots, segments);
-        if let Verdict::Against(why) = v {
-            return Answer::Refused(why, k);
+        let named = refs[at];
+        let line = LineNo(named);
+        let found = look::found_at(path_nos, coords, paths, line);
+        let ran = tile_run(found, line, k, to, indices, refs, slots, segments);
+        let answer = ran.answer;
+        if let Answer::Refused(why, item) = answer {
+            return Answer::Refused(why, item);
         }
-        k += 1;
+        k = ran.next;
     }
     Answer::Done
 }

@@ -1,15 +1,14 @@
 // What one reference comes to: path_tiling.rs, lines 30 to 39 and 62 to 86, with the refusals in the
 // place of its panics.
 ghost use mathlib.Core.Path.{_≡_};
-ghost use mathlib.Core.Bool.{false};
 ghost use Prim.Native.Nat.{_*_, _<_, _≤_};
 ghost use lib.ListN.{length};
 ghost use Rattle.panel.specs.Limits.{mostSteps, mostTiles, edgeMost};
 ghost use Rattle.panel.specs.Widths.{lineFloats};
 ghost use Rattle.panel.specs.Paths.{endOf};
+ghost use Rattle.exact.specs.Reach.{Starts};
 ghost use Rattle.walk.specs.Step.{Boxed, stepOf};
 ghost use Rattle.segment.specs.Clips.{pieceOf};
-ghost use Rattle.path_tiling.specs.Kept.{keptOf, Held};
 ghost use Rattle.path_tiling.specs.Look.{StepFits, FoundFits, pieceTo, wordTo, stepTo, foundTo, foundOf};
 use panel::kinds::LineNo;
 use panel::kinds::Path;
@@ -21,8 +20,9 @@ use panel::refusals::NO_SUCH;
 use panel::refusals::OUTSIDE;
 use segment::Piece;
 use segment::Segment;
+use walk::edges::edges_of;
+use walk::edges::step_by;
 use walk::lent::Walked;
-use walk::setup::Pace;
 use walk::setup::Walk;
 use walk::step::Step;
 
@@ -72,24 +72,13 @@ fn look_step(w: Walk, step: Step, i: u32, slice: u32, indices: &[u32], slots: u3
     look_word(w, i, z, x, y, indices[tile.0 as usize], slice, slots)
 }
 
-// `walk::step::step_at`, here once more so that it is compiled into the loop over references.
-fn step_in(p: Pace, b: Path, i: u32) -> Step
-    requires { ⌜ Boxed b × (i < mostSteps) ⌝ }
-    ensures { λ r. ⌜ r ≡ stepOf p b i ⌝ }
-{
-    let f = i as f32;
-    let z = walk::step::z_at(p.a, p.b, f);
-    let x = float32::to_i32(p.x0 + p.sign * z);
-    let y = float32::to_i32(p.y0 + f - z);
-    walk::step::tile_in(b, x, y, z)
-}
-
 // Step i of a line and its slice number.
 fn look_line(w: Walk, p: Path, i: u32, slice: u32, indices: &[u32], slots: u32) -> Look
-    requires { ⌜ (i < mostSteps) × (slice < mostSteps) × Boxed p × (endOf p ≤ length (now indices)) ⌝ }
+    requires { ⌜ (i < mostSteps) × (slice < mostSteps) × Boxed p × (endOf p ≤ length (now indices)) × Starts (w .pace .sign) (w .pace .x0) (w .pace .y0) ⌝ }
     ensures { λ r. ⌜ r ≡ stepTo (now (indices .entry)) slots w i slice (stepOf (w .pace) p i) ⌝ }
 {
-    look_step(w, step_in(w.pace, p, i), i, slice, indices, slots)
+    let step = step_by(w.pace, p, edges_of(p), i);
+    look_step(w, step, i, slice, indices, slots)
 }
 
 // A reference's second word, where its line is as the walk found it: refused, or skipped (7).
@@ -112,7 +101,7 @@ pub fn look_at(found: Walked, packed: u32, indices: &[u32], slots: u32) -> Look
 }
 
 // A line as the walk finds it; no such line is refused (7).
-fn found_at(path_nos: &[u32], coords: &[f32], paths: &[u32], line: LineNo) -> Walked
+pub(crate) fn found_at(path_nos: &[u32], coords: &[f32], paths: &[u32], line: LineNo) -> Walked
     requires { ⌜ length (now «path_nos») * lineFloats ≤ length (now coords) ⌝ }
     ensures { λ r. ⌜ r ≡ foundOf (now («path_nos» .entry)) (now (coords .entry)) (now (paths .entry)) (line .0) ⌝ }
 {
@@ -120,43 +109,5 @@ fn found_at(path_nos: &[u32], coords: &[f32], paths: &[u32], line: LineNo) -> Wa
         super::found::walk_at(path_nos, coords, paths, line.0)
     } else {
         Walked::Refused(NO_SUCH)
-    }
-}
-
-// A line as the walk found it, kept while the next reference names the same line. `known` is false
-// before the first reference, when no line is kept.
-pub struct Kept {
-    pub known: bool,
-    pub line: LineNo,
-    pub found: Walked,
-}
-
-pub fn none_kept() -> Kept
-    ensures { λ r. ⌜ r .known ≡ false ⌝ }
-{
-    let line = LineNo(0);
-    let found = Walked::Skipped;
-    Kept {
-        known: false,
-        line,
-        found,
-    }
-}
-
-impl Kept {
-    // The line of the next reference.
-    pub fn next(self, path_nos: &[u32], coords: &[f32], paths: &[u32], line: LineNo) -> Self
-        requires { ⌜ (length (now «path_nos») * lineFloats ≤ length (now coords)) × Held (now «path_nos») (now coords) (now paths) self ⌝ }
-        ensures { λ r. ⌜ r ≡ keptOf (now («path_nos» .entry)) (now (coords .entry)) (now (paths .entry)) (line .0) ⌝ }
-    {
-        if self.known & (line.0 == self.line.0) {
-            return self;
-        }
-        let found = found_at(path_nos, coords, paths, line);
-        Kept {
-            known: true,
-            line,
-            found,
-        }
     }
 }

@@ -18,7 +18,7 @@ enum-known-found-2 c = search needs
 look-line-requires : tie.Need-look-line-requires
 look-line-requires c κs =
     let fits = line-fits (c .before .found2 .given .1) (c .before .before .before .before .pre) in
-    (step-small (c .before .before .before .before .args .packed), slice-small (c .before .before .before .before .args .packed) (omega arith), fits .0, fits .1)
+    (step-small (c .before .before .before .before .args .packed), slice-small (c .before .before .before .before .args .packed) (omega arith), fits .0, fits .1, fits .2)
 
 returns : tie.Need-returns
 unfolding foundTo

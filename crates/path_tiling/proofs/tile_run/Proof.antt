@@ -1,0 +1,106 @@
+-- `path_tiling::tile_run` meets its contract. The loop's invariant, `Running`: what is left of the run from reference k on, on the segments as they are
+-- now, is what the run comes to. The measure is what is left of the references. Assumes nothing.
+use Prim.Native.Nat.{_+_, _-_, _*_, _/_, _≤_, _<_}
+use native.Mathlib.Nat.{le-refl}
+use native.Mathlib.Omega.{arith}
+use mathlib.Core.Path.{_≡_, refl, sym, ap, _∙_}
+use borrow.Author.Needs.{needs}
+use borrow.Author.Tests.{eq-eqb, ne-eqb}
+use lib.ListN.{length}
+use Rattle.panel.specs.Widths.{refWords, segmentFloats}
+use Rattle.path_tiling.proofs.RunLaws.{Running, turned, stopped, other, over}
+use Rattle.path_tiling.proofs.tile_run.Statement.{statement}
+use Rattle.path_tiling.proofs.tile_run.Tie as tie
+
+abbrev Inv-loop : tie.InvT-loop
+Inv-loop found line from to indices refs slots segments₀ k₀ segments k = Running indices slots refs found (line .0) from to segments₀ segments k
+
+abbrev μ-loop : tie.MeasureT-loop
+μ-loop found line from to indices refs slots segments₀ k₀ segments k = to - k
+
+loop-holds : tie.Need-loop-holds Inv-loop μ-loop
+loop-holds c = record { low = le-refl _; high = c .before .before .before .pre .2; long = refl; left = refl }
+
+cast-at : tie.Need-cast-at Inv-loop μ-loop
+cast-at c = search needs
+
+mul-at : tie.Need-mul-at Inv-loop μ-loop
+mul-at c = search needs
+
+mul-named : tie.Need-mul-named Inv-loop μ-loop
+mul-named c = search needs
+
+shared-slice-read-named : tie.Need-shared-slice-read-named Inv-loop μ-loop
+shared-slice-read-named c = omega (arith, c .before .before .before .before .before .before .pre .3, c .before .loop-test .taken)
+
+same-length : tie.Need-same-length Inv-loop μ-loop
+same-length c = search needs
+
+returns : tie.Need-returns Inv-loop μ-loop
+returns c = other _ _ _ _ _ _ _ _ _ _ (c .before .before .before .before .loop .inv) (c .before .before .before .loop-test .taken) (ne-eqb _ _ (c .if1 .taken))
+
+add-packed : tie.Need-add-packed Inv-loop μ-loop
+add-packed c = search needs
+
+mul-packed : tie.Need-mul-packed Inv-loop μ-loop
+mul-packed c = search needs
+
+shared-slice-read-packed : tie.Need-shared-slice-read-packed Inv-loop μ-loop
+shared-slice-read-packed c = omega (arith, c .before .before .before .before .before .before .before .before .before .pre .3, c .before .before .before .before .loop-test .taken)
+
+tile-one-requires : tie.Need-tile-one-requires Inv-loop μ-loop
+tile-one-requires c κs = (c .before .before .before .before .before .before .before .before .before .before .pre .0, omega (arith, c .before .before .before .before .before .before .before .before .before .before .pre .1, c .before .before .before .before .before .before .loop .inv .long))
+
+enum-known-v : tie.Need-enum-known-v Inv-loop μ-loop
+enum-known-v c = search needs
+
+same-length-2 : tie.Need-same-length-2 Inv-loop μ-loop
+same-length-2 c = search needs
+
+returns-2 : tie.Need-returns-2 Inv-loop μ-loop
+returns-2 c = stopped _ _ _ _ _ _ _ _ _ _ (c .before .before .before .before .before .before .before .before .before .before .before .before .loop .inv) _ _ _ (c .before .before .before .before .before .before .before .before .before .before .before .loop-test .taken) (eq-eqb _ _ (c .before .before .before .before .before .before .before .before .if1 .left)) (c .before .before .before .before .before .tile-one .ensures) (c .before .v .given .1)
+
+enum-told : tie.Need-enum-told Inv-loop μ-loop
+enum-told c = search needs
+
+add-k : tie.Need-add-k Inv-loop μ-loop
+add-k c = search needs
+
+loop-less : tie.Need-loop-less Inv-loop μ-loop
+loop-less c = omega arith
+
+loop-again : tie.Need-loop-again Inv-loop μ-loop
+loop-again c = turned _ _ _ _ _ _ _ _ _ _ (c .before .before .before .before .before .before .before .before .before .before .before .loop .inv) _ _ (c .before .before .before .before .before .before .before .before .before .before .loop-test .taken) (eq-eqb _ _ (c .before .before .before .before .before .before .before .if1 .left)) (c .before .before .before .before .tile-one .ensures) (c .enum-told .given .1)
+
+same-length-3 : tie.Need-same-length-3 Inv-loop μ-loop
+same-length-3 c = search needs
+
+returns-3 : tie.Need-returns-3 Inv-loop μ-loop
+returns-3 c = over _ _ _ _ _ _ _ _ _ _ (c .before .loop .inv) (c .loop-test .left)
+
+pub tile-run-spec : {M : Type 1} → statement M
+tile-run-spec =
+    tie.close
+    (tie.spec
+    Inv-loop
+    μ-loop
+    loop-holds
+    cast-at
+    mul-at
+    mul-named
+    shared-slice-read-named
+    same-length
+    returns
+    add-packed
+    mul-packed
+    shared-slice-read-packed
+    tile-one-requires
+    enum-known-v
+    same-length-2
+    returns-2
+    enum-told
+    add-k
+    loop-less
+    loop-again
+    same-length-3
+    returns-3)
