@@ -1,5 +1,4 @@
 -- A segment for each reference of a range. Definitions only.
 pub mod Look
-pub mod Found
 pub mod Kept
 pub mod Tiling

@@ -1,9 +1,9 @@
--- `path_tiling::found::past_by` meets its contract. Assumes nothing.
+-- `walk::found::past_by` meets its contract. Assumes nothing.
 use borrow.Author.Needs.{needs}
 use Rattle.walk.specs.Skip.{pastOf}
-use Rattle.path_tiling.proofs.FoundLaws.{real, smaller}
-use Rattle.path_tiling.proofs.found.past_by.Statement.{statement}
-use Rattle.path_tiling.proofs.found.past_by.Tie as tie
+use Rattle.walk.proofs.FoundLaws.{real, smaller}
+use Rattle.walk.proofs.found.past_by.Statement.{statement}
+use Rattle.walk.proofs.found.past_by.Tie as tie
 
 pick-requires : tie.Need-pick-requires
 pick-requires c κs = search needs

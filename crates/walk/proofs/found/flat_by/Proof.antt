@@ -1,8 +1,8 @@
--- `path_tiling::found::flat_by` meets its contract. Assumes nothing.
+-- `walk::found::flat_by` meets its contract. Assumes nothing.
 use borrow.Author.Needs.{needs}
 use Rattle.walk.specs.Skip.{flatOf}
-use Rattle.path_tiling.proofs.found.flat_by.Statement.{statement}
-use Rattle.path_tiling.proofs.found.flat_by.Tie as tie
+use Rattle.walk.proofs.found.flat_by.Statement.{statement}
+use Rattle.walk.proofs.found.flat_by.Tie as tie
 
 abs-requires : tie.Need-abs-requires
 abs-requires c κs = search needs

@@ -1,4 +1,4 @@
--- `path_tiling::found::counts_by` meets its contract. Assumes nothing.
+-- `walk::found::counts_by` meets its contract. Assumes nothing.
 use borrow.Author.Needs.{needs}
 use mathlib.Core.Path.{_≡_, refl}
 use Prim.Native.Nat.{ℕ}
@@ -6,10 +6,10 @@ use native.Mathlib.Omega.{arith}
 use Rattle.util.specs.Span.{spanOf}
 use Rattle.exact.proofs.Limits.{far}
 use Rattle.exact.proofs.Bounds.{span-least, span-most}
 use Rattle.walk.specs.Setup.{countsOf}
-use Rattle.path_tiling.proofs.FoundLaws.{across, along}
-use Rattle.path_tiling.proofs.found.counts_by.Statement.{statement}
-use Rattle.path_tiling.proofs.found.counts_by.Tie as tie
+use Rattle.walk.proofs.FoundLaws.{across, along}
+use Rattle.walk.proofs.found.counts_by.Statement.{statement}
+use Rattle.walk.proofs.found.counts_by.Tie as tie
 
 pick-requires : tie.Need-pick-requires
 pick-requires c κs = search needs

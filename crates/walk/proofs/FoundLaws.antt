@@ -9,7 +9,7 @@ use Rattle.util.specs.Constants.{zero, half, one, minusOne}
 use Rattle.util.specs.Span.{spanOf}
 use Rattle.util.specs.declared.Vec2.{Vec2}
 use Rattle.exact.specs.Reach.{Near}
-use Rattle.path_tiling.specs.Found.{lastOf, Rows}
+use Rattle.walk.specs.Found.{lastOf, Rows}
 
 pub real : (x : Float) → Near x → isNan x ≡ false
 unfolding isNan

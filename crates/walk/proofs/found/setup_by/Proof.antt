@@ -1,13 +1,13 @@
--- `path_tiling::found::setup_by` meets its contract. Assumes nothing.
+-- `walk::found::setup_by` meets its contract. Assumes nothing.
 use borrow.Author.Needs.{needs}
 use mathlib.Core.Path.{_≡_, sym, ap, _∙_, subst}
 use native.Mathlib.Omega.{arith}
 use Rattle.float32.specs.Meaning.{ceilOf}
 use Rattle.walk.specs.declared.setup.Counts.{Counts}
 use Rattle.walk.proofs.Counts.{Few, counts-few}
 use Rattle.walk.specs.Setup.{walkOn}
-use Rattle.path_tiling.proofs.found.setup_by.Statement.{statement}
-use Rattle.path_tiling.proofs.found.setup_by.Tie as tie
+use Rattle.walk.proofs.found.setup_by.Statement.{statement}
+use Rattle.walk.proofs.found.setup_by.Tie as tie
 
 pick-requires : tie.Need-pick-requires
 pick-requires c κs = search needs

@@ -8,10 +8,17 @@ ghost use lib.Ieee.{binary32, lt, sub, toUnsigned};
 ghost use Rattle.float32.specs.Meaning.{floorOf, ceilOf, maxOf};
 ghost use Rattle.util.specs.Constants.{one};
 ghost use Rattle.panel.specs.Widths.{lineFloats};
 ghost use Rattle.walk.specs.Setup.{Scaled, countsOf, slopeOf, aOf, walkOn};
 ghost use Rattle.walk.specs.Skip.{flatOf, pastOf};
 ghost use Rattle.walk.specs.Lent.{Reached, walkedOf, walkAt};
-ghost use Rattle.path_tiling.specs.Found.{lastOf, Rows};
+ghost use Rattle.walk.specs.Found.{lastOf, Rows};
+use super::choose::pick;
+use super::lent::Walked;
+use super::setup::Counts;
+use super::setup::Ends;
+use super::setup::Pace;
+use super::setup::Slope;
+use super::setup::Walk;
 use panel::checks::path_at;
 use panel::kinds::Path;
 use panel::refusals::COORDINATE;
@@ -19,13 +26,6 @@ use panel::refusals::NO_SUCH;
 use panel::widths::PATH_WORDS;
 use util::ROBUST_EPSILON;
 use util::Vec2;
-use walk::choose::pick;
-use walk::lent::Walked;
-use walk::setup::Counts;
-use walk::setup::Ends;
-use walk::setup::Pace;
-use walk::setup::Slope;
-use walk::setup::Walk;
 
 // How many tiles lie from `low` to `high`, which are whole; at least one.
 fn span_by(low: f32, high: f32) -> u32
@@ -34,7 +34,7 @@ fn span_by(low: f32, high: f32) -> u32
     float32::to_u32(float32::max(high - low, 1.0))
 }
 
-// `walk::skip::flat`, with the row that s0 is in.
+// `super::skip::flat`, with the row that s0 is in.
 fn flat_by(s0: Vec2, s1: Vec2, top: f32) -> bool
     requires { ⌜ top ≡ floorOf (s0 .y) ⌝ }
     ensures { λ r. ⌜ r ≡ flatOf s0 s1 ⌝ }
@@ -44,7 +44,7 @@ fn flat_by(s0: Vec2, s1: Vec2, top: f32) -> bool
     (dx + dy == 0.0) | ((dy == 0.0) & (top == s0.y))
 }
 
-// `walk::skip::past`, of a line that was checked.
+// `super::skip::past`, of a line that was checked.
 fn past_by(s0: Vec2, s1: Vec2, b: Path) -> bool
     requires { ⌜ Scaled s0 ⌝ }
     ensures { λ r. ⌜ r ≡ pastOf s0 s1 b ⌝ }
@@ -56,7 +56,7 @@ fn past_by(s0: Vec2, s1: Vec2, b: Path) -> bool
     (s0.y >= bottom) | ((s1.y < top) | ((left >= right) | (b.x1 == b.x0)))
 }
 
-// `walk::setup::count_steps`, with the rows that the line starts and ends in.
+// `super::setup::count_steps`, with the rows that the line starts and ends in.
 fn counts_by(s0: Vec2, s1: Vec2, top: f32, bottom: f32) -> Counts
     requires { ⌜ Scaled s0 × Scaled s1 × Rows s0 s1 top bottom ⌝ }
     ensures { λ r. ⌜ r ≡ countsOf s0 s1 ⌝ }
@@ -68,7 +68,7 @@ fn counts_by(s0: Vec2, s1: Vec2, top: f32, bottom: f32) -> Counts
     Counts { count_x, count }
 }
 
-// `walk::setup::incline`, with the same rows. What is added for x0, 0 or -1, is no branch, since a line
+// `super::setup::incline`, with the same rows. What is added for x0, 0 or -1, is no branch, since a line
 // falls as often as it rises.
 fn slope_by(s0: Vec2, s1: Vec2, top: f32, bottom: f32) -> Slope
     requires { ⌜ Rows s0 s1 top bottom ⌝ }
@@ -96,7 +96,7 @@ fn slope_by(s0: Vec2, s1: Vec2, top: f32, bottom: f32) -> Slope
     }
 }
 
-// `walk::setup::rise`: the move by ROBUST_EPSILON is rare.
+// `super::setup::rise`: the move by ROBUST_EPSILON is rare.
 fn rise_by(m: Slope, k: Counts, b: f32) -> f32
     requires { ⌜ (k .«count_x» ≤ 2 ^ 24) × (k .count ≤ 2 ^ 24) ⌝ }
     ensures { λ r. ⌜ r ≡ aOf m k b ⌝ }
@@ -111,7 +111,7 @@ fn rise_by(m: Slope, k: Counts, b: f32) -> f32
     a
 }
 
-// `walk::setup::setup`, with the row that the line starts in.
+// `super::setup::setup`, with the row that the line starts in.
 fn setup_by(e: Ends, top: f32) -> Walk
     requires { ⌜ Scaled (e .s0) × Scaled (e .s1) × (lt (e .s1 .y) (e .s0 .y) ≡ false) × (top ≡ floorOf (e .s0 .y)) ⌝ }
     ensures { λ r. ⌜ r ≡ walkOn e ⌝ }
@@ -121,7 +121,7 @@ fn setup_by(e: Ends, top: f32) -> Walk
     let bottom = float32::ceil(pick(s0.y < s1.y, s1.y, s0.y));
     let k = counts_by(s0, s1, top, bottom);
     let m = slope_by(s0, s1, top, bottom);
-    let b = walk::setup::start(m, s0);
+    let b = super::setup::start(m, s0);
     let a = rise_by(m, k, b);
     let pace = Pace {
         a,
@@ -139,17 +139,17 @@ fn setup_by(e: Ends, top: f32) -> Walk
     }
 }
 
-// `walk::lent::walk_on`. The ends are in order, which need not be known: if they weren't, the walk's
+// `super::lent::walk_on`. The ends are in order, which need not be known: if they weren't, the walk's
 // own way would be taken.
 fn walk_by(p0: Vec2, p1: Vec2, b: Path) -> Walked
     requires { ⌜ Reached p0 p1 ⌝ }
     ensures { λ r. ⌜ r ≡ walkedOf p0 p1 b ⌝ }
 {
-    let e = walk::setup::order(p0, p1);
+    let e = super::setup::order(p0, p1);
     let s0 = e.s0;
     let s1 = e.s1;
     if s1.y < s0.y {
-        return walk::lent::walk_on(p0, p1, b);
+        return super::lent::walk_on(p0, p1, b);
     }
     let top = float32::floor(s0.y);
     if flat_by(s0, s1, top) | past_by(s0, s1, b) {
@@ -158,15 +158,15 @@ fn walk_by(p0: Vec2, p1: Vec2, b: Path) -> Walked
     Walked::Line(setup_by(e, top), b)
 }
 
-// `walk::lent::walk_at`.
+// `super::lent::walk_at`.
 pub fn walk_at(path_nos: &[u32], coords: &[f32], paths: &[u32], line_no: u32) -> Walked
     requires { ⌜ («line_no» < length (now «path_nos»)) × («line_no» * lineFloats + lineFloats ≤ length (now coords)) ⌝ }
     ensures { λ r. ⌜ r ≡ walkAt (now («path_nos» .entry)) (now (coords .entry)) (now (paths .entry)) «line_no» ⌝ }
 {
-    let line = walk::lent::line_at(coords, line_no);
+    let line = super::lent::line_at(coords, line_no);
     let p0 = line.p0;
     let p1 = line.p1;
-    if !walk::lent::reached(p0, p1) {
+    if !super::lent::reached(p0, p1) {
         return Walked::Refused(COORDINATE);
     }
     let path_no = path_nos[line_no as usize];

@@ -1,7 +1,7 @@
--- `path_tiling::found::span_by` meets its contract. Assumes nothing.
+-- `walk::found::span_by` meets its contract. Assumes nothing.
 use borrow.Author.Needs.{needs}
-use Rattle.path_tiling.proofs.found.span_by.Statement.{statement}
-use Rattle.path_tiling.proofs.found.span_by.Tie as tie
+use Rattle.walk.proofs.found.span_by.Statement.{statement}
+use Rattle.walk.proofs.found.span_by.Tie as tie
 
 max-requires : tie.Need-max-requires
 max-requires c κs = search needs

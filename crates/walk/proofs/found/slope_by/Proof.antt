@@ -1,12 +1,12 @@
--- `path_tiling::found::slope_by` meets its contract. Assumes nothing.
+-- `walk::found::slope_by` meets its contract. Assumes nothing.
 use borrow.Author.Needs.{needs}
 use lib.Ieee.{binary32, add, le}
 use Rattle.float32.specs.Meaning.{floorOf}
 use Rattle.util.specs.Constants.{one}
 use Rattle.walk.specs.Setup.{slopeOf}
-use Rattle.path_tiling.proofs.FoundLaws.{same-row, off-is}
-use Rattle.path_tiling.proofs.found.slope_by.Statement.{statement}
-use Rattle.path_tiling.proofs.found.slope_by.Tie as tie
+use Rattle.walk.proofs.FoundLaws.{same-row, off-is}
+use Rattle.walk.proofs.found.slope_by.Statement.{statement}
+use Rattle.walk.proofs.found.slope_by.Tie as tie
 
 abs-requires : tie.Need-abs-requires
 abs-requires c κs = search needs

@@ -1,10 +1,10 @@
--- `path_tiling::found::walk_by` meets its contract. Assumes nothing.
+-- `walk::found::walk_by` meets its contract. Assumes nothing.
 use borrow.Author.Needs.{needs}
 use Rattle.walk.specs.Setup.{Scaled}
 use Rattle.walk.proofs.Counts.{ends-scaled}
 use Rattle.walk.proofs.Lines.{skips, walks}
-use Rattle.path_tiling.proofs.found.walk_by.Statement.{statement}
-use Rattle.path_tiling.proofs.found.walk_by.Tie as tie
+use Rattle.walk.proofs.found.walk_by.Statement.{statement}
+use Rattle.walk.proofs.found.walk_by.Tie as tie
 
 order-requires : tie.Need-order-requires
 order-requires c κs = search needs
