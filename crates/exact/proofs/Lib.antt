@@ -6,6 +6,7 @@
 --     Bounds    from the check of a coordinate to a line's first numbers and its spans
 --     Less      a whole number as a float, less one
 --     Ordered   a coordinate in tiles keeps its order
+--     Spans     a span by the ends' picks, cast without loss
 pub mod Signs
 pub mod Exact
 pub mod Compare
@@ -13,3 +14,4 @@ pub mod Limits
 pub mod Bounds
 pub mod Less
 pub mod Ordered
+pub mod Spans
