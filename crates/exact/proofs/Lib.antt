@@ -7,6 +7,7 @@
 --     Less      a whole number as a float, less one
 --     Ordered   a coordinate in tiles keeps its order
 --     Spans     a span by the ends' picks, cast without loss
+--     Columns   the first column by the edges of a span
 pub mod Signs
 pub mod Exact
 pub mod Compare
@@ -15,3 +16,4 @@ pub mod Bounds
 pub mod Less
 pub mod Ordered
 pub mod Spans
+pub mod Columns
