@@ -1,15 +1,19 @@
 -- Of a checked line's ends no one is a NaN, so the smaller and the larger are picked by one test; and equal rows are one row. Assumes nothing.
 use mathlib.Core.Path.{_≡_, refl, sym, ap, _∙_}
-use mathlib.Core.Bool.{Bool, true, false, cond}
+use mathlib.Core.Bool.{Bool, true, false, cond, _&&_}
 use Prim.Native.Nat.{ℕ}
-use lib.Ieee.{Float, nan, inf, fin, binary32, lt, eq, sub, mul, neg, ofBits, toUnsigned, isNan}
+use lib.Ieee.{Float, nan, inf, fin, binary32, lt, eq, sub, mul, neg, ofBits, toUnsigned, isNan, le}
 use Rattle.float32.specs.Meaning.{floorOf, ceilOf, minOf, maxOf}
 use Rattle.float32.proofs.Order.{eq-not-lt}
 use Rattle.util.specs.Constants.{zero, half, one, minusOne}
 use Rattle.util.specs.Span.{spanOf}
 use Rattle.util.specs.declared.Vec2.{Vec2}
-use Rattle.exact.specs.Reach.{Near}
+use Rattle.exact.specs.Reach.{inReach, Near, scaled}
+use Rattle.exact.proofs.Ordered.{scaled-ordered, scaled-turned}
+use Rattle.walk.specs.Setup.{endsOf}
+use Rattle.walk.specs.Lent.{Reached}
 use Rattle.walk.specs.Found.{lastOf, Rows}
+use Rattle.walk.proofs.Counts.{both}
 
 pub real : (x : Float) → Near x → isNan x ≡ false
 unfolding isNan
@@ -47,3 +51,14 @@ pub off-is : (rises : Bool) → mul binary32 (sub binary32 (cond rises one minus
 unfolding ofBits neg sub mul
 off-is true = refl
 off-is false = refl
+
+-- the ends are put in order before they are scaled, and scaling keeps it
+pub ends-ordered : (p0 p1 : Vec2) → Reached p0 p1 → lt (endsOf p0 p1 .s1 .y) (endsOf p0 p1 .s0 .y) ≡ false
+unfolding endsOf
+ends-ordered p0 p1 h =
+    let b = both (inReach (p0 .x) && inReach (p0 .y)) (inReach (p1 .x) && inReach (p1 .y)) h in
+    go (le (p0 .y) (p1 .y)) refl (both (inReach (p0 .x)) (inReach (p0 .y)) (b .0) .1) (both (inReach (p1 .x)) (inReach (p1 .y)) (b .1) .1)
+  where
+    go : (d : Bool) → le (p0 .y) (p1 .y) ≡ d → inReach (p0 .y) ≡ true → inReach (p1 .y) ≡ true → lt (scaled (cond d p1 p0 .y)) (scaled (cond d p0 p1 .y)) ≡ false
+    go true e f g = scaled-ordered (p0 .y) (p1 .y) f g e
+    go false e f g = scaled-turned (p0 .y) (p1 .y) f g e

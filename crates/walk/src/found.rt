@@ -148,9 +148,6 @@ fn walk_by(p0: Vec2, p1: Vec2, b: Path) -> Walked
     let e = super::setup::order(p0, p1);
     let s0 = e.s0;
     let s1 = e.s1;
-    if s1.y < s0.y {
-        return super::lent::walk_on(p0, p1, b);
-    }
     let top = float32::floor(s0.y);
     if flat_by(s0, s1, top) | past_by(s0, s1, b) {
         return Walked::Skipped;
