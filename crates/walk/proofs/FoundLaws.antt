@@ -1,18 +1,20 @@
 -- Of a checked line's ends no one is a NaN, so the smaller and the larger are picked by one test; and equal rows are one row. Assumes nothing.
 use mathlib.Core.Path.{_≡_, refl, sym, ap, _∙_}
 use mathlib.Core.Bool.{Bool, true, false, cond, _&&_}
-use Prim.Native.Nat.{ℕ}
-use lib.Ieee.{Float, nan, inf, fin, binary32, lt, eq, sub, mul, neg, ofBits, toUnsigned, isNan, le}
-use Rattle.float32.specs.Meaning.{floorOf, ceilOf, minOf, maxOf}
+use lib.Ieee.{Float, nan, inf, fin, binary32, lt, le, eq, sub, mul, neg, ofBits, isNan}
+use Rattle.float32.specs.Meaning.{floorOf, ceilOf, minOf}
 use Rattle.float32.proofs.Order.{eq-not-lt}
 use Rattle.util.specs.Constants.{zero, half, one, minusOne}
 use Rattle.util.specs.Span.{spanOf}
 use Rattle.util.specs.declared.Vec2.{Vec2}
 use Rattle.exact.specs.Reach.{inReach, Near, scaled}
+use Rattle.exact.proofs.Bounds.{span-least, span-most}
 use Rattle.exact.proofs.Ordered.{scaled-ordered, scaled-turned}
-use Rattle.walk.specs.Setup.{endsOf}
+use Rattle.exact.proofs.Spans.{span-cast}
+use Rattle.exact.proofs.Columns.{column-is}
+use Rattle.walk.specs.Setup.{endsOf, countsOf}
 use Rattle.walk.specs.Lent.{Reached}
-use Rattle.walk.specs.Found.{lastOf, Rows}
+use Rattle.walk.specs.Found.{leastOf, lastOf, tilesOf, Spans, countsBy, Around}
 use Rattle.walk.proofs.Counts.{both}
 
 pub real : (x : Float) → Near x → isNan x ≡ false
@@ -24,19 +26,30 @@ real (fin s m e) h = refl
 pub smaller : (a b : Float) → isNan a ≡ false → minOf a b ≡ cond (lt b a) b a
 smaller a b h = unfold minOf in rw h refl
 
-pub span-is : (a b : Float) → Near a → spanOf a b ≡ toUnsigned 32 (maxOf (sub binary32 (ceilOf (lastOf a b)) (floorOf (cond (lt b a) b a))) one)
-unfolding spanOf
-span-is a b h = ap (λ (x : Float). toUnsigned 32 (maxOf (sub binary32 (ceilOf x) (floorOf (minOf a b))) one)) (larger a b (real a h)) ∙ ap (λ (x : Float). toUnsigned 32 (maxOf (sub binary32 (ceilOf (lastOf a b)) (floorOf x)) one)) (smaller a b (real a h))
-  where
-    larger : (a b : Float) → isNan a ≡ false → maxOf a b ≡ lastOf a b
-    larger a b h = unfold maxOf in rw h refl
+-- ---- the tiles between two edges are the span
+edged : (a b : Float) {low high : Float} → Near a → Near b → low ≡ floorOf (leastOf a b) → high ≡ ceilOf (lastOf a b)
+    → Spans low high × (tilesOf low high ≡ spanOf a b)
+edged a b h k l g =
+    let f = span-cast a b h k in
+    rw (l, g) (record { exact = f .0; some = rw (f .1) (span-least a b); few = rw (f .1) (span-most a b h k) }, f .1)
 
--- the columns, and the rows
-pub across : (a b : Float) {left right : Float} {n : ℕ} → Near a → right ≡ ceilOf (cond (lt a b) b a) → left ≡ floorOf (cond (lt b a) b a) → n ≡ toUnsigned 32 (maxOf (sub binary32 right left) one) → n ≡ spanOf a b
-across a b {left} h r l e = e ∙ ap (λ (x : Float). toUnsigned 32 (maxOf (sub binary32 x left) one)) r ∙ ap (λ (x : Float). toUnsigned 32 (maxOf (sub binary32 (ceilOf (cond (lt a b) b a)) x) one)) l ∙ sym (span-is a b h)
+module _ (s0 s1 : Vec2) {left right top bottom : Float} (g : Around s0 s1 left right top bottom) where
+  across : Spans left right × (tilesOf left right ≡ spanOf (s0 .x) (s1 .x))
+  across = edged (s0 .x) (s1 .x) (g .start .in-x) (g .end .in-x) (g .at-left) (g .at-right)
 
-pub along : (s0 s1 : Vec2) (top bottom : Float) {n : ℕ} → Near (s0 .y) → Rows s0 s1 top bottom → n ≡ toUnsigned 32 (maxOf (sub binary32 bottom top) one) → n ≡ spanOf (s0 .y) (s1 .y)
-along s0 s1 top bottom h r e = across (s0 .y) (s1 .y) h (r .last) (r .first ∙ ap (λ (t : Bool). floorOf (cond t (s1 .y) (s0 .y))) (sym (r .ordered))) e
+  along : Spans top bottom × (tilesOf top bottom ≡ spanOf (s0 .y) (s1 .y))
+  along = edged (s0 .y) (s1 .y) (g .start .in-y) (g .end .in-y) (g .at-top ∙ ap (λ (t : Bool). floorOf (cond t (s1 .y) (s0 .y))) (sym (g .ordered))) (g .at-bottom)
+
+  pub both-span : Spans left right × Spans top bottom
+  both-span = (across .0, along .0)
+
+  pub counts-are : countsBy left right top bottom ≡ countsOf s0 s1
+  unfolding countsBy countsOf
+  counts-are = rw (across .1, along .1)
+
+  -- the first column, by the edge that the line starts at
+  pub column : cond (lt (s1 .x) (s0 .x)) (neg right) left ≡ floorOf (mul binary32 (s0 .x) (cond (le (s0 .x) (s1 .x)) one minusOne))
+  column = rw (g .at-left, g .at-right) (column-is (s0 .x) (s1 .x) (g .start .in-x) (g .end .in-x))
 
 -- the larger of two equal rows is the first
 pub same-row : (a b x : Float) → cond (eq a b) (ceilOf (lastOf a b)) x ≡ cond (eq a b) (ceilOf a) x

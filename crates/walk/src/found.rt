@@ -1,17 +1,16 @@
 // A reference's line as the walk finds it, `walk::lent`'s answer, made quickly: the rows that the line
 // starts and ends in are taken once, and what is rare is a branch, so that nothing waits for it.
 ghost use mathlib.Core.Path.{_≡_};
-ghost use mathlib.Core.Bool.{cond, false};
+ghost use mathlib.Core.Bool.{false};
 ghost use Prim.Native.Nat.{_+_, _*_, _<_, _≤_, _^_};
 ghost use lib.ListN.{length};
-ghost use lib.Ieee.{binary32, lt, sub, toUnsigned};
-ghost use Rattle.float32.specs.Meaning.{floorOf, ceilOf, maxOf};
-ghost use Rattle.util.specs.Constants.{one};
+ghost use lib.Ieee.{lt};
+ghost use Rattle.float32.specs.Meaning.{floorOf};
 ghost use Rattle.panel.specs.Widths.{lineFloats};
-ghost use Rattle.walk.specs.Setup.{Scaled, countsOf, slopeOf, aOf, walkOn};
+ghost use Rattle.walk.specs.Setup.{Scaled, slopeOf, aOf, walkOn};
 ghost use Rattle.walk.specs.Skip.{flatOf, pastOf};
 ghost use Rattle.walk.specs.Lent.{Reached, walkedOf, walkAt};
-ghost use Rattle.walk.specs.Found.{lastOf, Rows};
+ghost use Rattle.walk.specs.Found.{tilesOf, Spans, countsBy, Around};
 use super::choose::pick;
 use super::lent::Walked;
 use super::setup::Counts;
@@ -27,11 +26,14 @@ use panel::widths::PATH_WORDS;
 use util::ROBUST_EPSILON;
 use util::Vec2;
 
-// How many tiles lie from `low` to `high`, which are whole; at least one.
+// How many tiles lie from the edge `low` to the edge `high`; at least one. Of a checked line that is
+// whole and small, so a plain cast serves.
 fn span_by(low: f32, high: f32) -> u32
-    ensures { λ r. ⌜ r ≡ toUnsigned 32 (maxOf (sub binary32 high low) one) ⌝ }
+    requires { ⌜ Spans low high ⌝ }
+    ensures { λ r. ⌜ r ≡ tilesOf low high ⌝ }
 {
-    float32::to_u32(float32::max(high - low, 1.0))
+    let d = high - low;
+    pick(d < 1.0, 1.0, d) as u32
 }
 
 // `super::skip::flat`, with the row that s0 is in.
@@ -56,22 +58,20 @@ fn past_by(s0: Vec2, s1: Vec2, b: Path) -> bool
     (s0.y >= bottom) | ((s1.y < top) | ((left >= right) | (b.x1 == b.x0)))
 }
 
-// `super::setup::count_steps`, with the rows that the line starts and ends in.
-fn counts_by(s0: Vec2, s1: Vec2, top: f32, bottom: f32) -> Counts
-    requires { ⌜ Scaled s0 × Scaled s1 × Rows s0 s1 top bottom ⌝ }
-    ensures { λ r. ⌜ r ≡ countsOf s0 s1 ⌝ }
+// `super::setup::count_steps`, by the edges of the columns and rows that the line is in.
+fn counts_by(left: f32, right: f32, top: f32, bottom: f32) -> Counts
+    requires { ⌜ Spans left right × Spans top bottom ⌝ }
+    ensures { λ r. ⌜ r ≡ countsBy left right top bottom ⌝ }
 {
-    let left = float32::floor(pick(s1.x < s0.x, s1.x, s0.x));
-    let right = float32::ceil(pick(s0.x < s1.x, s1.x, s0.x));
     let count_x = span_by(left, right) - 1;
     let count = count_x + span_by(top, bottom);
     Counts { count_x, count }
 }
 
-// `super::setup::incline`, with the same rows. What is added for x0, 0 or -1, is no branch, since a line
+// `super::setup::incline`, by the same edges. What is added for x0, 0 or -1, is no branch, since a line
 // falls as often as it rises.
-fn slope_by(s0: Vec2, s1: Vec2, top: f32, bottom: f32) -> Slope
-    requires { ⌜ Rows s0 s1 top bottom ⌝ }
+fn slope_by(s0: Vec2, s1: Vec2, left: f32, right: f32, top: f32, bottom: f32) -> Slope
+    requires { ⌜ Around s0 s1 left right top bottom ⌝ }
     ensures { λ r. ⌜ r ≡ slopeOf s0 s1 ⌝ }
 {
     let dx = float32::abs(s1.x - s0.x);
@@ -79,7 +79,7 @@ fn slope_by(s0: Vec2, s1: Vec2, top: f32, bottom: f32) -> Slope
     let idxdy = 1.0 / (dx + dy);
     let is_positive_slope = s1.x >= s0.x;
     let sign = pick(is_positive_slope, 1.0, -1.0);
-    let xt0 = float32::floor(s0.x * sign);
+    let xt0 = pick(s1.x < s0.x, -right, left);
     let c = s0.x * sign - xt0;
     let ytop = pick(s0.y == s1.y, bottom, top + 1.0);
     let x0 = xt0 * sign + (sign - 1.0) * 0.5;
@@ -119,8 +119,10 @@ fn setup_by(e: Ends, top: f32) -> Walk
     let s0 = e.s0;
     let s1 = e.s1;
     let bottom = float32::ceil(pick(s0.y < s1.y, s1.y, s0.y));
-    let k = counts_by(s0, s1, top, bottom);
-    let m = slope_by(s0, s1, top, bottom);
+    let left = float32::floor(pick(s1.x < s0.x, s1.x, s0.x));
+    let right = float32::ceil(pick(s0.x < s1.x, s1.x, s0.x));
+    let k = counts_by(left, right, top, bottom);
+    let m = slope_by(s0, s1, left, right, top, bottom);
     let b = super::setup::start(m, s0);
     let a = rise_by(m, k, b);
     let pace = Pace {

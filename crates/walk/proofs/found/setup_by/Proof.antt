@@ -2,10 +2,12 @@
 use borrow.Author.Needs.{needs}
 use mathlib.Core.Path.{_≡_, sym, ap, _∙_, subst}
 use native.Mathlib.Omega.{arith}
-use Rattle.float32.specs.Meaning.{ceilOf}
+use Rattle.float32.specs.Meaning.{floorOf, ceilOf}
 use Rattle.walk.specs.declared.setup.Counts.{Counts}
+use Rattle.walk.specs.Setup.{countsOf, walkOn}
+use Rattle.walk.specs.Found.{Around}
 use Rattle.walk.proofs.Counts.{Few, counts-few}
-use Rattle.walk.specs.Setup.{walkOn}
+use Rattle.walk.proofs.FoundLaws.{both-span, counts-are}
 use Rattle.walk.proofs.found.setup_by.Statement.{statement}
 use Rattle.walk.proofs.found.setup_by.Tie as tie
 
@@ -15,29 +17,69 @@ pick-requires c κs = search needs
 ceil-requires : tie.Need-ceil-requires
 ceil-requires c κs = search needs
 
+pick-requires-2 : tie.Need-pick-requires-2
+pick-requires-2 c κs = search needs
+
+floor-requires : tie.Need-floor-requires
+floor-requires c κs = search needs
+
+pick-requires-3 : tie.Need-pick-requires-3
+pick-requires-3 c κs = search needs
+
+ceil-requires-2 : tie.Need-ceil-requires-2
+ceil-requires-2 c κs = search needs
+
+-- the four edges, as they were taken
+around : (c : tie.After-ceil2) → let f = c .before .before .before .before in let b = f .before .before .before .before in let s = b .before .before .before .before .before .before in Around (s .args .e .s0) (s .args .e .s1) (f .floor .result) (c .ceil2 .result) (s .args .top) (b .ceil .result)
+around c =
+    let f = c .before .before .before .before in
+    let b = f .before .before .before .before in
+    let s = b .before .before .before .before .before .before in
+    record {
+      start = s .pre .0;
+      end = s .pre .1;
+      ordered = s .pre .2;
+      at-left = f .floor .ensures ∙ ap floorOf (f .before .pick2 .ensures);
+      at-right = c .ceil2 .ensures ∙ ap ceilOf (c .before .pick3 .ensures);
+      at-top = s .pre .3;
+      at-bottom = b .ceil .ensures ∙ ap ceilOf (b .before .pick .ensures);
+    }
+
 counts-by-requires : tie.Need-counts-by-requires
-counts-by-requires c κs =
-    let s = c .before .before .before .before .before .before in
-    (s .pre .0, s .pre .1, record { ordered = s .pre .2; first = s .pre .3; last = c .ceil .ensures ∙ ap ceilOf (c .before .pick .ensures) })
+counts-by-requires c κs = both-span _ _ (around c)
 
 slope-by-requires : tie.Need-slope-by-requires
-slope-by-requires c κs =
-    let s = c .before .before .before .before .before .before .before in
-    record { ordered = s .pre .2; first = s .pre .3; last = c .before .ceil .ensures ∙ ap ceilOf (c .before .before .pick .ensures) }
+slope-by-requires c κs = around (c .before)
 
 start-requires : tie.Need-start-requires
 start-requires c κs = search needs
 
+counted : (c : tie.After-counts-by) → let s = c .before .before .before .before .before .before .before .before .before .before .before .before .before .before .before in c .counts-by .result ≡ countsOf (s .args .e .s0) (s .args .e .s1)
+counted c = c .counts-by .ensures ∙ counts-are _ _ (around (c .before))
+
 rise-by-requires : tie.Need-rise-by-requires
 rise-by-requires c κs =
-    let s = c .before .before .before .before .before .before .before .before .before in
+    let s = c .before .before .before .before .before .before .before .before .before .before .before .before .before .before .before .before .before in
     let f =
-    subst (λ (k : Counts). Few (k .«count_x») (k .count)) (sym (c .before .before .counts-by .ensures)) (counts-few (s .args .e .s0) (s .args .e .s1) (s .pre .0) (s .pre .1)) in
+    subst (λ (k : Counts). Few (k .«count_x») (k .count)) (sym (counted (c .before .before))) (counts-few (s .args .e .s0) (s .args .e .s1) (s .pre .0) (s .pre .1)) in
     (omega (arith, f .more, f .exact), omega (arith, f .exact))
 
 returns : tie.Need-returns
 unfolding walkOn
-returns c = rw (c .before .before .rise-by .ensures, c .before .before .before .start .ensures, c .before .before .before .before .slope-by .ensures, c .before .before .before .before .before .counts-by .ensures)
+returns c = rw (c .before .before .rise-by .ensures, c .before .before .before .start .ensures, c .before .before .before .before .slope-by .ensures, counted (c .before .before .before .before .before))
 
 pub setup-by-spec : {M : Type 1} → statement M
-setup-by-spec = tie.close (tie.spec pick-requires ceil-requires counts-by-requires slope-by-requires start-requires rise-by-requires returns)
+setup-by-spec =
+    tie.close
+    (tie.spec
+    pick-requires
+    ceil-requires
+    pick-requires-2
+    floor-requires
+    pick-requires-3
+    ceil-requires-2
+    counts-by-requires
+    slope-by-requires
+    start-requires
+    rise-by-requires
+    returns)

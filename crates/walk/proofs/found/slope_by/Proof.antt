@@ -4,7 +4,7 @@ use lib.Ieee.{binary32, add, le}
 use Rattle.float32.specs.Meaning.{floorOf}
 use Rattle.util.specs.Constants.{one}
 use Rattle.walk.specs.Setup.{slopeOf}
-use Rattle.walk.proofs.FoundLaws.{same-row, off-is}
+use Rattle.walk.proofs.FoundLaws.{column, same-row, off-is}
 use Rattle.walk.proofs.found.slope_by.Statement.{statement}
 use Rattle.walk.proofs.found.slope_by.Tie as tie
 
@@ -14,26 +14,27 @@ abs-requires c κs = search needs
 pick-requires : tie.Need-pick-requires
 pick-requires c κs = search needs
 
-floor-requires : tie.Need-floor-requires
-floor-requires c κs = search needs
-
 pick-requires-2 : tie.Need-pick-requires-2
 pick-requires-2 c κs = search needs
+
+pick-requires-3 : tie.Need-pick-requires-3
+pick-requires-3 c κs = search needs
 
 returns : tie.Need-returns
 unfolding slopeOf
 returns c =
-    let s = c .before .before .before .before .before .before .before .before .before .before .before .before .before .before in
+    let s = c .before .before .before .before .before .before .before .before .before .before .before .before .before .before .before in
     rw (
-      c .pick2 .ensures,
-      c .before .before .before .before .floor .ensures,
-      c .before .before .before .before .before .before .pick .ensures,
-      c .before .before .before .before .before .before .before .before .before .before .before .abs .ensures,
-      s .pre .first,
-      s .pre .last,
+      c .pick3 .ensures,
+      c .before .before .before .before .pick2 .ensures,
+      c .before .before .before .before .before .before .before .pick .ensures,
+      c .before .before .before .before .before .before .before .before .before .before .before .before .abs .ensures,
+      column (s .args .s0) (s .args .s1) (s .pre),
+      s .pre .at-top,
+      s .pre .at-bottom,
       same-row (s .args .s0 .y) (s .args .s1 .y) (add binary32 (floorOf (s .args .s0 .y)) one),
       off-is (le (s .args .s0 .x) (s .args .s1 .x)),
     )
 
 pub slope-by-spec : {M : Type 1} → statement M
-slope-by-spec = tie.close (tie.spec abs-requires pick-requires floor-requires pick-requires-2 returns)
+slope-by-spec = tie.close (tie.spec abs-requires pick-requires pick-requires-2 pick-requires-3 returns)

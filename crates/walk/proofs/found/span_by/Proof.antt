@@ -3,14 +3,14 @@ use borrow.Author.Needs.{needs}
 use Rattle.walk.proofs.found.span_by.Statement.{statement}
 use Rattle.walk.proofs.found.span_by.Tie as tie
 
-max-requires : tie.Need-max-requires
-max-requires c κs = search needs
+pick-requires : tie.Need-pick-requires
+pick-requires c κs = search needs
 
-to-u32-requires : tie.Need-to-u32-requires
-to-u32-requires c κs = search needs
+float-to-int-result : tie.Need-float-to-int-result
+float-to-int-result c = rw (c .before .pick .ensures) (c .before .before .pre .exact)
 
 returns : tie.Need-returns
-returns c = cc
+returns c = rw (c .before .pick .ensures)
 
 pub span-by-spec : {M : Type 1} → statement M
-span-by-spec = tie.close (tie.spec max-requires to-u32-requires returns)
+span-by-spec = tie.close (tie.spec pick-requires float-to-int-result returns)
