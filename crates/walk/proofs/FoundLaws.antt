@@ -1,4 +1,9 @@
--- Of a checked line's ends no one is a NaN, so the smaller and the larger are picked by one test; and equal rows are one row. Assumes nothing.
+-- What the set-up of a checked line stands on. Assumes nothing.
+--     smaller         no end is a NaN, so one test picks the smaller
+--     both-span, counts-are, column    the tile edges around a line give its spans, its counts and its first column
+--     same-row        equal rows are one row
+--     off-is          0 or -1, from 1 or -1
+--     ends-ordered    the ends in tiles are in order
 use mathlib.Core.Path.{_≡_, refl, sym, ap, _∙_}
 use mathlib.Core.Bool.{Bool, true, false, cond, _&&_}
 use lib.Ieee.{Float, nan, inf, fin, binary32, lt, le, eq, sub, mul, neg, ofBits, isNan}

@@ -1,5 +1,6 @@
-// A reference's line as the walk finds it, `walk::lent`'s answer, made quickly: the rows that the line
-// starts and ends in are taken once, and what is rare is a branch, so that nothing waits for it.
+// What becomes of a line that is lent: refused, skipped, or walked. docs/RULES.md, refusals 6 and 7 and
+// the skip rules, in this order; path_count.rs up to its clipping. Counting and tiling set up each line
+// here, so the tile edges around it are taken once, and what is rare is a branch that nothing waits for.
 ghost use mathlib.Core.Path.{_≡_};
 ghost use mathlib.Core.Bool.{false};
 ghost use Prim.Native.Nat.{_+_, _*_, _<_, _≤_, _^_};
@@ -13,11 +14,15 @@ ghost use Rattle.walk.specs.Lent.{Reached, walkedOf, walkAt};
 ghost use Rattle.walk.specs.Found.{tilesOf, Spans, countsBy, Around};
 use super::choose::pick;
 use super::lent::Walked;
+use super::lent::line_at;
+use super::lent::reached;
 use super::setup::Counts;
 use super::setup::Ends;
 use super::setup::Pace;
 use super::setup::Slope;
 use super::setup::Walk;
+use super::setup::order;
+use super::setup::start;
 use panel::checks::path_at;
 use panel::kinds::Path;
 use panel::refusals::COORDINATE;
@@ -28,7 +33,7 @@ use util::Vec2;
 
 // How many tiles lie from the edge `low` to the edge `high`; at least one. Of a checked line that is
 // whole and small, so a plain cast serves.
-fn span_by(low: f32, high: f32) -> u32
+fn span(low: f32, high: f32) -> u32
     requires { ⌜ Spans low high ⌝ }
     ensures { λ r. ⌜ r ≡ tilesOf low high ⌝ }
 {
@@ -36,8 +41,8 @@ fn span_by(low: f32, high: f32) -> u32
     pick(d < 1.0, 1.0, d) as u32
 }
 
-// `super::skip::flat`, with the row that s0 is in.
-fn flat_by(s0: Vec2, s1: Vec2, top: f32) -> bool
+// Whether a line has no length, or lies along tiles' edges; `top` is the row that s0 is in.
+fn flat(s0: Vec2, s1: Vec2, top: f32) -> bool
     requires { ⌜ top ≡ floorOf (s0 .y) ⌝ }
     ensures { λ r. ⌜ r ≡ flatOf s0 s1 ⌝ }
 {
@@ -46,8 +51,9 @@ fn flat_by(s0: Vec2, s1: Vec2, top: f32) -> bool
     (dx + dy == 0.0) | ((dy == 0.0) & (top == s0.y))
 }
 
-// `super::skip::past`, of a line that was checked.
-fn past_by(s0: Vec2, s1: Vec2, b: Path) -> bool
+// Whether a line is below, above or right of the box, or the box has no columns. No end is a NaN, so
+// one test picks the smaller x.
+fn past(s0: Vec2, s1: Vec2, b: Path) -> bool
     requires { ⌜ Scaled s0 ⌝ }
     ensures { λ r. ⌜ r ≡ pastOf s0 s1 b ⌝ }
 {
@@ -58,19 +64,19 @@ fn past_by(s0: Vec2, s1: Vec2, b: Path) -> bool
     (s0.y >= bottom) | ((s1.y < top) | ((left >= right) | (b.x1 == b.x0)))
 }
 
-// `super::setup::count_steps`, by the edges of the columns and rows that the line is in.
-fn counts_by(left: f32, right: f32, top: f32, bottom: f32) -> Counts
+// How many steps the walk has, by the edges of the columns and the rows that the line is in.
+fn count_steps(left: f32, right: f32, top: f32, bottom: f32) -> Counts
     requires { ⌜ Spans left right × Spans top bottom ⌝ }
     ensures { λ r. ⌜ r ≡ countsBy left right top bottom ⌝ }
 {
-    let count_x = span_by(left, right) - 1;
-    let count = count_x + span_by(top, bottom);
+    let count_x = span(left, right) - 1;
+    let count = count_x + span(top, bottom);
     Counts { count_x, count }
 }
 
-// `super::setup::incline`, by the same edges. What is added for x0, 0 or -1, is no branch, since a line
-// falls as often as it rises.
-fn slope_by(s0: Vec2, s1: Vec2, left: f32, right: f32, top: f32, bottom: f32) -> Slope
+// What a and b are made of, by the same edges: the first column starts at the left one, or at the right
+// one turned. What is added for x0, 0 or -1, is no branch, since x falls as often as it rises.
+fn incline(s0: Vec2, s1: Vec2, left: f32, right: f32, top: f32, bottom: f32) -> Slope
     requires { ⌜ Around s0 s1 left right top bottom ⌝ }
     ensures { λ r. ⌜ r ≡ slopeOf s0 s1 ⌝ }
 {
@@ -96,8 +102,8 @@ fn slope_by(s0: Vec2, s1: Vec2, left: f32, right: f32, top: f32, bottom: f32) ->
     }
 }
 
-// `super::setup::rise`: the move by ROBUST_EPSILON is rare.
-fn rise_by(m: Slope, k: Counts, b: f32) -> f32
+// a, by a branch, since the move by ROBUST_EPSILON is rare.
+fn rise(m: Slope, k: Counts, b: f32) -> f32
     requires { ⌜ (k .«count_x» ≤ 2 ^ 24) × (k .count ≤ 2 ^ 24) ⌝ }
     ensures { λ r. ⌜ r ≡ aOf m k b ⌝ }
 {
@@ -111,8 +117,8 @@ fn rise_by(m: Slope, k: Counts, b: f32) -> f32
     a
 }
 
-// `super::setup::setup`, with the row that the line starts in.
-fn setup_by(e: Ends, top: f32) -> Walk
+// The walk from its ordered ends; `top` is the row that it starts in.
+fn setup(e: Ends, top: f32) -> Walk
     requires { ⌜ Scaled (e .s0) × Scaled (e .s1) × (lt (e .s1 .y) (e .s0 .y) ≡ false) × (top ≡ floorOf (e .s0 .y)) ⌝ }
     ensures { λ r. ⌜ r ≡ walkOn e ⌝ }
 {
@@ -121,10 +127,10 @@ fn setup_by(e: Ends, top: f32) -> Walk
     let bottom = float32::ceil(pick(s0.y < s1.y, s1.y, s0.y));
     let left = float32::floor(pick(s1.x < s0.x, s1.x, s0.x));
     let right = float32::ceil(pick(s0.x < s1.x, s1.x, s0.x));
-    let k = counts_by(left, right, top, bottom);
-    let m = slope_by(s0, s1, left, right, top, bottom);
-    let b = super::setup::start(m, s0);
-    let a = rise_by(m, k, b);
+    let k = count_steps(left, right, top, bottom);
+    let m = incline(s0, s1, left, right, top, bottom);
+    let b = start(m, s0);
+    let a = rise(m, k, b);
     let pace = Pace {
         a,
         b,
@@ -141,36 +147,36 @@ fn setup_by(e: Ends, top: f32) -> Walk
     }
 }
 
-// `super::lent::walk_on`. The ends are in order, which need not be known: if they weren't, the walk's
-// own way would be taken.
-fn walk_by(p0: Vec2, p1: Vec2, b: Path) -> Walked
+// The walk of a checked line over the box of its path, or a skip. A coordinate in tiles keeps its order,
+// so s1 is no higher than s0, and no branch asks.
+fn walk_on(p0: Vec2, p1: Vec2, b: Path) -> Walked
     requires { ⌜ Reached p0 p1 ⌝ }
     ensures { λ r. ⌜ r ≡ walkedOf p0 p1 b ⌝ }
 {
-    let e = super::setup::order(p0, p1);
+    let e = order(p0, p1);
     let s0 = e.s0;
     let s1 = e.s1;
     let top = float32::floor(s0.y);
-    if flat_by(s0, s1, top) | past_by(s0, s1, b) {
+    if flat(s0, s1, top) | past(s0, s1, b) {
         return Walked::Skipped;
     }
-    Walked::Line(setup_by(e, top), b)
+    Walked::Line(setup(e, top), b)
 }
 
-// `super::lent::walk_at`.
+// What becomes of line `line_no` of those lent.
 pub fn walk_at(path_nos: &[u32], coords: &[f32], paths: &[u32], line_no: u32) -> Walked
     requires { ⌜ («line_no» < length (now «path_nos»)) × («line_no» * lineFloats + lineFloats ≤ length (now coords)) ⌝ }
     ensures { λ r. ⌜ r ≡ walkAt (now («path_nos» .entry)) (now (coords .entry)) (now (paths .entry)) «line_no» ⌝ }
 {
-    let line = super::lent::line_at(coords, line_no);
+    let line = line_at(coords, line_no);
     let p0 = line.p0;
     let p1 = line.p1;
-    if !super::lent::reached(p0, p1) {
+    if !reached(p0, p1) {
         return Walked::Refused(COORDINATE);
     }
     let path_no = path_nos[line_no as usize];
     if (path_no as usize) >= paths.len() / PATH_WORDS {
         return Walked::Refused(NO_SUCH);
     }
-    walk_by(p0, p1, path_at(paths, path_no))
+    walk_on(p0, p1, path_at(paths, path_no))
 }

@@ -5,5 +5,4 @@ pub mod edges;
 pub mod found;
 pub mod lent;
 pub mod setup;
-pub mod skip;
 pub mod step;

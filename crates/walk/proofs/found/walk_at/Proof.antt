@@ -35,13 +35,13 @@ returns-2 c =
 path-at-requires : tie.Need-path-at-requires
 path-at-requires c κs = search needs
 
-walk-by-requires : tie.Need-walk-by-requires
-walk-by-requires c κs = cc (turned-off (c .before .before .before .before .reached .result) (c .before .before .before .if1 .left))
+walk-on-requires : tie.Need-walk-on-requires
+walk-on-requires c κs = cc (turned-off (c .before .before .before .before .reached .result) (c .before .before .before .if1 .left))
 
 returns-3 : tie.Need-returns-3
 returns-3 c =
     goes (now (c .before .before .before .before .before .before .before .before .before .before .before .before .args .path-nos)) (now (c .before .before .before .before .before .before .before .before .before .before .before .before .args .coords)) (now (c .before .before .before .before .before .before .before .before .before .before .before .before .args .paths)) (c .before .before .before .before .before .before .before .before .before .before .before .before .args .line-no) (c .before .before .before .before .before .before .before .before .line-at .result) (c .before .before .before .before .before .before .before .before .line-at .ensures)
-    (c .walk-by .result)
+    (c .walk-on .result)
     (cc (turned-off (c .before .before .before .before .before .reached .result) (c .before .before .before .before .if1 .left)))
     (c .before .before .if2 .left)
     (cc)
@@ -58,5 +58,5 @@ walk-at-spec =
     cast-if2
     returns-2
     path-at-requires
-    walk-by-requires
+    walk-on-requires
     returns-3)

@@ -1,9 +1,9 @@
--- `walk::found::past_by` meets its contract. Assumes nothing.
+-- `walk::found::past` meets its contract. Assumes nothing.
 use borrow.Author.Needs.{needs}
 use Rattle.walk.specs.Skip.{pastOf}
 use Rattle.walk.proofs.FoundLaws.{real, smaller}
-use Rattle.walk.proofs.found.past_by.Statement.{statement}
-use Rattle.walk.proofs.found.past_by.Tie as tie
+use Rattle.walk.proofs.found.past.Statement.{statement}
+use Rattle.walk.proofs.found.past.Tie as tie
 
 pick-requires : tie.Need-pick-requires
 pick-requires c κs = search needs
@@ -29,5 +29,5 @@ returns c =
       smaller (s .args .s0 .x) (s .args .s1 .x) (real (s .args .s0 .x) (s .pre .in-x)),
     )
 
-pub past-by-spec : {M : Type 1} → statement M
-past-by-spec = tie.close (tie.spec pick-requires of-u32-requires of-u32-requires-2 of-u32-requires-3 returns)
+pub past-spec : {M : Type 1} → statement M
+past-spec = tie.close (tie.spec pick-requires of-u32-requires of-u32-requires-2 of-u32-requires-3 returns)

@@ -1,7 +1,7 @@
--- `walk::found::span_by` meets its contract. Assumes nothing.
+-- `walk::found::span` meets its contract. Assumes nothing.
 use borrow.Author.Needs.{needs}
-use Rattle.walk.proofs.found.span_by.Statement.{statement}
-use Rattle.walk.proofs.found.span_by.Tie as tie
+use Rattle.walk.proofs.found.span.Statement.{statement}
+use Rattle.walk.proofs.found.span.Tie as tie
 
 pick-requires : tie.Need-pick-requires
 pick-requires c κs = search needs
@@ -12,5 +12,5 @@ float-to-int-result c = rw (c .before .pick .ensures) (c .before .before .pre .e
 returns : tie.Need-returns
 returns c = rw (c .before .pick .ensures)
 
-pub span-by-spec : {M : Type 1} → statement M
-span-by-spec = tie.close (tie.spec pick-requires float-to-int-result returns)
+pub span-spec : {M : Type 1} → statement M
+span-spec = tie.close (tie.spec pick-requires float-to-int-result returns)

@@ -1,4 +1,4 @@
--- `walk::found::walk_by` meets its contract. Assumes nothing.
+-- `walk::found::walk_on` meets its contract. Assumes nothing.
 use borrow.Author.Needs.{needs}
 use mathlib.Core.Path.{_≡_}
 use mathlib.Core.Bool.{false}
@@ -7,8 +7,8 @@ use Rattle.walk.specs.Setup.{Scaled}
 use Rattle.walk.proofs.Counts.{ends-scaled}
 use Rattle.walk.proofs.Lines.{skips, walks}
 use Rattle.walk.proofs.FoundLaws.{ends-ordered}
-use Rattle.walk.proofs.found.walk_by.Statement.{statement}
-use Rattle.walk.proofs.found.walk_by.Tie as tie
+use Rattle.walk.proofs.found.walk_on.Statement.{statement}
+use Rattle.walk.proofs.found.walk_on.Tie as tie
 
 order-requires : tie.Need-order-requires
 order-requires c κs = search needs
@@ -16,11 +16,11 @@ order-requires c κs = search needs
 floor-requires : tie.Need-floor-requires
 floor-requires c κs = search needs
 
-flat-by-requires : tie.Need-flat-by-requires
-flat-by-requires c κs = search needs
+flat-requires : tie.Need-flat-requires
+flat-requires c κs = search needs
 
-past-by-requires : tie.Need-past-by-requires
-past-by-requires c κs =
+past-requires : tie.Need-past-requires
+past-requires c κs =
     let o = c .before .before .before .before in
     let s = o .before in
     let e : Scaled (o .order .result .s0) × Scaled (o .order .result .s1) = rw (o .order .ensures) (ends-scaled (s .args .p0) (s .args .p1) (s .pre)) in
@@ -30,10 +30,10 @@ returns : tie.Need-returns
 returns c =
     let o = c .before .before .before .before .before .before in
     let s = o .before in
-    skips (s .args .p0) (s .args .p1) (s .args .b) (rw (c .before .before .flat-by .ensures, c .before .past-by .ensures, o .order .ensures) at (c .if1 .taken))
+    skips (s .args .p0) (s .args .p1) (s .args .b) (rw (c .before .before .flat .ensures, c .before .past .ensures, o .order .ensures) at (c .if1 .taken))
 
-setup-by-requires : tie.Need-setup-by-requires
-setup-by-requires c κs =
+setup-requires : tie.Need-setup-requires
+setup-requires c κs =
     let o = c .before .before .before .before .before .before in
     let s = o .before in
     let e : Scaled (o .order .result .s0) × Scaled (o .order .result .s1) = rw (o .order .ensures) (ends-scaled (s .args .p0) (s .args .p1) (s .pre)) in
@@ -44,7 +44,7 @@ returns-2 : tie.Need-returns-2
 returns-2 c =
     let o = c .before .before .before .before .before .before .before in
     let s = o .before in
-    walks (s .args .p0) (s .args .p1) (s .args .b) (c .setup-by .result) (rw (c .before .before .before .flat-by .ensures, c .before .before .past-by .ensures, o .order .ensures) at (c .before .if1 .left)) (rw (o .order .ensures) at (c .setup-by .ensures))
+    walks (s .args .p0) (s .args .p1) (s .args .b) (c .setup .result) (rw (c .before .before .before .flat .ensures, c .before .before .past .ensures, o .order .ensures) at (c .before .if1 .left)) (rw (o .order .ensures) at (c .setup .ensures))
 
-pub walk-by-spec : {M : Type 1} → statement M
-walk-by-spec = tie.close (tie.spec order-requires floor-requires flat-by-requires past-by-requires returns setup-by-requires returns-2)
+pub walk-on-spec : {M : Type 1} → statement M
+walk-on-spec = tie.close (tie.spec order-requires floor-requires flat-requires past-requires returns setup-requires returns-2)

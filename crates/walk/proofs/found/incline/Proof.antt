@@ -1,12 +1,12 @@
--- `walk::found::slope_by` meets its contract. Assumes nothing.
+-- `walk::found::incline` meets its contract. Assumes nothing.
 use borrow.Author.Needs.{needs}
 use lib.Ieee.{binary32, add, le}
 use Rattle.float32.specs.Meaning.{floorOf}
 use Rattle.util.specs.Constants.{one}
 use Rattle.walk.specs.Setup.{slopeOf}
 use Rattle.walk.proofs.FoundLaws.{column, same-row, off-is}
-use Rattle.walk.proofs.found.slope_by.Statement.{statement}
-use Rattle.walk.proofs.found.slope_by.Tie as tie
+use Rattle.walk.proofs.found.incline.Statement.{statement}
+use Rattle.walk.proofs.found.incline.Tie as tie
 
 abs-requires : tie.Need-abs-requires
 abs-requires c κs = search needs
@@ -36,5 +36,5 @@ returns c =
       off-is (le (s .args .s0 .x) (s .args .s1 .x)),
     )
 
-pub slope-by-spec : {M : Type 1} → statement M
-slope-by-spec = tie.close (tie.spec abs-requires pick-requires pick-requires-2 pick-requires-3 returns)
+pub incline-spec : {M : Type 1} → statement M
+incline-spec = tie.close (tie.spec abs-requires pick-requires pick-requires-2 pick-requires-3 returns)

@@ -1,4 +1,4 @@
--- `walk::found::setup_by` meets its contract. Assumes nothing.
+-- `walk::found::setup` meets its contract. Assumes nothing.
 use borrow.Author.Needs.{needs}
 use mathlib.Core.Path.{_≡_, sym, ap, _∙_, subst}
 use native.Mathlib.Omega.{arith}
@@ -8,8 +8,8 @@ use Rattle.walk.specs.Setup.{countsOf, walkOn}
 use Rattle.walk.specs.Found.{Around}
 use Rattle.walk.proofs.Counts.{Few, counts-few}
 use Rattle.walk.proofs.FoundLaws.{both-span, counts-are}
-use Rattle.walk.proofs.found.setup_by.Statement.{statement}
-use Rattle.walk.proofs.found.setup_by.Tie as tie
+use Rattle.walk.proofs.found.setup.Statement.{statement}
+use Rattle.walk.proofs.found.setup.Tie as tie
 
 pick-requires : tie.Need-pick-requires
 pick-requires c κs = search needs
@@ -45,20 +45,20 @@ around c =
       at-bottom = b .ceil .ensures ∙ ap ceilOf (b .before .pick .ensures);
     }
 
-counts-by-requires : tie.Need-counts-by-requires
-counts-by-requires c κs = both-span _ _ (around c)
+count-steps-requires : tie.Need-count-steps-requires
+count-steps-requires c κs = both-span _ _ (around c)
 
-slope-by-requires : tie.Need-slope-by-requires
-slope-by-requires c κs = around (c .before)
+incline-requires : tie.Need-incline-requires
+incline-requires c κs = around (c .before)
 
 start-requires : tie.Need-start-requires
 start-requires c κs = search needs
 
-counted : (c : tie.After-counts-by) → let s = c .before .before .before .before .before .before .before .before .before .before .before .before .before .before .before in c .counts-by .result ≡ countsOf (s .args .e .s0) (s .args .e .s1)
-counted c = c .counts-by .ensures ∙ counts-are _ _ (around (c .before))
+counted : (c : tie.After-count-steps) → let s = c .before .before .before .before .before .before .before .before .before .before .before .before .before .before .before in c .count-steps .result ≡ countsOf (s .args .e .s0) (s .args .e .s1)
+counted c = c .count-steps .ensures ∙ counts-are _ _ (around (c .before))
 
-rise-by-requires : tie.Need-rise-by-requires
-rise-by-requires c κs =
+rise-requires : tie.Need-rise-requires
+rise-requires c κs =
     let s = c .before .before .before .before .before .before .before .before .before .before .before .before .before .before .before .before .before in
     let f =
     subst (λ (k : Counts). Few (k .«count_x») (k .count)) (sym (counted (c .before .before))) (counts-few (s .args .e .s0) (s .args .e .s1) (s .pre .0) (s .pre .1)) in
@@ -66,10 +66,10 @@ rise-by-requires c κs =
 
 returns : tie.Need-returns
 unfolding walkOn
-returns c = rw (c .before .before .rise-by .ensures, c .before .before .before .start .ensures, c .before .before .before .before .slope-by .ensures, counted (c .before .before .before .before .before))
+returns c = rw (c .before .before .rise .ensures, c .before .before .before .start .ensures, c .before .before .before .before .incline .ensures, counted (c .before .before .before .before .before))
 
-pub setup-by-spec : {M : Type 1} → statement M
-setup-by-spec =
+pub setup-spec : {M : Type 1} → statement M
+setup-spec =
     tie.close
     (tie.spec
     pick-requires
@@ -78,8 +78,8 @@ setup-by-spec =
     floor-requires
     pick-requires-3
     ceil-requires-2
-    counts-by-requires
-    slope-by-requires
+    count-steps-requires
+    incline-requires
     start-requires
-    rise-by-requires
+    rise-requires
     returns)
