@@ -6,7 +6,7 @@
 --     Sides   a step's tests by the box's edges as floats
 --     Tiles   no tile twice in a line, and one tile for counting and tiling
 --     Walks   what is known of a line that is walked
---     FoundLaws  the smaller and the larger of a checked line's ends by one test
+--     FoundLaws  what the set-up of a line stands on
 pub mod Counts
 pub mod Boxes
 pub mod Lines

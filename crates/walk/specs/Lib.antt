@@ -5,7 +5,7 @@
 --     Skip    the skip rules
 --     Step    a step's tile
 --     Lent    a line as it is lent: what is refused, skipped or walked
---     Found   the rows that a line starts and ends in, taken once
+--     Found   the tile edges around a line, taken once
 pub mod Num
 pub mod Setup
 pub mod Page
