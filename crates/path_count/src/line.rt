@@ -34,8 +34,8 @@ use panel::refusals::COUNT_OVER;
 use panel::refusals::LINE_NUMBER;
 use panel::refusals::NO_ROOM;
 use panel::widths::REF_WORDS;
+use walk::found::walk_at;
 use walk::lent::Walked;
-use walk::lent::walk_at;
 use walk::setup::Pace;
 use walk::setup::Walk;
 

@@ -1,5 +1,4 @@
 -- What the proofs of the crate's functions share, and the crate's laws.
-pub mod FoundLaws
 pub mod LookLaws
 pub mod PutLaws
 pub mod RangeLaws

@@ -1,5 +1,4 @@
 -- A segment for each reference of a range. Definitions only.
 pub mod Look
-pub mod Found
 pub mod Tiling
 pub mod Runs

@@ -1,6 +1,5 @@
 // A segment for each reference of a range, written at its slot: path_tiling.rs. docs/RULES.md,
 // tiling's part of "When the panel says no".
-pub mod found;
 pub mod look;
 
 ghost use mathlib.Core.Path.{_≡_};

@@ -106,7 +106,7 @@ pub(crate) fn found_at(path_nos: &[u32], coords: &[f32], paths: &[u32], line: Li
     ensures { λ r. ⌜ r ≡ foundOf (now («path_nos» .entry)) (now (coords .entry)) (now (paths .entry)) (line .0) ⌝ }
 {
     if (line.0 as usize) < path_nos.len() {
-        super::found::walk_at(path_nos, coords, paths, line.0)
+        walk::found::walk_at(path_nos, coords, paths, line.0)
     } else {
         Walked::Refused(NO_SUCH)
     }

@@ -6,6 +6,7 @@
 --     Sides   a step's tests by the box's edges as floats
 --     Tiles   no tile twice in a line, and one tile for counting and tiling
 --     Walks   what is known of a line that is walked
+--     FoundLaws  what the set-up of a line stands on
 pub mod Counts
 pub mod Boxes
 pub mod Lines
@@ -13,3 +14,4 @@ pub mod Steps
 pub mod Sides
 pub mod Tiles
 pub mod Walks
+pub mod FoundLaws

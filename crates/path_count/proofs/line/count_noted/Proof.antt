@@ -25,7 +25,7 @@ use Rattle.path_count.proofs.line.count_noted.Reads as reads
 use Rattle.path_count.proofs.line.count_noted.Lts as lts
 use Rattle.path_count.proofs.line.count_walk.Reads as count-walk-reads
 use Rattle.path_count.proofs.line.unwalked.Reads as unwalked-reads
-use Rattle.walk.proofs.lent.walk_at.Reads as walk-at-reads
+use Rattle.walk.proofs.found.walk_at.Reads as walk-at-reads
 
 returns : tie.Need-returns
 returns c = let s = c .before .before .before .before .before .before .before .before in line-over (s .args .path-nos .now) (s .args .coords .now) (s .args .paths .now) (length (s .args .refs .now) / refWords) (s .args .line .0) (s .args .place) _ (c .if1 .taken)

@@ -1,0 +1,85 @@
+-- `walk::found::setup` meets its contract. Assumes nothing.
+use borrow.Author.Needs.{needs}
+use mathlib.Core.Path.{_≡_, sym, ap, _∙_, subst}
+use native.Mathlib.Omega.{arith}
+use Rattle.float32.specs.Meaning.{floorOf, ceilOf}
+use Rattle.walk.specs.declared.setup.Counts.{Counts}
+use Rattle.walk.specs.Setup.{countsOf, walkOn}
+use Rattle.walk.specs.Found.{Around}
+use Rattle.walk.proofs.Counts.{Few, counts-few}
+use Rattle.walk.proofs.FoundLaws.{both-span, counts-are}
+use Rattle.walk.proofs.found.setup.Statement.{statement}
+use Rattle.walk.proofs.found.setup.Tie as tie
+
+pick-requires : tie.Need-pick-requires
+pick-requires c κs = search needs
+
+ceil-requires : tie.Need-ceil-requires
+ceil-requires c κs = search needs
+
+pick-requires-2 : tie.Need-pick-requires-2
+pick-requires-2 c κs = search needs
+
+floor-requires : tie.Need-floor-requires
+floor-requires c κs = search needs
+
+pick-requires-3 : tie.Need-pick-requires-3
+pick-requires-3 c κs = search needs
+
+ceil-requires-2 : tie.Need-ceil-requires-2
+ceil-requires-2 c κs = search needs
+
+-- the four edges, as they were taken
+around : (c : tie.After-ceil2) → let f = c .before .before .before .before in let b = f .before .before .before .before in let s = b .before .before .before .before .before .before in Around (s .args .e .s0) (s .args .e .s1) (f .floor .result) (c .ceil2 .result) (s .args .top) (b .ceil .result)
+around c =
+    let f = c .before .before .before .before in
+    let b = f .before .before .before .before in
+    let s = b .before .before .before .before .before .before in
+    record {
+      start = s .pre .0;
+      end = s .pre .1;
+      ordered = s .pre .2;
+      at-left = f .floor .ensures ∙ ap floorOf (f .before .pick2 .ensures);
+      at-right = c .ceil2 .ensures ∙ ap ceilOf (c .before .pick3 .ensures);
+      at-top = s .pre .3;
+      at-bottom = b .ceil .ensures ∙ ap ceilOf (b .before .pick .ensures);
+    }
+
+count-steps-requires : tie.Need-count-steps-requires
+count-steps-requires c κs = both-span _ _ (around c)
+
+incline-requires : tie.Need-incline-requires
+incline-requires c κs = around (c .before)
+
+start-requires : tie.Need-start-requires
+start-requires c κs = search needs
+
+counted : (c : tie.After-count-steps) → let s = c .before .before .before .before .before .before .before .before .before .before .before .before .before .before .before in c .count-steps .result ≡ countsOf (s .args .e .s0) (s .args .e .s1)
+counted c = c .count-steps .ensures ∙ counts-are _ _ (around (c .before))
+
+rise-requires : tie.Need-rise-requires
+rise-requires c κs =
+    let s = c .before .before .before .before .before .before .before .before .before .before .before .before .before .before .before .before .before in
+    let f =
+    subst (λ (k : Counts). Few (k .«count_x») (k .count)) (sym (counted (c .before .before))) (counts-few (s .args .e .s0) (s .args .e .s1) (s .pre .0) (s .pre .1)) in
+    (omega (arith, f .more, f .exact), omega (arith, f .exact))
+
+returns : tie.Need-returns
+unfolding walkOn
+returns c = rw (c .before .before .rise .ensures, c .before .before .before .start .ensures, c .before .before .before .before .incline .ensures, counted (c .before .before .before .before .before))
+
+pub setup-spec : {M : Type 1} → statement M
+setup-spec =
+    tie.close
+    (tie.spec
+    pick-requires
+    ceil-requires
+    pick-requires-2
+    floor-requires
+    pick-requires-3
+    ceil-requires-2
+    count-steps-requires
+    incline-requires
+    start-requires
+    rise-requires
+    returns)
