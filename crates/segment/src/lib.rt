@@ -102,14 +102,13 @@ pub fn edge(x0: f32, y0: f32, x1: f32, y1: f32) -> Segment
     }
 }
 
-// A whole x that is not 0 moves left. Only whether x is whole counts, so no floor is made.
+// A whole x that is not 0 moves left. Only whether x is whole counts, so no floor is made. What it moves by is
+// chosen, of two constants, and not the end: x less 0 is x itself, and the compiled choice is shorter.
 pub fn off_whole(p: Vec2) -> Vec2
     ensures { λ r. ⌜ r ≡ offOf p ⌝ }
 {
-    Vec2::new(
-        pick(float32::is_whole(p.x) & (p.x != 0.0), p.x - EPSILON, p.x),
-        p.y,
-    )
+    let by = pick(float32::is_whole(p.x) & (p.x != 0.0), EPSILON, 0.0);
+    Vec2::new(p.x - by, p.y)
 }
 
 // Both ends moved, and in the line's own direction again. Each float is chosen by itself: a point that is
