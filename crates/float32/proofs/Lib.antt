@@ -8,6 +8,7 @@ pub mod Nearest
 pub mod Casts
 pub mod Order
 pub mod Laws
+pub mod Same
 pub mod Magic
 pub mod Halves
 pub mod Examples

@@ -428,6 +428,85 @@ floor-least x step h l u w = go (floor-near x h l u) (eq x (near x)) refl w
     go F true e (inl w) = absurd (clash (w .0) (eq-not-lt x (near x) e))
     go F true e (inr w) = record { below = λ t. absurd (clash (sym (ap (λ (y : Float). lt y x) (stays F (w .1))) ∙ t) (eq-not-gt x (near x) e)); level = λ t. F .same e }
 
+-- ---- x equals what is left just where it equals its floor
+no-whole-between : (D n q : ℕ) → q * D < n * D → n * D < q * D + D → ⊥
+no-whole-between D n q l u =
+    let a : q < n = lt-of-mul-lt-mul-right D l in
+    let b : n < q + 1 = lt-of-mul-lt-mul-right D (omega (arith, add-mul q 1 D, one-mul D)) in
+    omega arith
+
+-- a whole x is not below what is left of it, which is less than 1 away
+below-plus : (m : ℕ) (e : ℤ) → T (fits binary32 (fin false m e)) → m * up e < 2 ^ 22 * down e → lt (fin false m e) (near (fin false m e)) ≡ true
+    → eq (fin false m e) (floorOf (fin false m e)) ≡ true → ⊥
+unfolding floorOf
+below-plus m e h l t g =
+    let b = shifted-plus 3 22 m e (lit≤ tt) (omega arith) in
+    let n = b .0 in
+    let q = m * up e / down e in
+    let r = near (fin false m e) in
+    let v : HasValue r false n 1 = subst (λ (x : Float). HasValue x false n 1) (sym (b .1)) (whole-value false n (b .2)) in
+    let w : m * up e ≡ q * down e = eq-size false m e (whole false q) false q (trunc-exact false m e h) g in
+    let a : m * up e < n * down e = ltb-true (m * up e) (n * down e) (sym (lt-plus m e r n v) ∙ t) in
+    no-whole-between (down e) n q (subst (λ (z : ℕ). z < n * down e) w a) (subst (λ (z : ℕ). n * down e < z + down e) w (b .4))
+
+lt-zero : (m : ℕ) (e : ℤ) → lt (fin true m e) (fin false 0 (pos 0)) ≡ true → 0 * down e < m * up e
+unfolding lt
+lt-zero m e t = some (m * up e) (down e) (ltb-true 0 (m * up e * 1 + 0 * 1 * down e) t)
+  where
+    some : (A D : ℕ) → 0 < A * 1 + 0 * 1 * D → 0 * D < A
+    some A D h = omega arith
+
+below-minus : (m : ℕ) (e : ℤ) → T (fits binary32 (fin true m e)) → m * up e < 2 ^ 22 * down e → lt (fin true m e) (near (fin true m e)) ≡ true
+    → eq (fin true m e) (floorOf (fin true m e)) ≡ true → ⊥
+unfolding floorOf
+below-minus m e h l t g = go (near-minus m e l)
+  where
+    clash : (n : ℕ) → n * down e < m * up e → m * up e < n * down e + down e → ⊥
+    clash n a b =
+        let p = up-div (m * up e) (down e) in
+        let w : m * up e ≡ p * down e = eq-size true m e (whole true p) true p (up-exact true m e h) g in
+        no-whole-between (down e) p n (subst (λ (z : ℕ). n * down e < z) w a) (subst (λ (z : ℕ). z < n * down e + down e) w b)
+
+    one : (A D : ℕ) → A < D → A < 0 * D + D
+    one A D h = omega arith
+
+    go : ((near (fin true m e) ≡ whole false 0) × (m * up e < down e))
+        ⊎ ((n : ℕ) × (near (fin true m e) ≡ whole true n) × (n ≤ 2 ^ 24) × (m * up e < n * down e + down e) × (n * down e < m * up e + down e) × (0 < n))
+        → ⊥
+    go (inl w) = clash 0 (lt-zero m e (sym (ap (λ (x : Float). lt (fin true m e) x) (w .0 ∙ zero-is)) ∙ t)) (one (m * up e) (down e) (w .1))
+    go (inr b) =
+        let n = b .0 in
+        let r = near (fin true m e) in
+        let v : HasValue r true n 1 = subst (λ (x : Float). HasValue x true n 1) (sym (b .1)) (whole-value true n (b .2)) in
+        clash n (ltb-true (n * down e) (m * up e) (sym (lt-minus m e r n v) ∙ t)) (b .3)
+
+below-near : (x : Float) → T (fits binary32 x) → lt x (limit false) ≡ true → lt (limit true) x ≡ true → lt x (near x) ≡ true → eq x (floorOf x) ≡ true → ⊥
+unfolding lt
+below-near nan h l u t g = absurd (false≢true l)
+below-near (inf true) h l u t g = absurd (false≢true u)
+below-near (inf false) h l u t g = absurd (false≢true l)
+below-near (fin false m e) h l u t g = below-plus m e h (ltb-true (m * up e) (4194304 * down e) (sym (lt-plus m e (limit false) 4194304 (refl, refl)) ∙ l)) t g
+below-near (fin true m e) h l u t g = below-minus m e h (ltb-true (m * up e) (4194304 * down e) (sym (gt-minus m e (limit true) 4194304 (refl, refl)) ∙ u)) t g
+
+eq-self : (x : Float) → T (finite x) → eq x x ≡ true
+unfolding eq
+eq-self nan f = absurd f
+eq-self (inf s) f = absurd f
+eq-self (fin false m e) f = ap (λ (t : Bool). t && true) (eq-eqb (m * up e * down e) (m * up e * down e) refl)
+eq-self (fin true m e) f = ap (λ (t : Bool). t && true) (eq-eqb (m * up e * down e) (m * up e * down e) refl)
+
+pub whole-near : (x : Float) → T (fits binary32 x) → lt x (limit false) ≡ true → lt (limit true) x ≡ true → eq x (near x) ≡ eq x (floorOf x)
+whole-near x h l u = go (floor-near x h l u) (eq x (near x)) refl (lt x (near x)) refl
+  where
+    off : (b : Bool) → (b ≡ true → ⊥) → false ≡ b
+    off true n = absurd (n refl)
+    off false n = refl
+
+    go : Floored x (near x) → (t : Bool) → eq x (near x) ≡ t → (s : Bool) → lt x (near x) ≡ s → t ≡ eq x (floorOf x)
+    go F true e s i = subst (λ (y : Float). true ≡ eq x y) (F .same e) (sym (eq-self x (near-finite x l u)))
+    go F false e false i = sym e ∙ ap (λ (y : Float). eq x y) (F .more e i)
+    go F false e true i = off (eq x (floorOf x)) (below-near x h l u i)
+
 -- ---- a whole x as an integer, by what is left
 abbrev Cast : Float → Float → Type 0
 Cast x r = T (inSigned binary32 31 r) × (toSigned 31 r ≡ toSigned 31 x)

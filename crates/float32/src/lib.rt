@@ -139,6 +139,18 @@ pub fn floor(x: f32) -> f32
     }
 }
 
+// Whether x is its own floor, as a whole number is, and an infinity. Near 0 the shift up and back leaves x just
+// where x is whole, so that none of `floor`'s choices is made: an add, a subtraction and a comparison.
+pub fn is_whole(x: f32) -> bool
+    ensures { λ r. ⌜ r ≡ Ieee.eq x (floorOf x) ⌝ }
+{
+    if (x < NEAR) & (-NEAR < x) {
+        x == (x + SHIFT) - SHIFT
+    } else {
+        x == floor_far(x)
+    }
+}
+
 // The smallest whole number that is at least x.
 pub fn ceil(x: f32) -> f32
     ensures { λ r. ⌜ r ≡ ceilOf x ⌝ }

@@ -8,7 +8,6 @@ ghost use Rattle.panel.specs.Limits.{edgeMost, mostSteps};
 ghost use Rattle.segment.specs.Clips.{cornerOf, farOf, atRowOf, atColOf, clipOf, makeOf, edgeOf, offOf, turnOf, heldOf, firstOf, lastOf, segmentOf, pieceOf};
 use util::Vec2;
 use walk::choose::pick;
-use walk::choose::pick_vec;
 use walk::setup::Walk;
 
 // path_tiling.rs: what a clipped end keeps from its tile's left or top edge, what an end on a whole
@@ -103,35 +102,29 @@ pub fn edge(x0: f32, y0: f32, x1: f32, y1: f32) -> Segment
     }
 }
 
-// A whole x that is not 0 moves left.
+// A whole x that is not 0 moves left. Only whether x is whole counts, so no floor is made. What it moves by is
+// chosen, of two constants, and not the end: x less 0 is x itself, and the compiled choice is shorter.
 pub fn off_whole(p: Vec2) -> Vec2
     ensures { λ r. ⌜ r ≡ offOf p ⌝ }
 {
-    Vec2::new(
-        pick(
-            (p.x == float32::floor(p.x)) & (p.x != 0.0),
-            p.x - EPSILON,
-            p.x,
-        ),
-        p.y,
-    )
+    let by = pick(float32::is_whole(p.x) & (p.x != 0.0), EPSILON, 0.0);
+    Vec2::new(p.x - by, p.y)
 }
 
-// Both ends moved, and in the line's own direction again.
+// Both ends moved, and in the line's own direction again. Each float is chosen by itself: a point that is
+// chosen as a whole is packed into one word by the compiler, and taken apart again.
 pub fn turn(is_down: bool, s: Segment) -> Segment
     ensures { λ r. ⌜ r ≡ turnOf «is_down» s ⌝ }
 {
-    let q0 = s.p0;
-    let q1 = s.p1;
-    let r0 = off_whole(q0);
-    let r1 = off_whole(q1);
-    let p0 = pick_vec(is_down, r0, r1);
-    let p1 = pick_vec(is_down, r1, r0);
-    Segment {
-        p0,
-        p1,
-        y_edge: s.y_edge,
-    }
+    let r0 = off_whole(s.p0);
+    let r1 = off_whole(s.p1);
+    make(
+        pick(is_down, r0.x, r1.x),
+        pick(is_down, r0.y, r1.y),
+        pick(is_down, r1.x, r0.x),
+        pick(is_down, r1.y, r0.y),
+        s.y_edge,
+    )
 }
 
 // Within 0..16, which NaN isn't.
@@ -151,7 +144,8 @@ fn either(t: bool, x: f32, y: f32) -> f32
 }
 
 // The first end: the line's own at step 0, and else where the walk comes into the tile at t. z is
-// the step's.
+// the step's. The line's own is returned float by float, since the compiler packs a point that is
+// returned early into one word.
 pub fn first_end(w: Walk, i: u32, z: f32, t: Vec2) -> Vec2
     requires { ⌜ i < mostSteps ⌝ }
     ensures { λ r. ⌜ r ≡ firstOf w i z t ⌝ }
@@ -159,22 +153,22 @@ pub fn first_end(w: Walk, i: u32, z: f32, t: Vec2) -> Vec2
     let p = w.e.xy0;
     let q = w.e.xy1;
     if i == 0 {
-        return p;
+        return Vec2::new(p.x, p.y);
     }
     let z_prev = walk::step::z_at(w.pace.a, w.pace.b, i as f32 - 1.0);
     let x_clip = either(w.is_positive_slope, t.x, far(t).x);
     clip(z == z_prev, p, q, t.y, x_clip, t)
 }
 
-// The last end: the line's own at the last step, and else where the walk goes out. p is the first
-// end, clipped.
+// The last end: the line's own at the last step, float by float as in `first_end`, and else where the
+// walk goes out. p is the first end, clipped.
 pub fn last_end(w: Walk, i: u32, z: f32, t: Vec2, p: Vec2) -> Vec2
     requires { ⌜ i < mostSteps ⌝ }
     ensures { λ r. ⌜ r ≡ lastOf w i z t p ⌝ }
 {
     let q = w.e.xy1;
     if i + 1 >= w.k.count {
-        return q;
+        return Vec2::new(q.x, q.y);
     }
     let t1 = far(t);
     let z_next = walk::step::z_at(w.pace.a, w.pace.b, i as f32 + 1.0);

@@ -10,7 +10,7 @@ use Rattle.segment.proofs.first_end.Tie as tie
 
 returns : tie.Need-returns
 unfolding firstOf
-returns c = rw (c .if1 .taken)
+returns c = rw (c .new .ensures, c .before .if1 .taken)
 
 int-to-float-z-at : tie.Need-int-to-float-z-at
 int-to-float-z-at c = in-float _ (omega arith)
@@ -28,4 +28,4 @@ returns-2 c =
     )
 
 pub first-end-spec : {M : Type 1} → statement M
-first-end-spec = tie.close (tie.spec returns int-to-float-z-at (λ c κs. tt) (λ c κs. tt) (λ c κs. tt) (λ c κs. tt) returns-2)
+first-end-spec = tie.close (tie.spec (λ c κs. tt) returns int-to-float-z-at (λ c κs. tt) (λ c κs. tt) (λ c κs. tt) (λ c κs. tt) returns-2)

@@ -11,8 +11,8 @@ use Rattle.segment.proofs.last_end.Tie as tie
 returns : tie.Need-returns
 unfolding lastOf
 returns c =
-    let last : c .before .before .before .args .w .k .count - 1 ≤ c .before .before .before .args .i = omega arith in
-    rw (le-ltb _ _ last)
+    let last : c .before .before .before .before .args .w .k .count - 1 ≤ c .before .before .before .before .args .i = omega arith in
+    rw (c .new .ensures, le-ltb _ _ last)
 
 int-to-float-z-at : tie.Need-int-to-float-z-at
 int-to-float-z-at c = in-float _ (omega arith)
@@ -30,4 +30,4 @@ returns-2 c =
     )
 
 pub last-end-spec : {M : Type 1} → statement M
-last-end-spec = tie.close (tie.spec (search needs) returns (λ c κs. tt) int-to-float-z-at (λ c κs. tt) (λ c κs. tt) (λ c κs. tt) returns-2)
+last-end-spec = tie.close (tie.spec (search needs) (λ c κs. tt) returns (λ c κs. tt) int-to-float-z-at (λ c κs. tt) (λ c κs. tt) (λ c κs. tt) returns-2)
