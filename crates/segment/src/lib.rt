@@ -2,7 +2,6 @@
 // asserts, in its order and with its nudges. The definitions stand in specs/Clips.antt, and on one
 // page beside the Rust in specs/Page.antt.
 ghost use mathlib.Core.Path.{_≡_};
-ghost use mathlib.Core.Bool.{cond};
 ghost use Prim.Native.Nat.{_≤_, _<_};
 ghost use Rattle.panel.specs.Limits.{edgeMost, mostSteps};
 ghost use Rattle.segment.specs.Clips.{cornerOf, farOf, atRowOf, atColOf, clipOf, makeOf, edgeOf, offOf, turnOf, heldOf, firstOf, lastOf, segmentOf, pieceOf};
@@ -134,15 +133,6 @@ pub fn held(p: Vec2) -> bool
     ((p.x >= 0.0) & (p.x <= util::TILE_SIDE)) & ((p.y >= 0.0) & (p.y <= util::TILE_SIDE))
 }
 
-// `if t { x } else { y }` by a place in memory: no branch, since a line falls as often as it rises.
-fn either(t: bool, x: f32, y: f32) -> f32
-    ensures { λ r. ⌜ r ≡ cond t x y ⌝ }
-{
-    let both: [f32; 2] = [y, x];
-    let k: usize = if t { 1 } else { 0 };
-    both[k]
-}
-
 // The first end: the line's own at step 0, and else where the walk comes into the tile at t. z is
 // the step's. The line's own is returned float by float, since the compiler packs a point that is
 // returned early into one word.
@@ -156,7 +146,7 @@ pub fn first_end(w: Walk, i: u32, z: f32, t: Vec2) -> Vec2
         return Vec2::new(p.x, p.y);
     }
     let z_prev = walk::step::z_at(w.pace.a, w.pace.b, i as f32 - 1.0);
-    let x_clip = either(w.is_positive_slope, t.x, far(t).x);
+    let x_clip = pick(w.is_positive_slope, t.x, far(t).x);
     clip(z == z_prev, p, q, t.y, x_clip, t)
 }
 
@@ -172,7 +162,7 @@ pub fn last_end(w: Walk, i: u32, z: f32, t: Vec2, p: Vec2) -> Vec2
     }
     let t1 = far(t);
     let z_next = walk::step::z_at(w.pace.a, w.pace.b, i as f32 + 1.0);
-    let x_clip = either(w.is_positive_slope, t1.x, t.x);
+    let x_clip = pick(w.is_positive_slope, t1.x, t.x);
     clip(z == z_next, p, q, t1.y, x_clip, t)
 }
 

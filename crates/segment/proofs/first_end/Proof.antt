@@ -21,7 +21,7 @@ returns-2 c =
     let inside : 0 < c .before .before .before .before .before .before .before .before .args .i = omega arith in
     rw (
       c .clip .ensures,
-      c .before .either .ensures,
+      c .before .pick .ensures,
       c .before .before .far .ensures,
       c .before .before .before .z-at .ensures,
       lt-ltb 0 _ inside,

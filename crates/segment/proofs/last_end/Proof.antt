@@ -23,7 +23,7 @@ returns-2 c =
     let inside : c .before .before .before .before .before .before .before .before .args .i < c .before .before .before .before .before .before .before .before .args .w .k .count - 1 = omega arith in
     rw (
       c .clip .ensures,
-      c .before .either .ensures,
+      c .before .pick .ensures,
       c .before .before .z-at .ensures,
       c .before .before .before .before .far .ensures,
       lt-ltb _ _ inside,
