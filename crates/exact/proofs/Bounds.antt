@@ -143,7 +143,7 @@ minus-one-is : minusOne ≡ unit true
 unfolding ofBits neg
 minus-one-is = refl
 
-scale-is : tileScale ≡ fin false 1 (negsuc 3)
+pub scale-is : tileScale ≡ fin false 1 (negsuc 3)
 unfolding ofBits
 scale-is = refl
 
@@ -168,9 +168,15 @@ near-of p h = record {
   fit = mul-fits binary32 p tileScale;
 }
 
--- it is finite
+-- it is finite, and so a number
 pub near-finite : (s : Float) → Near s → T (finite s)
 near-finite s n = small-finite s coordTiles (n .few)
+
+pub finite-number : (x : Float) → T (finite x) → T (not (isNan x))
+unfolding isNan
+finite-number nan f = absurd f
+finite-number (inf s) f = absurd f
+finite-number (fin s m e) f = tt
 
 pub reach-finite : (p : Float) → inReach p ≡ true → T (finite p)
 reach-finite p h = small-finite p (coordTiles * 16) (small-of-le p (coordTiles * 16) (omega (arith, far .tiles)) (subst (λ (w : Float). le (absOf p) w ≡ true) (far .coord) h))
