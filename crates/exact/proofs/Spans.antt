@@ -51,7 +51,7 @@ span-is a b h =
     ∙ ap (λ (x : Float). toUnsigned 32 (maxOf (sub binary32 (ceilOf (cond (lt a b) b a)) (floorOf x)) one)) (smaller a b (near-number a h))
 
 -- ---- the span is whole, and small
-near-pick : (t : Bool) (a b : Float) → Near a → Near b → Near (cond t b a)
+pub near-pick : (t : Bool) (a b : Float) → Near a → Near b → Near (cond t b a)
 near-pick true a b h k = k
 near-pick false a b h k = h
 
