@@ -18,12 +18,13 @@ use lib.Ieee.Bits.{is-true}
 use lib.Ieee.Exact.{HasValue}
 use lib.Ieee.Order.{round-mono}
 use lib.Ieee.Scale.{finite}
-use borrow.Author.Tests.{ltb-false}
+use borrow.Author.Tests.{ltb-false, lt-ltb}
+use Rattle.float32.specs.Inner.{limit, Within}
 use Rattle.float32.specs.Meaning.{whole, up-div, floorOf, ceilOf, absOf, signed, unit, minOf, maxOf}
 use Rattle.float32.proofs.Whole.{whole-value}
 use Rattle.float32.proofs.Tests.{no}
 use Rattle.float32.proofs.Order.{not-lt-of-le}
-use Rattle.float32.proofs.Steps.{trunc-exact}
+use Rattle.float32.proofs.Steps.{trunc-exact, lt-plus, gt-minus}
 use Rattle.float32.proofs.Laws.{size-plus, size-minus, down-most, up-most, up-exact, floor-fits, max-fits, min-fits}
 use Rattle.exact.specs.Whole.{IsWhole, floorZ, ceilZ, turn, Small}
 use Rattle.util.specs.Constants.{zero as zeroF, one, minusOne, tileScale}
@@ -143,7 +144,7 @@ minus-one-is : minusOne ≡ unit true
 unfolding ofBits neg
 minus-one-is = refl
 
-scale-is : tileScale ≡ fin false 1 (negsuc 3)
+pub scale-is : tileScale ≡ fin false 1 (negsuc 3)
 unfolding ofBits
 scale-is = refl
 
@@ -168,9 +169,44 @@ near-of p h = record {
   fit = mul-fits binary32 p tileScale;
 }
 
--- it is finite
+-- it is finite, and so a number
 pub near-finite : (s : Float) → Near s → T (finite s)
 near-finite s n = small-finite s coordTiles (n .few)
+
+-- it lies between the limits of `floor_near`, and so does its negative
+under : (A D N : ℕ) → 0 < D → N ≤ 2 ^ 20 → A ≤ N * D → A < 4194304 * D
+under A D N p few h = let q : N * D ≤ 1048576 * D = mul-le-mul-right D few in omega (arith, le-trans h q)
+
+small-within : (x : Float) (N : ℕ) → N ≤ 2 ^ 20 → Small x N → Within x
+unfolding lt
+small-within nan N few h = absurd h
+small-within (inf s) N few h = absurd h
+small-within (fin false m e) N few h = record {
+  below = lt-plus m e (limit false) 4194304 (refl, refl) ∙ lt-ltb _ _ (under (m * up e) (down e) N (down-pos e) few h);
+  above = lt-ltb 0 (4194304 * down e + m * up e * 1) (omega (arith, down-pos e));
+}
+small-within (fin true m e) N few h = record {
+  below = lt-ltb 0 (m * up e * 1 + 4194304 * down e) (omega (arith, down-pos e));
+  above = gt-minus m e (limit true) 4194304 (refl, refl) ∙ lt-ltb _ _ (under (m * up e) (down e) N (down-pos e) few h);
+}
+
+small-turned : (x : Float) (N : ℕ) → Small x N → Small (neg x) N
+unfolding neg
+small-turned nan N h = h
+small-turned (inf s) N h = h
+small-turned (fin s m e) N h = h
+
+pub near-within : (s : Float) → Near s → Within s
+near-within s n = small-within s coordTiles (far .tiles) (n .few)
+
+pub near-turned : (s : Float) → Near s → Within (neg s)
+near-turned s n = small-within (neg s) coordTiles (far .tiles) (small-turned s coordTiles (n .few))
+
+pub finite-number : (x : Float) → T (finite x) → T (not (isNan x))
+unfolding isNan
+finite-number nan f = absurd f
+finite-number (inf s) f = absurd f
+finite-number (fin s m e) f = tt
 
 pub reach-finite : (p : Float) → inReach p ≡ true → T (finite p)
 reach-finite p h = small-finite p (coordTiles * 16) (small-of-le p (coordTiles * 16) (omega (arith, far .tiles)) (subst (λ (w : Float). le (absOf p) w ≡ true) (far .coord) h))

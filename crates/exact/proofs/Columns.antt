@@ -10,7 +10,7 @@ use native.Mathlib.Omega.{arith}
 use lib.Dec.{T, lit<}
 use lib.Pow.{pow-add, pow-pos, pow-lt, pow-mono, shl-lt}
 use lib.IntN.{ℤ, pos, negsuc}
-use lib.Ieee.{Float, nan, inf, fin, binary32, up, down, unlike, round, mul, neg, le, lt, fits, isNan}
+use lib.Ieee.{Float, nan, inf, fin, binary32, up, down, unlike, round, mul, neg, le, lt, fits}
 use lib.Ieee.Fits.{down-pos}
 use lib.Ieee.Exact.{HasValue, round-exact}
 use lib.Ieee.Nearest.{div-same}
@@ -23,7 +23,7 @@ use Rattle.float32.proofs.Order.{not-lt-of-le, le-of-not-lt}
 use Rattle.float32.proofs.MinMax.{le-of-lt}
 use Rattle.float32.proofs.Magic.{ceil-turned}
 use Rattle.exact.specs.Reach.{Near, signAt}
-use Rattle.exact.proofs.Bounds.{sign-unit, near-finite}
+use Rattle.exact.proofs.Bounds.{sign-unit, near-finite, finite-number}
 
 -- ---- equal fractions have one floor, and one ceiling
 up-reaches : (A D : ℕ) → 0 < D → A ≤ up-div A D * D
@@ -112,12 +112,6 @@ neg-back (fin false m e) = refl
 ceil-is : (x : Float) → neg (ceilOf x) ≡ floorOf (neg x)
 ceil-is x = ap neg (sym (ceil-turned x)) ∙ neg-back (floorOf (neg x))
 
-number : (x : Float) → T (finite x) → T (not (isNan x))
-unfolding isNan
-number nan f = absurd f
-number (inf s) f = absurd f
-number (fin s m e) f = tt
-
 by-sign : (rises : Bool) (a : Float) → Near a → floorOf (mul binary32 a (signAt rises)) ≡ floorOf (turnOf (not rises) a)
 by-sign rises a h = ap (λ (u : Float). floorOf (mul binary32 a u)) (sign-unit rises) ∙ by-sign-floor (not rises) a (h .fit) (near-finite a h)
 
@@ -139,5 +133,5 @@ column-is a b h k = go (lt b a) refl
         ∙ ceil-is a
         ∙ sym (ap (λ (t : Bool). floorOf (mul binary32 a (signAt t))) (p .0) ∙ by-sign false a h)
     go false e =
-        let p : le a b ≡ true = le-of-not-lt a b (number a (near-finite a h)) (number b (near-finite b k)) e in
+        let p : le a b ≡ true = le-of-not-lt a b (finite-number a (near-finite a h)) (finite-number b (near-finite b k)) e in
         sym (ap (λ (t : Bool). floorOf (mul binary32 a (signAt t))) p ∙ by-sign true a h)

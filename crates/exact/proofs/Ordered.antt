@@ -7,7 +7,7 @@ use native.Mathlib.Nat.{mul-pos, zero-mul, mul-le-mul-right, eq-of-mul-eq-mul-ri
 use native.Mathlib.Omega.{arith}
 use lib.Dec.{T, lit<}
 use lib.IntN.{negsuc}
-use lib.Ieee.{Float, nan, inf, fin, binary32, up, down, below, unlike, round, mul, lt, le, isNan, ofBits}
+use lib.Ieee.{Float, nan, inf, fin, binary32, up, down, below, unlike, round, mul, lt, le}
 use lib.Ieee.Fits.{down-pos}
 use lib.Ieee.Bits.{is-true}
 use lib.Ieee.Order.{round-mono}
@@ -16,10 +16,9 @@ use borrow.Author.Tests.{ltb-false}
 use Rattle.float32.specs.Meaning.{whole, signed}
 use Rattle.float32.proofs.Order.{not-lt-of-le, le-of-not-lt}
 use Rattle.float32.proofs.MinMax.{le-of-lt}
-use Rattle.util.specs.Constants.{tileScale}
 use Rattle.exact.specs.Reach.{inReach, scaled}
 use Rattle.exact.proofs.Exact.{round-signed}
-use Rattle.exact.proofs.Bounds.{reach-finite}
+use Rattle.exact.proofs.Bounds.{finite-number, reach-finite, scale-is}
 
 -- ---- signs
 -- what is not negative is not below what is not positive
@@ -83,10 +82,6 @@ module _ (a c b d x y k : ℕ) (C : 0 < c) (D : 0 < d) (left : y * k ≡ a * d) 
       none x b c C e z = eq-of-mul-eq-mul-right c C b 0 (sym e ∙ ap (λ (j : ℕ). j * k) z ∙ zero-mul k ∙ sym (zero-mul c))
 
 -- ---- in tiles
-scale-is : tileScale ≡ fin false 1 (negsuc 3)
-unfolding ofBits
-scale-is = refl
-
 same-sign : (s : Bool) → unlike s false ≡ s
 same-sign true = refl
 same-sign false = refl
@@ -114,11 +109,6 @@ scaled-ordered p q f g h =
 pub scaled-turned : (p q : Float) → inReach p ≡ true → inReach q ≡ true → le p q ≡ false → lt (scaled p) (scaled q) ≡ false
 scaled-turned p q f g h = scaled-ordered q p g f (le-of-lt q p (go (lt q p) refl))
   where
-    number : (x : Float) → T (finite x) → T (not (isNan x))
-    number nan k = absurd k
-    number (inf s) k = absurd k
-    number (fin s m e) k = unfold isNan in tt
-
     go : (b : Bool) → lt q p ≡ b → b ≡ true
     go true e = refl
-    go false e = absurd (true≢false (sym (le-of-not-lt p q (number p (reach-finite p f)) (number q (reach-finite q g)) e) ∙ h))
+    go false e = absurd (true≢false (sym (le-of-not-lt p q (finite-number p (reach-finite p f)) (finite-number q (reach-finite q g)) e) ∙ h))

@@ -1,7 +1,7 @@
 -- A span by the smaller and the larger end, each picked by one comparison, and cast without loss: it is a whole number from 1 up, and small. Assumes nothing.
 use mathlib.Core.Path.{_≡_, refl, sym, ap, _∙_}
 use mathlib.Core.Bool.{Bool, true, false, cond, true≢false}
-use Prim.Native.Nat.{ℕ, _+_, _*_, _/_, _%_, _^_, _≤_}
+use Prim.Native.Nat.{ℕ, zero, suc, _+_, _*_, _/_, _%_, _^_, _≤_, _<_}
 use native.Mathlib.Nat.{mul-mod-left, mul-div-cancel}
 use native.Mathlib.Omega.{arith}
 use lib.Dec.{T}
@@ -9,7 +9,7 @@ use lib.IntN.{ℤ, pos, negsuc, _-ℤ_, negℤ, natAbs}
 use lib.Signed.{ltZ}
 use lib.Ieee.{Float, nan, inf, fin, binary32, up, down, sub, lt, isNan, ofBits, toUnsigned, inUnsigned, whole as isWhole}
 use lib.Ieee.Fits.{down-pos}
-use borrow.Author.Tests.{eq-eqb, le-leb, lt-ltb, ltb-false}
+use borrow.Author.Tests.{eq-eqb, le-leb, lt-ltb}
 use Rattle.float32.specs.Meaning.{floorOf, ceilOf, minOf, maxOf}
 use Rattle.util.specs.Constants.{one}
 use Rattle.util.specs.Span.{spanOf}
@@ -26,7 +26,7 @@ abbrev pub spanAt : (a b : Float) → Float
 spanAt a b = sub binary32 (ceilOf (cond (lt a b) b a)) (floorOf (cond (lt b a) b a))
 
 -- ---- no NaN, so the picks are the smaller and the larger
-near-number : (x : Float) → Near x → isNan x ≡ false
+pub near-number : (x : Float) → Near x → isNan x ≡ false
 unfolding isNan
 near-number nan h = absurd (h .few)
 near-number (inf s) h = absurd (h .few)
@@ -38,7 +38,7 @@ whole-number nan n w = absurd w
 whole-number (inf s) n w = absurd w
 whole-number (fin s m e) n w = refl
 
-smaller : (a b : Float) → isNan a ≡ false → minOf a b ≡ cond (lt b a) b a
+pub smaller : (a b : Float) → isNan a ≡ false → minOf a b ≡ cond (lt b a) b a
 smaller a b h = unfold minOf in rw h refl
 
 larger : (a b : Float) → isNan a ≡ false → maxOf a b ≡ cond (lt a b) b a
@@ -51,7 +51,7 @@ span-is a b h =
     ∙ ap (λ (x : Float). toUnsigned 32 (maxOf (sub binary32 (ceilOf (cond (lt a b) b a)) (floorOf x)) one)) (smaller a b (near-number a h))
 
 -- ---- the span is whole, and small
-near-pick : (t : Bool) (a b : Float) → Near a → Near b → Near (cond t b a)
+pub near-pick : (t : Bool) (a b : Float) → Near a → Near b → Near (cond t b a)
 near-pick true a b h k = k
 near-pick false a b h k = h
 
@@ -76,7 +76,7 @@ module _ (a b : Float) (h : Near a) (k : Near b) where
       sub-whole (ceilOf u) (floorOf v) (ceilZ u) (floorZ v) (ceil-whole u (p .fit) (near-finite u p)) (floor-whole v (q .fit) (near-finite v q)) (omega (arith, span-few, far .tiles))
 
 -- ---- casts
-one-whole : IsWhole one (pos 1)
+pub one-whole : IsWhole one (pos 1)
 unfolding ofBits
 one-whole = (1, refl, refl)
 
@@ -85,20 +85,23 @@ unfolding ofBits inUnsigned isWhole
 one-cast = tt
 
 -- a whole number from 1 up isn't -0, so it is cast without loss
+pub pos-cast : (v : Float) (n : ℕ) → IsWhole v (pos (suc n)) → n < 2 ^ 24 → T (inUnsigned binary32 32 v) × (toUnsigned 32 v ≡ suc n)
+unfolding inUnsigned isWhole toUnsigned
+pos-cast nan n w h = absurd w
+pos-cast (inf s) n w h = absurd w
+pos-cast (fin true m e) n w h = absurd (omega (arith, ap plusOf (w .2), neg-plus (pos (w .0))))
+pos-cast (fin false m e) n w h =
+    let k : w .0 ≡ suc n = omega (arith, ap plusOf (w .2)) in
+    let q : m * up e / down e ≡ suc n = ap (λ (j : ℕ). j / down e) (w .1) ∙ mul-div-cancel (w .0) (down-pos e) ∙ k in
+    let r : m * up e % down e ≡ 0 = ap (λ (j : ℕ). j % down e) (w .1) ∙ mul-mod-left (w .0) (down e) in (
+      rw (eq-eqb (m * up e % down e) 0 r, le-leb (m * up e / down e) 16777216 (omega arith), lt-ltb (m * up e / down e) 4294967296 (omega arith)) tt,
+      omega arith,
+    )
+
 least-cast : (x : Float) (n : ℤ) → IsWhole x n → natAbs n ≤ 2 ^ 24 → ltZ n (pos 1) ≡ false → T (inUnsigned binary32 32 x)
-unfolding inUnsigned isWhole
-least-cast nan n w b h = absurd w
-least-cast (inf s) n w b h = absurd w
-least-cast (fin s m e) (negsuc n) w b h = absurd (true≢false h)
-least-cast (fin true m e) (pos n) w b h = absurd (none n (ltb-false n 1 h) (ap plusOf (w .2) ∙ neg-plus (pos (w .0))))
-  where
-    none : (n : ℕ) → 1 ≤ n → n ≡ 0 → ⊥
-    none n p q = omega arith
-least-cast (fin false m e) (pos n) w b h =
-    let k : w .0 ≡ n = omega (arith, ap plusOf (w .2)) in
-    let q : m * up e / down e ≡ n = ap (λ (j : ℕ). j / down e) (w .1) ∙ mul-div-cancel (w .0) (down-pos e) ∙ k in
-    let r : m * up e % down e ≡ 0 = ap (λ (j : ℕ). j % down e) (w .1) ∙ mul-mod-left (w .0) (down e) in
-    rw (eq-eqb (m * up e % down e) 0 r, le-leb (m * up e / down e) 16777216 (omega arith), lt-ltb (m * up e / down e) 4294967296 (omega arith)) tt
+least-cast x (pos (suc n)) w b h = pos-cast x n w (omega arith) .0
+least-cast x (pos zero) w b h = absurd (true≢false h)
+least-cast x (negsuc n) w b h = absurd (true≢false h)
 
 -- the larger of it and 1
 at-least-one : (d : Float) (n : ℤ) → IsWhole d n → natAbs n ≤ 2 ^ 24 → T (inUnsigned binary32 32 (cond (lt d one) one d))

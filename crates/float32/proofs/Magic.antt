@@ -17,6 +17,7 @@ use lib.Ieee.Nearest.{closest, closest-mono, closest-same}
 use lib.Ieee.Back.{whole-unique, unsigned-back, positive-back, negative-back}
 use lib.Ieee.Scale.{round-same, finite}
 use borrow.Author.Tests.{lt-ltb, le-ltb, ltb-true, ltb-false, eq-eqb, eqb-true}
+use Rattle.float32.specs.Inner.{limit}
 use Rattle.float32.specs.Meaning.{whole, unit, up-div, floorOf, ceilOf}
 use Rattle.float32.proofs.Tests.{below-or-not, first}
 use Rattle.float32.proofs.Whole.{whole-fits, whole-value, reduced}
@@ -364,8 +365,6 @@ floor-minus m e h l = go (near-minus m e l)
             up-is A D (n + 1) p (omega arith) (omega arith)
 
 -- ---- both: 2 ^ 22 is the limit
-abbrev pub limit : Bool → Float
-limit s = fin s 1 (pos 22)
 
 pub floor-near : (x : Float) → T (fits binary32 x) → lt x (limit false) ≡ true → lt (limit true) x ≡ true → Floored x (near x)
 unfolding lt

@@ -8,7 +8,7 @@ ghost use lib.Ieee as Ieee;
 ghost use lib.Ieee.{binary32};
 ghost use lib.Ieee.Scale.{finite};
 ghost use Rattle.float32.specs.Meaning.{truncOf, floorOf, ceilOf, roundOf, absOf, signumOf, copysignOf, minOf, maxOf, clampOf};
-ghost use Rattle.float32.specs.Inner.{lostOf};
+ghost use Rattle.float32.specs.Inner.{lostOf, Within};
 
 // x without its sign.
 pub fn abs(x: f32) -> f32
@@ -124,16 +124,24 @@ fn floor_far(x: f32) -> f32
     if x < t { t - 1.0 } else { t }
 }
 
-// The largest whole number that is at most x. A whole x, -0 too, is its own. The choices are masks and a
-// minimum in the compiled code.
+// The largest whole number that is at most x, of an x below NEAR in size. A whole x, -0 too, is its own.
+// The choices are masks and a minimum in the compiled code, with no branch.
+pub fn floor_near(x: f32) -> f32
+    requires { ⌜ Within x ⌝ }
+    ensures { λ r. ⌜ r ≡ floorOf x ⌝ }
+{
+    let r = (x + SHIFT) - SHIFT;
+    let step = if x < r { 1.0 } else { 0.0 };
+    let below = r - step;
+    if below < x { below } else { x }
+}
+
+// The largest whole number that is at most x.
 pub fn floor(x: f32) -> f32
     ensures { λ r. ⌜ r ≡ floorOf x ⌝ }
 {
     if (x < NEAR) & (-NEAR < x) {
-        let r = (x + SHIFT) - SHIFT;
-        let step = if x < r { 1.0 } else { 0.0 };
-        let below = r - step;
-        if below < x { below } else { x }
+        floor_near(x)
     } else {
         floor_far(x)
     }
@@ -149,6 +157,14 @@ pub fn is_whole(x: f32) -> bool
     } else {
         x == floor_far(x)
     }
+}
+
+// The smallest whole number that is at least x, of an x whose negative is below NEAR in size.
+pub fn ceil_near(x: f32) -> f32
+    requires { ⌜ Within (Ieee.neg x) ⌝ }
+    ensures { λ r. ⌜ r ≡ ceilOf x ⌝ }
+{
+    -floor_near(-x)
 }
 
 // The smallest whole number that is at least x.

@@ -3,40 +3,36 @@
 --     found-fits   a line that was found has a path that passed its checks
 --     goes, halts  a reference that is fine, and one that is not
 --     ends         no reference is left
-use Prim.Native.Nat.{ℕ, zero, suc, _+_, _-_, _*_, _/_, _≤_, _<_}
+use Prim.Native.Nat.{ℕ, suc, _+_, _-_, _*_, _≤_, _<_}
 use native.Mathlib.Omega.{arith}
 use native.Mathlib.Numerals.{add-one}
 use mathlib.Core.Path.{_≡_, refl, sym, ap, _∙_}
 use mathlib.Core.Bool.{Bool, true, false, cond}
-use mathlib.Core.List.{List, [], _∷_}
+use mathlib.Core.List.{List}
 use lib.ListN.{length, getD}
 use lib.Dec.{ltb}
 use lib.Seq.{length-sets}
 use lib.Ieee.{Float}
 use borrow.Author.Tests.{ltb-true}
-use Rattle.panel.specs.Limits.{mostSlots}
 use Rattle.panel.specs.Refusals.{noSuch, coordinate}
-use Rattle.panel.specs.Widths.{segmentFloats, refWords}
+use Rattle.panel.specs.Widths.{segmentFloats}
 use Rattle.panel.specs.Paths.{pathAt, pathCount, pathsAnswer}
 use Rattle.panel.specs.declared.kinds.Path.{Path}
-use Rattle.panel.specs.declared.kinds.Answer.{Answer}
 use Rattle.panel.specs.declared.kinds.Answer.the-variants.{Done, Refused}
 use Rattle.panel.specs.declared.kinds.Verdict.{Verdict}
 use Rattle.panel.specs.declared.kinds.Verdict.the-variants as Verdict
-use Rattle.panel.proofs.PathLaws.{Checked, checked}
+use Rattle.panel.proofs.PathLaws.{checked}
 use Rattle.util.specs.declared.Vec2.{Vec2}
-use Rattle.walk.specs.Setup.{endsOf}
 use Rattle.walk.specs.Page.{lineOf}
-use Rattle.walk.specs.Skip.{flatOf, pastOf}
 use Rattle.walk.specs.Lent as Lines
 use Rattle.walk.specs.Lent.{reachedOf, walkedOf, walkAt}
 use Rattle.walk.specs.declared.lent.Walked.{Walked}
 use Rattle.walk.specs.declared.lent.Walked.the-variants as Found
 use Rattle.walk.proofs.Boxes.{fits-boxed}
 use Rattle.walk.proofs.Lines.{skipped}
-use Rattle.walk.proofs.Walks.{StartsAt, line-starts}
+use Rattle.walk.proofs.Walks.{line-starts}
 use Rattle.path_tiling.specs.Look.{Lent, lent, lineAt, packedAt, FoundFits, foundOf, foundTo, lookOf}
-use Rattle.path_tiling.specs.Tiling.{Range, range, lookThen, rangeOf, putOf, floatsOf, One, one, oneOf, Tiled, tiled, rangeTiled, slotsOf}
+use Rattle.path_tiling.specs.Tiling.{Range, range, lookThen, rangeOf, floatsOf, One, one, oneOf, tiled, rangeTiled, slotsOf}
 use Rattle.path_tiling.specs.declared.look.Look.{Look}
 use Rattle.path_tiling.specs.declared.look.Look.the-variants.{Put, Empty, Against}
 

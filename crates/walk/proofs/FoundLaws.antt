@@ -1,13 +1,12 @@
 -- What the set-up of a checked line stands on. Assumes nothing.
---     smaller         no end is a NaN, so one test picks the smaller
 --     both-span, counts-are, column    the tile edges around a line give its spans, its counts and its first column
 --     same-row        equal rows are one row
 --     off-is          0 or -1, from 1 or -1
 --     ends-ordered    the ends in tiles are in order
 use mathlib.Core.Path.{_≡_, refl, sym, ap, _∙_}
 use mathlib.Core.Bool.{Bool, true, false, cond, _&&_}
-use lib.Ieee.{Float, nan, inf, fin, binary32, lt, le, eq, sub, mul, neg, ofBits, isNan}
-use Rattle.float32.specs.Meaning.{floorOf, ceilOf, minOf}
+use lib.Ieee.{Float, binary32, lt, le, eq, sub, mul, neg, ofBits}
+use Rattle.float32.specs.Meaning.{floorOf, ceilOf}
 use Rattle.float32.proofs.Order.{eq-not-lt}
 use Rattle.util.specs.Constants.{zero, half, one, minusOne}
 use Rattle.util.specs.Span.{spanOf}
@@ -21,15 +20,6 @@ use Rattle.walk.specs.Setup.{endsOf, countsOf}
 use Rattle.walk.specs.Lent.{Reached}
 use Rattle.walk.specs.Found.{leastOf, lastOf, tilesOf, Spans, countsBy, Around}
 use Rattle.walk.proofs.Counts.{both}
-
-pub real : (x : Float) → Near x → isNan x ≡ false
-unfolding isNan
-real nan h = absurd (h .few)
-real (inf s) h = absurd (h .few)
-real (fin s m e) h = refl
-
-pub smaller : (a b : Float) → isNan a ≡ false → minOf a b ≡ cond (lt b a) b a
-smaller a b h = unfold minOf in rw h refl
 
 -- ---- the tiles between two edges are the span
 edged : (a b : Float) {low high : Float} → Near a → Near b → low ≡ floorOf (leastOf a b) → high ≡ ceilOf (lastOf a b)

@@ -4,22 +4,22 @@
 --     next-cast        one more than a whole float from 0 up, cast
 --     step-passed, step-failed    so of a step's column and row
 use mathlib.Core.Path.{_≡_, refl, sym, ap, _∙_, subst}
-use mathlib.Core.Bool.{Bool, true, false, not, cond, _&&_, false≢true}
+use mathlib.Core.Bool.{Bool, true, false, not, _&&_, false≢true}
 use mathlib.Core.Logic.{_⊎_, inl, inr}
-use Prim.Native.Nat.{ℕ, zero, suc, _+_, _-_, _*_, _/_, _%_, _^_, _≤_, _<_}
-use native.Mathlib.Nat.{mul-pos, mul-mod-left, mul-div-cancel, le-of-lt, le-div-iff-mul-le, mul-one}
+use Prim.Native.Nat.{ℕ, suc, _+_, _-_, _*_, _^_, _≤_, _<_}
+use native.Mathlib.Nat.{mul-pos}
 use native.Mathlib.Numerals.{add-one}
 use native.Mathlib.Omega.{arith}
-use lib.Dec.{T, ltb, leb, eqb, lit<, lit≤}
-use lib.IntN.{ℤ, pos, negsuc, _+ℤ_, _-ℤ_, negℤ, natAbs}
-use lib.Signed.{leZ, ltZ}
-use lib.Ieee.{Float, nan, inf, fin, binary32, up, down, add, sub, mul, neg, lt, le, ofInt, ofBits, toSigned, toUnsigned, inUnsigned, whole as isWhole, round, isNan}
+use lib.Dec.{T, ltb, leb, lit<, lit≤}
+use lib.IntN.{ℤ, pos, negsuc, _+ℤ_, _-ℤ_, natAbs}
+use lib.Signed.{ltZ}
+use lib.Ieee.{Float, nan, inf, fin, binary32, up, down, add, sub, mul, lt, le, ofInt, toSigned, toUnsigned, inUnsigned, isNan}
 use lib.Ieee.Fits.{down-pos}
 use lib.Ieee.Bits.{is-true}
 use lib.Ieee.Exact.{HasValue}
 use lib.Ieee.Scale.{finite}
 use lib.Ieee.Order.{round-mono}
-use borrow.Author.Tests.{lt-ltb, le-ltb, le-leb, lt-leb, eq-eqb, ltb-false}
+use borrow.Author.Tests.{lt-ltb, le-ltb, le-leb, lt-leb, ltb-false}
 use Rattle.float32.specs.Meaning.{whole, signed, unit}
 use Rattle.float32.proofs.Whole.{whole-value}
 use Rattle.float32.proofs.Order.{not-lt-of-le, le-right}
@@ -28,9 +28,10 @@ use Rattle.float32.proofs.Tests.{below-or-not}
 use Rattle.util.specs.Constants.{one}
 use Rattle.panel.specs.Limits.{mostSteps}
 use Rattle.panel.specs.declared.kinds.Path.{Path}
-use Rattle.exact.specs.Whole.{IsWhole, Rounded, signedZ, turn}
-use Rattle.exact.specs.Reach.{coordTiles, Starts}
-use Rattle.exact.proofs.Signs.{plusOf, neg-plus, abs-signed, abs-sum}
+use Rattle.exact.specs.Whole.{IsWhole, Rounded, turn}
+use Rattle.exact.specs.Reach.{Starts}
+use Rattle.exact.proofs.Spans.{one-whole, pos-cast}
+use Rattle.exact.proofs.Signs.{abs-signed, abs-sum}
 use Rattle.exact.proofs.Exact.{nat-whole, whole-cast, add-rounded, sub-rounded, add-whole, rounded-whole, round-signed, large-cast}
 use Rattle.exact.proofs.Compare.{lt-whole}
 use Rattle.exact.proofs.Limits.{far}
@@ -40,7 +41,7 @@ use Rattle.walk.specs.declared.edges.Edges.{Edges}
 use Rattle.walk.specs.declared.setup.Pace.{Pace}
 use Rattle.walk.proofs.Counts.{both}
 use Rattle.walk.proofs.Boxes.{okOf, inside-bounds}
-use Rattle.walk.proofs.Steps.{colOf, rowAt, z-fits, zWhole, z-whole, turned-whole}
+use Rattle.walk.proofs.Steps.{z-fits, zWhole, z-whole, turned-whole}
 
 -- the test in the code
 abbrev pub betweenOf : Float → (lo hi : Float) → Bool
@@ -162,24 +163,7 @@ no-col t (fin s m e) n (inf r) w f = refl
 no-col t (fin s m e) n (fin r a d) w f = absurd (false≢true (sym f))
 
 -- ---- casts
-one-whole : IsWhole one (pos 1)
-unfolding ofBits
-one-whole = (1, refl, refl)
-
--- one more than a whole float from 0 up: it isn't -0, so it is cast without loss
-pos-cast : (v : Float) (n : ℕ) → IsWhole v (pos (suc n)) → n < 2 ^ 24 → T (inUnsigned binary32 32 v) × (toUnsigned 32 v ≡ suc n)
-unfolding inUnsigned isWhole toUnsigned
-pos-cast nan n w h = absurd w
-pos-cast (inf s) n w h = absurd w
-pos-cast (fin true m e) n w h = absurd (omega (arith, ap plusOf (w .2), neg-plus (pos (w .0))))
-pos-cast (fin false m e) n w h =
-    let k : w .0 ≡ suc n = omega (arith, ap plusOf (w .2)) in
-    let q : m * up e / down e ≡ suc n = ap (λ (j : ℕ). j / down e) (w .1) ∙ mul-div-cancel (w .0) (down-pos e) ∙ k in
-    let r : m * up e % down e ≡ 0 = ap (λ (j : ℕ). j % down e) (w .1) ∙ mul-mod-left (w .0) (down e) in (
-      rw (eq-eqb (m * up e % down e) 0 r, le-leb (m * up e / down e) 16777216 (omega arith), lt-ltb (m * up e / down e) 4294967296 (omega arith)) tt,
-      omega arith,
-    )
-
+-- one more than a whole float from 0 up
 pub next-cast : (v : Float) (n : ℕ) → IsWhole v (pos n) → n < 2 ^ 20 → T (inUnsigned binary32 32 (add binary32 v one)) × (toUnsigned 32 (add binary32 v one) ≡ n + 1)
 next-cast v n w h =
     let e : pos n +ℤ pos 1 ≡ pos (suc n) = ap pos (add-one n) in

@@ -6,7 +6,8 @@ use lib.Dec.{T}
 use lib.Ieee.{Float, binary32, fits, lt, eq, neg, ofBits}
 use Rattle.float32.specs.Meaning.{floorOf}
 use Rattle.float32.proofs.Tests.{yes, first, second}
-use Rattle.float32.proofs.Magic.{limit, near, whole-near}
+use Rattle.float32.specs.Inner.{limit}
+use Rattle.float32.proofs.Magic.{near, whole-near}
 use Rattle.float32.proofs.is_whole.Statement.{statement}
 use Rattle.float32.proofs.is_whole.Tie as tie
 

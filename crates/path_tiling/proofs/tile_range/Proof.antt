@@ -1,14 +1,12 @@
 -- `path_tiling::tile_range` meets its contract. The loop's invariant, `Going`: what is left from reference k on, on the segments as they are now, is
 -- what the range comes to. The measure is what is left of the references. Assumes nothing.
-use Prim.Native.Nat.{_+_, _-_, _*_, _/_, _≤_, _<_}
+use Prim.Native.Nat.{_-_}
 use native.Mathlib.Nat.{le-refl}
 use native.Mathlib.Omega.{arith}
-use mathlib.Core.Path.{_≡_, refl, sym, ap, _∙_}
+use mathlib.Core.Path.{_≡_, refl}
 use borrow.Author.Needs.{needs}
 use lib.ListN.{length}
-use Rattle.panel.specs.Widths.{refWords, segmentFloats}
-use Rattle.path_tiling.specs.Look.{Lent, lent}
-use Rattle.path_tiling.specs.Tiling.{slotsOf}
+use Rattle.path_tiling.specs.Look.{lent}
 use Rattle.path_tiling.proofs.RangeLaws.{found-fits, slots-fit}
 use Rattle.path_tiling.proofs.RunLaws.{Going, on, less, halted, done}
 use Rattle.path_tiling.proofs.tile_range.Statement.{statement}

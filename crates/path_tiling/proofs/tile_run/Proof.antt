@@ -1,13 +1,11 @@
 -- `path_tiling::tile_run` meets its contract. The loop's invariant, `Running`: what is left of the run from reference k on, on the segments as they are
 -- now, is what the run comes to. The measure is what is left of the references. Assumes nothing.
-use Prim.Native.Nat.{_+_, _-_, _*_, _/_, _≤_, _<_}
+use Prim.Native.Nat.{_-_}
 use native.Mathlib.Nat.{le-refl}
 use native.Mathlib.Omega.{arith}
-use mathlib.Core.Path.{_≡_, refl, sym, ap, _∙_}
+use mathlib.Core.Path.{_≡_, refl}
 use borrow.Author.Needs.{needs}
 use borrow.Author.Tests.{eq-eqb, ne-eqb}
-use lib.ListN.{length}
-use Rattle.panel.specs.Widths.{refWords, segmentFloats}
 use Rattle.path_tiling.proofs.RunLaws.{Running, turned, stopped, other, over}
 use Rattle.path_tiling.proofs.tile_run.Statement.{statement}
 use Rattle.path_tiling.proofs.tile_run.Tie as tie

@@ -1,5 +1,4 @@
 -- `path_tiling::look::look_line` meets its contract. Assumes nothing.
-use borrow.Author.Needs.{needs}
 use mathlib.Core.Path.{_≡_}
 use Rattle.path_tiling.proofs.LookLaws.{step-fits}
 use Rattle.path_tiling.proofs.look.look_line.Statement.{statement}

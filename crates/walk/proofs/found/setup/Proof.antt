@@ -2,7 +2,10 @@
 use borrow.Author.Needs.{needs}
 use mathlib.Core.Path.{_≡_, sym, ap, _∙_, subst}
 use native.Mathlib.Omega.{arith}
+use lib.Ieee.{lt}
 use Rattle.float32.specs.Meaning.{floorOf, ceilOf}
+use Rattle.exact.proofs.Bounds.{near-within, near-turned}
+use Rattle.exact.proofs.Spans.{near-pick}
 use Rattle.walk.specs.declared.setup.Counts.{Counts}
 use Rattle.walk.specs.Setup.{countsOf, walkOn}
 use Rattle.walk.specs.Found.{Around}
@@ -14,23 +17,29 @@ use Rattle.walk.proofs.found.setup.Tie as tie
 pick-requires : tie.Need-pick-requires
 pick-requires c κs = search needs
 
-ceil-requires : tie.Need-ceil-requires
-ceil-requires c κs = search needs
+ceil-near-requires : tie.Need-ceil-near-requires
+ceil-near-requires c κs =
+    let s = c .before .before .before .before .before in
+    rw (c .pick .ensures) (near-turned _ (near-pick (lt (s .args .e .s0 .y) (s .args .e .s1 .y)) (s .args .e .s0 .y) (s .args .e .s1 .y) (s .pre .0 .in-y) (s .pre .1 .in-y)))
 
 pick-requires-2 : tie.Need-pick-requires-2
 pick-requires-2 c κs = search needs
 
-floor-requires : tie.Need-floor-requires
-floor-requires c κs = search needs
+floor-near-requires : tie.Need-floor-near-requires
+floor-near-requires c κs =
+    let s = c .before .before .before .before .before .before .before .before .before in
+    rw (c .pick2 .ensures) (near-within _ (near-pick (lt (s .args .e .s1 .x) (s .args .e .s0 .x)) (s .args .e .s0 .x) (s .args .e .s1 .x) (s .pre .0 .in-x) (s .pre .1 .in-x)))
 
 pick-requires-3 : tie.Need-pick-requires-3
 pick-requires-3 c κs = search needs
 
-ceil-requires-2 : tie.Need-ceil-requires-2
-ceil-requires-2 c κs = search needs
+ceil-near-requires-2 : tie.Need-ceil-near-requires-2
+ceil-near-requires-2 c κs =
+    let s = c .before .before .before .before .before .before .before .before .before .before .before .before .before in
+    rw (c .pick3 .ensures) (near-turned _ (near-pick (lt (s .args .e .s0 .x) (s .args .e .s1 .x)) (s .args .e .s0 .x) (s .args .e .s1 .x) (s .pre .0 .in-x) (s .pre .1 .in-x)))
 
 -- the four edges, as they were taken
-around : (c : tie.After-ceil2) → let f = c .before .before .before .before in let b = f .before .before .before .before in let s = b .before .before .before .before .before .before in Around (s .args .e .s0) (s .args .e .s1) (f .floor .result) (c .ceil2 .result) (s .args .top) (b .ceil .result)
+around : (c : tie.After-ceil-near2) → let f = c .before .before .before .before in let b = f .before .before .before .before in let s = b .before .before .before .before .before .before in Around (s .args .e .s0) (s .args .e .s1) (f .floor-near .result) (c .ceil-near2 .result) (s .args .top) (b .ceil-near .result)
 around c =
     let f = c .before .before .before .before in
     let b = f .before .before .before .before in
@@ -39,10 +48,10 @@ around c =
       start = s .pre .0;
       end = s .pre .1;
       ordered = s .pre .2;
-      at-left = f .floor .ensures ∙ ap floorOf (f .before .pick2 .ensures);
-      at-right = c .ceil2 .ensures ∙ ap ceilOf (c .before .pick3 .ensures);
+      at-left = f .floor-near .ensures ∙ ap floorOf (f .before .pick2 .ensures);
+      at-right = c .ceil-near2 .ensures ∙ ap ceilOf (c .before .pick3 .ensures);
       at-top = s .pre .3;
-      at-bottom = b .ceil .ensures ∙ ap ceilOf (b .before .pick .ensures);
+      at-bottom = b .ceil-near .ensures ∙ ap ceilOf (b .before .pick .ensures);
     }
 
 count-steps-requires : tie.Need-count-steps-requires
@@ -73,11 +82,11 @@ setup-spec =
     tie.close
     (tie.spec
     pick-requires
-    ceil-requires
+    ceil-near-requires
     pick-requires-2
-    floor-requires
+    floor-near-requires
     pick-requires-3
-    ceil-requires-2
+    ceil-near-requires-2
     count-steps-requires
     incline-requires
     start-requires

@@ -3,6 +3,7 @@ use borrow.Author.Needs.{needs}
 use mathlib.Core.Path.{_≡_}
 use mathlib.Core.Bool.{false}
 use lib.Ieee.{lt}
+use Rattle.exact.proofs.Bounds.{near-within}
 use Rattle.walk.specs.Setup.{Scaled}
 use Rattle.walk.proofs.Counts.{ends-scaled}
 use Rattle.walk.proofs.Lines.{skips, walks}
@@ -13,8 +14,12 @@ use Rattle.walk.proofs.found.walk_on.Tie as tie
 order-requires : tie.Need-order-requires
 order-requires c κs = search needs
 
-floor-requires : tie.Need-floor-requires
-floor-requires c κs = search needs
+floor-near-requires : tie.Need-floor-near-requires
+floor-near-requires c κs =
+    let o = c .before .before in
+    let s = o .before in
+    let e : Scaled (o .order .result .s0) × Scaled (o .order .result .s1) = rw (o .order .ensures) (ends-scaled (s .args .p0) (s .args .p1) (s .pre)) in
+    near-within _ (e .0 .in-y)
 
 flat-requires : tie.Need-flat-requires
 flat-requires c κs = search needs
@@ -38,7 +43,7 @@ setup-requires c κs =
     let s = o .before in
     let e : Scaled (o .order .result .s0) × Scaled (o .order .result .s1) = rw (o .order .ensures) (ends-scaled (s .args .p0) (s .args .p1) (s .pre)) in
     let f : lt (o .order .result .s1 .y) (o .order .result .s0 .y) ≡ false = rw (o .order .ensures) (ends-ordered (s .args .p0) (s .args .p1) (s .pre)) in
-    (e .0, e .1, f, c .before .before .before .floor .ensures)
+    (e .0, e .1, f, c .before .before .before .floor-near .ensures)
 
 returns-2 : tie.Need-returns-2
 returns-2 c =
@@ -47,4 +52,4 @@ returns-2 c =
     walks (s .args .p0) (s .args .p1) (s .args .b) (c .setup .result) (rw (c .before .before .before .flat .ensures, c .before .before .past .ensures, o .order .ensures) at (c .before .if1 .left)) (rw (o .order .ensures) at (c .setup .ensures))
 
 pub walk-on-spec : {M : Type 1} → statement M
-walk-on-spec = tie.close (tie.spec order-requires floor-requires flat-requires past-requires returns setup-requires returns-2)
+walk-on-spec = tie.close (tie.spec order-requires floor-near-requires flat-requires past-requires returns setup-requires returns-2)
