@@ -303,7 +303,7 @@ pub fn of_u32(n: u32) -> f32
 }
 
 // The size of n. That of the lowest is no `i32`, so one is added first, and once more after the cast.
-fn size_of(n: i32) -> u32
+pub fn size_of(n: i32) -> u32
     ensures { λ r. ⌜ r ≡ natAbs n ⌝ }
 {
     if n < 0 {

@@ -1,7 +1,7 @@
--- A signed number's bits, turned over where it is negative, its size, and whether it is 0. Assumes nothing.
+-- A signed number's bits, turned over where it is negative, and whether it is 0. Assumes nothing.
 use mathlib.Core.Path.{_≡_, refl, sym, ap, _∙_, subst}
 use mathlib.Core.Bool.{true, false}
-use Prim.Native.Nat.{ℕ, suc, _+_, _-_, _^_, _<_}
+use Prim.Native.Nat.{ℕ, suc, _-_, _^_, _<_}
 use native.Mathlib.Omega.{arith}
 use borrow.Author.Tests.{ne-eqb}
 use lib.Dec.{T, eqb}
@@ -34,14 +34,6 @@ module _ (z : ℤ) (f : SFits w32 z) (t : ltZ (read z) (pos 0) ≡ true) where
 
   pub over-bits : not32 (natAbs (read (negsuc 0 -ℤ read z))) ≡ bitsOf z
   over-bits = ap (λ (y : ℤ). not32 (natAbs y)) over-is ∙ ap bitsOf (sym (below .1))
-
-  pub over-next : Fits w32 (natAbs (read (negsuc 0 -ℤ read z)) + 1)
-  over-next = rw over-is (record { fits = omega (arith, small) })
-
-  pub over-size : natAbs (read (negsuc 0 -ℤ read z)) + 1 ≡ natAbs z
-  over-size =
-      let next : below .0 + 1 ≡ suc (below .0) = omega arith in
-      ap (λ (y : ℤ). natAbs y + 1) over-is ∙ next ∙ ap natAbs (sym (below .1))
 
 -- ---- another one
 

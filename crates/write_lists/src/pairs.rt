@@ -7,7 +7,7 @@ use panel::widths::PAINT_WORDS;
 ghost use mathlib.Core.Path.{_≡_};
 ghost use mathlib.Core.Bool.{true};
 ghost use Prim.Native.Nat.{_+_, _*_, _%_, _≤_, _<_};
-ghost use lib.IntN.{pos, natAbs};
+ghost use lib.IntN.{pos};
 ghost use lib.ListN.{length, getD};
 ghost use Rattle.panel.specs.Limits.{mostTiles};
 ghost use Rattle.panel.specs.Widths.{paintWords};
@@ -40,13 +40,6 @@ fn bits(b: i32) -> u32
     if b < 0 { !((-1 - b) as u32) } else { b as u32 }
 }
 
-// A backdrop's size. That of the lowest is no `i32`, so one is added after the cast.
-fn size_of(b: i32) -> u32
-    ensures { λ r. ⌜ r ≡ natAbs b ⌝ }
-{
-    if b < 0 { (-1 - b) as u32 + 1 } else { b as u32 }
-}
-
 // 1 where n is odd, as a whole number. A float loses that bit from 2^24 on.
 fn last_bit(n: u32) -> u32
     ensures { λ r. ⌜ r ≡ n % 2 ⌝ }
@@ -59,7 +52,7 @@ fn covers(even_odd: bool, b: i32) -> bool
     ensures { λ r. ⌜ r ≡ covers «even_odd» b ⌝ }
 {
     if even_odd {
-        last_bit(size_of(b)) == 1
+        last_bit(float32::size_of(b)) == 1
     } else {
         b != 0
     }
