@@ -124,9 +124,9 @@ fn setup(e: Ends, top: f32) -> Walk
 {
     let s0 = e.s0;
     let s1 = e.s1;
-    let bottom = float32::ceil_near(pick(s0.y < s1.y, s1.y, s0.y));
+    let bottom = -float32::floor_near(-pick(s0.y < s1.y, s1.y, s0.y));
     let left = float32::floor_near(pick(s1.x < s0.x, s1.x, s0.x));
-    let right = float32::ceil_near(pick(s0.x < s1.x, s1.x, s0.x));
+    let right = -float32::floor_near(-pick(s0.x < s1.x, s1.x, s0.x));
     let k = count_steps(left, right, top, bottom);
     let m = incline(s0, s1, left, right, top, bottom);
     let b = start(m, s0);
