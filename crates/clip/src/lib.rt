@@ -6,7 +6,7 @@ ghost use Prim.Native.Nat.{min, max};
 ghost use Rattle.clip.specs.Clip.{rowStepBy, colStepOf, firstStepOf, lastStepOf, rowsOf, leftOf, enterOf, leaveOf, byLeftOf, byRightOf, colsOf};
 ghost use Rattle.clip.specs.Page.{clippedOf};
 use panel::kinds::Path;
-use walk::choose::pick;
+use util::pick;
 use walk::choose::row;
 use walk::setup::Walk;
 use walk::step::z_at;

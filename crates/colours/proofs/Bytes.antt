@@ -20,7 +20,7 @@ whole-minus : (n : ℕ) → toUnsigned 32 (whole true n) ≡ 0
 unfolding toUnsigned
 whole-minus n = ap (toUnsigned 32) (round-with binary32 true n 1) ∙ shape (λ z. toUnsigned 32 (withSign true z) ≡ 0) refl (λ m e. refl) binary32 n 1
 
-minus-cast : (a c : ℕ) → toUnsigned 32 (roundOf (round binary32 true a c)) ≡ 0
+pub minus-cast : (a c : ℕ) → toUnsigned 32 (roundOf (round binary32 true a c)) ≡ 0
 unfolding roundOf
 minus-cast a c =
     ap (λ (z : Float). toUnsigned 32 (roundOf z)) (round-with binary32 true a c)
@@ -30,8 +30,8 @@ minus-cast a c =
     inf-minus = unfold toUnsigned in refl
 
 -- ---- at most 255 rounds and casts to at most 255
-nearest : (A D : ℕ) → 0 < D → A ≤ 255 * D → near-div A D < 256
-nearest A D p h = let q : 0 < D * 2 = omega arith in div-lt-iff-lt-mul q .1 (omega arith)
+pub nearest-small : (A D : ℕ) → 0 < D → A ≤ 255 * D → near-div A D < 256
+nearest-small A D p h = let q : 0 < D * 2 = omega arith in div-lt-iff-lt-mul q .1 (omega arith)
 
 abbrev Low : Float → Type 0
 Low z = T (le z (whole false 255)) → toUnsigned 32 (roundOf z) < byteMany
@@ -44,21 +44,21 @@ low-inf : Low (inf false)
 unfolding le
 low-inf h = absurd (subst (λ (z : Float). T (le (inf false) z)) top-size h)
 
-is-true : (b : Bool) → T b → b ≡ true
+pub is-true : (b : Bool) → T b → b ≡ true
 is-true true t = refl
 is-true false t = absurd t
 
 low-fin : (m : ℕ) (e : ℤ) → Low (fin false m e)
 unfolding roundOf
 low-fin m e h =
-    let q : near-div (m * up e) (down e) < 256 = nearest (m * up e) (down e) (down-pos e) (size-plus m e 255 (omega arith) (is-true _ h)) in
+    let q : near-div (m * up e) (down e) < 256 = nearest-small (m * up e) (down e) (down-pos e) (size-plus m e 255 (omega arith) (is-true _ h)) in
     subst (λ (n : ℕ). n < byteMany) (sym (whole-u32 (near-div (m * up e) (down e)) (omega arith))) q
 
 plus-cast : (a c : ℕ) → 0 < c → a ≤ 255 * c → toUnsigned 32 (roundOf (round binary32 false a c)) < byteMany
 plus-cast a c p h = shape Low low-inf low-fin binary32 a c (round-mono binary32 a c 255 1 p (omega arith) (omega (arith, mul-one a)))
 
 -- ---- the product, and what is clamped
-times : (s : Bool) (m : ℕ) (e : ℤ) → mul binary32 (fin s m e) byteMost ≡ round binary32 s (m * up e * 255) (down e * 1)
+pub times : (s : Bool) (m : ℕ) (e : ℤ) → mul binary32 (fin s m e) byteMost ≡ round binary32 s (m * up e * 255) (down e * 1)
 unfolding mul ofBits
 times true m e = refl
 times false m e = refl
@@ -78,7 +78,7 @@ clamped (fin false m e) p q =
     subst (λ (z : Float). toUnsigned 32 (roundOf z) < byteMany) (sym (times false m e))
     (plus-cast (m * up e * 255) (down e * 1) (omega (arith, down-pos e, mul-one (down e))) (omega (arith, mul-one (down e))))
 
-nan-byte : byteOf nan ≡ 0
+pub nan-byte : byteOf nan ≡ 0
 unfolding byteOf clampOf roundOf mul le lt ofBits toUnsigned
 nan-byte = refl
 

@@ -2,9 +2,7 @@
 // laid over a tile's pixels, and packed for the screen. fine.rs, lines 33 to 49 and 146 to 156;
 // docs/RULES.md, "Coverage and colour".
 use coverage::tile::TILE_SIZE;
-use float32::clamp;
-use float32::round;
-use float32::to_u32;
+use util::pick;
 ghost use mathlib.Core.Path.{_≡_};
 ghost use Prim.Native.Nat.{_<_};
 ghost use lib.ListN.{length};
@@ -57,11 +55,20 @@ pub fn composite(rgba: &mut [[f32; 4]; TILE_SIZE], area: &[f32], fg: [f32; 4])
     }
 }
 
-// A channel as a byte. A NaN is 0.
+// From here up every float is a whole number.
+const WHOLE: f32 = 8388608.0;
+
+// A channel as a byte. A NaN is 0, as is -0, so neither goes on. WHOLE added to x and taken off again, the nearest whole
+// number is left, of two the even one, so that one more is due where a half was cut: as `float32::round` has it, but
+// with no branch and no sign to put back.
 pub fn byte(v: f32) -> u32
     ensures { λ r. ⌜ (r ≡ byteOf v) × (r < byteMany) ⌝ }
 {
-    to_u32(round(clamp(v, 0.0, 1.0) * 255.0))
+    let low = pick(0.0 < v, v, 0.0);
+    let x = pick(1.0 < low, 1.0, low) * 255.0;
+    let even = (x + WHOLE) - WHOLE;
+    let n = even - pick(0.5 <= x - even, -1.0, 0.0);
+    (n as i32) as u32
 }
 
 // A pixel, red lowest.

@@ -6,7 +6,7 @@ ghost use Prim.Native.Nat.{_≤_, _<_};
 ghost use Rattle.panel.specs.Limits.{edgeMost, mostSteps};
 ghost use Rattle.segment.specs.Clips.{cornerOf, farOf, atRowOf, atColOf, clipOf, makeOf, edgeOf, offOf, turnOf, heldOf, firstOf, lastOf, segmentOf, pieceOf};
 use util::Vec2;
-use walk::choose::pick;
+use util::pick;
 use walk::setup::Walk;
 
 // path_tiling.rs: what a clipped end keeps from its tile's left or top edge, what an end on a whole

@@ -4,13 +4,7 @@ ghost use mathlib.Core.Bool.{cond};
 ghost use Rattle.walk.specs.Num.{cutOf, negOf, insideOf, rowOf};
 use util::Vec2;
 
-// `if t { x } else { y }`, of two floats, of two points and of two tests.
-pub fn pick(t: bool, x: f32, y: f32) -> f32
-    ensures { λ r. ⌜ r ≡ cond t x y ⌝ }
-{
-    if t { x } else { y }
-}
-
+// `if t { x } else { y }`, of two points and of two tests; of two floats it is `util::pick`.
 pub fn pick_vec(t: bool, p: Vec2, q: Vec2) -> Vec2
     ensures { λ r. ⌜ r ≡ cond t p q ⌝ }
 {

@@ -12,7 +12,6 @@ ghost use Rattle.walk.specs.Setup.{Scaled, slopeOf, aOf, walkOn};
 ghost use Rattle.walk.specs.Skip.{flatOf, pastOf};
 ghost use Rattle.walk.specs.Lent.{Reached, walkedOf, walkAt};
 ghost use Rattle.walk.specs.Found.{tilesOf, Spans, countsBy, Around};
-use super::choose::pick;
 use super::lent::Walked;
 use super::lent::line_at;
 use super::lent::reached;
@@ -30,6 +29,7 @@ use panel::refusals::NO_SUCH;
 use panel::widths::PATH_WORDS;
 use util::ROBUST_EPSILON;
 use util::Vec2;
+use util::pick;
 
 // How many tiles lie from the edge `low` to the edge `high`; at least one. Of a checked line that is
 // whole and small, so a plain cast serves.

@@ -1,0 +1,185 @@
+-- What `byte` makes of a channel, by picks and by a shift to where the floats are whole and back, is the channel's byte. Assumes nothing.
+-- Of `fin s m e` the size is A / D, with A = m * up e and D = down e.
+use mathlib.Core.Path.{_≡_, refl, sym, ap, _∙_, subst}
+use mathlib.Core.Bool.{Bool, true, false, cond, false≢true}
+use Prim.Native.Nat.{ℕ, _+_, _*_, _/_, _^_, _≤_, _<_}
+use native.Mathlib.Nat.{mul-one, mul-div-cancel}
+use native.Mathlib.Omega.{arith}
+use lib.Dec.{T, ltb, le→leb, lit≤}
+use lib.IntN.{ℤ, pos}
+use lib.Ieee.{Float, nan, inf, fin, binary32, up, down, lt, le, neg, add, sub, mul, round, fits, ofBits, ofInt, inFloat, inSigned, toSigned, toUnsigned}
+use lib.Ieee.Back.{positive-back}
+use lib.Ieee.Fits.{down-pos, round-fits}
+use lib.Ieee.Order.{round-mono}
+use borrow.Author.Tests.{le-ltb, ltb-false}
+use Rattle.float32.specs.Meaning.{whole, unit, near-div, clampOf, roundOf}
+use Rattle.float32.proofs.Halves.{even, Rounded, round-near}
+use Rattle.float32.proofs.Laws.{size-plus, round-to-fits, whole-u32}
+use Rattle.float32.proofs.Magic.{own}
+use Rattle.float32.proofs.Nearest as halves
+use Rattle.float32.proofs.Same.{sub-zero}
+use Rattle.float32.proofs.Steps.{lt-plus, gt-plus}
+use Rattle.util.specs.Constants.{zero, half, one, minusOne, byteMost}
+use Rattle.coverage.proofs.Even.{shape}
+use Rattle.colours.specs.Colour.{byteMany, byteOf}
+use Rattle.colours.proofs.Bytes.{nearest-small, minus-cast, nan-byte, times, is-true}
+
+-- ---- what stands on the way
+-- at least 0, a NaN and -0 too; at most 1; times 255; the whole number nearest to that
+abbrev pub lowest : Float → Float
+lowest v = cond (lt zero v) v zero
+
+abbrev pub kept : Float → Float
+kept v = cond (lt one (lowest v)) one (lowest v)
+
+abbrev pub scaled : Float → Float
+scaled v = mul binary32 (kept v) byteMost
+
+abbrev pub stepped : Float → Float
+stepped x = sub binary32 (even x) (cond (le half (sub binary32 x (even x))) minusOne zero)
+
+-- ---- what is kept lies from +0 to 1
+record Plus (N : ℕ) (y : Float) : Type 0 where
+  m : ℕ
+  e : ℤ
+  is : y ≡ fin false m e
+  fit : T (fits binary32 (fin false m e))
+  most : m * up e ≤ N * down e
+
+plus-zero : Plus 1 zero
+unfolding ofBits
+plus-zero = record { m = 0; e = pos 0; is = refl; fit = unfold fits in tt; most = lit≤ tt }
+
+plus-one : Plus 1 one
+unfolding ofBits
+plus-one = record { m = 1; e = pos 0; is = refl; fit = unfold fits in tt; most = lit≤ tt }
+
+kept-plus : (v : Float) → T (fits binary32 v) → Plus 1 (kept v)
+unfolding ofBits lt
+kept-plus nan h = plus-zero
+kept-plus (inf true) h = plus-zero
+kept-plus (inf false) h = plus-one
+kept-plus (fin true m e) h = plus-zero
+kept-plus (fin false m e) h = go (lt zero (fin false m e))
+  where
+    high : (b : Bool) → lt one (fin false m e) ≡ b → Plus 1 (cond b one (fin false m e))
+    high true i = plus-one
+    high false i = record { m = m; e = e; is = refl; fit = h; most = ltb-false (1 * down e) (m * up e) (sym (gt-plus m e one 1 (refl, refl)) ∙ i) }
+
+    go : (b : Bool) → Plus 1 (cond (lt one (cond b (fin false m e) zero)) one (cond b (fin false m e) zero))
+    go true = high (lt one (fin false m e)) refl
+    go false = plus-zero
+
+-- ---- times 255 it lies from +0 to 255
+top-size : whole false 255 ≡ fin false 255 (pos 0)
+unfolding round
+top-size = refl
+
+abbrev Most : Float → Type 0
+Most z = T (fits binary32 z) → T (le z (whole false 255)) → Plus 255 z
+
+most-inf : Most (inf false)
+unfolding le
+most-inf f h = absurd (subst (λ (z : Float). T (le (inf false) z)) top-size h)
+
+most-fin : (m : ℕ) (e : ℤ) → Most (fin false m e)
+most-fin m e f h = record { m = m; e = e; is = refl; fit = f; most = size-plus m e 255 (omega arith) (is-true _ h) }
+
+round-plus : (a c : ℕ) → 0 < c → a ≤ 255 * c → Plus 255 (round binary32 false a c)
+round-plus a c p h =
+    shape Most most-inf most-fin binary32 a c (round-fits binary32 false a c)
+    (round-mono binary32 a c 255 1 p (omega arith) (omega (arith, mul-one a)))
+
+scaled-plus : (v : Float) → T (fits binary32 v) → Plus 255 (scaled v)
+scaled-plus v h =
+    let k = kept-plus v h in
+    subst (Plus 255) (sym (ap (λ (z : Float). mul binary32 z byteMost) (k .is) ∙ times false (k .m) (k .e)))
+    (round-plus (k .m * up (k .e) * 255) (down (k .e) * 1) (omega (arith, down-pos (k .e), mul-one (down (k .e)))) (omega (arith, k .most, mul-one (down (k .e)))))
+
+-- ---- the whole number nearest to it
+minus-one : (r : Float) → sub binary32 r minusOne ≡ add binary32 r (unit false)
+unfolding sub neg ofBits
+minus-one r = refl
+
+none-off : (r : Float) → T (fits binary32 r) → sub binary32 r zero ≡ r
+unfolding ofBits
+none-off r h = sub-zero r h
+
+stepped-rounds : (x : Float) → Plus 255 x → stepped x ≡ roundOf x
+unfolding ofBits
+stepped-rounds x p = subst (λ (z : Float). stepped z ≡ roundOf z) (sym (p .is)) (go y (round-near (p .m) (p .e) (p .fit) (omega (arith, p .most, down-pos (p .e)))) (le (halves.half false) (sub binary32 y (even y))) refl)
+  where
+    y : Float
+    y = fin false (p .m) (p .e)
+
+    go : (y : Float) → Rounded y (even y) → (b : Bool) → le (halves.half false) (sub binary32 y (even y)) ≡ b → sub binary32 (even y) (cond b minusOne zero) ≡ roundOf y
+    go y w true i = minus-one (even y) ∙ w .more i
+    go y w false i = none-off (even y) (subst (λ (z : Float). T (fits binary32 z)) (sym (w .stay i)) (round-to-fits y)) ∙ w .stay i
+
+-- ---- as a whole number
+abbrev Cast : Float → Type 0
+Cast n = T (inSigned binary32 31 n) × (toSigned 31 n ≡ pos (toUnsigned 32 n))
+
+whole-cast : (n : ℕ) → n < byteMany → Cast (whole false n)
+unfolding inFloat ofInt
+whole-cast n l =
+    let b : n ≤ 2 ^ 24 = omega arith in
+    let w = positive-back binary32 31 n (le→leb n (2 ^ 24) b) (omega arith) in
+    (w .0, w .1 ∙ ap pos (sym (whole-u32 n b)))
+
+round-cast : (x : Float) → Plus 255 x → Cast (roundOf x)
+unfolding roundOf
+round-cast x p =
+    subst (λ (z : Float). Cast (roundOf z)) (sym (p .is))
+    (whole-cast (near-div (p .m * up (p .e)) (down (p .e))) (nearest-small (p .m * up (p .e)) (down (p .e)) (down-pos (p .e)) (p .most)))
+
+-- ---- the byte of what is kept
+zero-byte : toUnsigned 32 (roundOf (mul binary32 zero byteMost)) ≡ 0
+unfolding ofBits mul roundOf round toUnsigned
+zero-byte = refl
+
+zero-whole : whole false 0 ≡ zero
+unfolding ofBits round
+zero-whole = refl
+
+abbrev byteAt : Float → ℕ
+byteAt z = toUnsigned 32 (roundOf (mul binary32 z byteMost))
+
+kept-byte : (v : Float) → T (fits binary32 v) → byteOf v ≡ toUnsigned 32 (roundOf (scaled v))
+unfolding byteOf clampOf ofBits lt le
+kept-byte nan h = nan-byte ∙ sym zero-byte
+kept-byte (inf true) h = refl
+kept-byte (inf false) h = refl
+kept-byte (fin true m e) h = go (lt (fin true m e) zero)
+  where
+    go : (b : Bool) → toUnsigned 32 (roundOf (mul binary32 (cond b zero (fin true m e)) byteMost)) ≡ toUnsigned 32 (roundOf (mul binary32 zero byteMost))
+    go true = refl
+    go false = ap (λ (z : Float). toUnsigned 32 (roundOf z)) (times true m e) ∙ minus-cast (m * up e * 255) (down e * 1) ∙ sym zero-byte
+kept-byte (fin false m e) h = go (lt zero (fin false m e)) refl
+  where
+    not-below : lt (fin false m e) zero ≡ false
+    not-below = lt-plus m e zero 0 (refl, refl) ∙ none (m * up e) (down e)
+      where
+        none : (A D : ℕ) → ltb A (0 * D) ≡ false
+        none A D = le-ltb A (0 * D) (omega arith)
+
+    no-more : (A D : ℕ) → A ≤ 0 * D → A ≡ 0 * D
+    no-more A D h = omega arith
+
+    is-zero : lt zero (fin false m e) ≡ false → zero ≡ fin false m e
+    is-zero i =
+        let z : m * up e ≡ 0 * down e = no-more (m * up e) (down e) (ltb-false (0 * down e) (m * up e) (sym (gt-plus m e zero 0 (refl, refl)) ∙ i)) in
+        sym zero-whole ∙ ap (whole false) (sym (ap (λ (n : ℕ). n / down e) z ∙ mul-div-cancel 0 (down-pos e))) ∙ sym (own false m e 0 h z)
+
+    go : (b : Bool) → lt zero (fin false m e) ≡ b
+        → byteAt (cond (lt (fin false m e) zero) zero (cond (lt one (fin false m e)) one (fin false m e)))
+        ≡ byteAt (cond (lt one (cond b (fin false m e) zero)) one (cond b (fin false m e) zero))
+    go true i = rw not-below refl
+    go false i = subst (λ (z : Float). byteAt (cond (lt z zero) zero (cond (lt one z) one z)) ≡ byteAt zero) (is-zero i) refl
+
+-- ---- all of it
+pub byte-cast : (v : Float) → T (fits binary32 v) → T (inSigned binary32 31 (stepped (scaled v))) × (toSigned 31 (stepped (scaled v)) ≡ pos (byteOf v))
+byte-cast v h =
+    let p = scaled-plus v h in
+    let w = subst Cast (sym (stepped-rounds (scaled v) p)) (round-cast (scaled v) p) in
+    (w .0, w .1 ∙ ap pos (ap (toUnsigned 32) (stepped-rounds (scaled v) p) ∙ sym (kept-byte v h)))
