@@ -93,6 +93,6 @@ passed s cols rows room ws words e =
       few-tiles = leb-true (cols * rows) mostTiles (f .1 .1 .1 .1 .0);
       short = λ t h. few-commands s cols (cols * rows) 0 t (omega arith) (omega arith) (c .0);
       regions = leb-true (tileWords * regionsOf s cols rows) (length ws) (d .0);
-      filled = λ t h. tile-filled s cols room (cols * rows) 0 t (omega arith) (omega arith) (d .1 .1 .0);
+      filled = λ t h. tile-filled s cols room (cols * rows) 0 t (omega arith) (omega arith) (d .1 .0);
       are = a .1;
     }

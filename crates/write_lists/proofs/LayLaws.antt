@@ -14,8 +14,8 @@ use Rattle.panel.proofs.PathLaws.{and-true}
 use Rattle.commands.specs.Numbers.{jumpNo, jumpWords, tileWords}
 use Rattle.write_lists.specs.Pairs.{putList}
 use Rattle.write_lists.specs.Layout.{Chunk, chunk, penAt, pairSize, pairWords, fits, jumpIf, turned, after, pairChunks, laid, jumpCount, leftAt, leftAfter, jumpsOf, written, begun, penAfter}
-use Rattle.write_lists.specs.Lists.{slotsFit, allFit, wordsNamed}
-use Rattle.write_lists.specs.Ready.{Room}
+use Rattle.write_lists.specs.Lists.{slotsFit, allFit}
+use Rattle.write_lists.specs.Ready.{wordsNamed, Room}
 use Rattle.write_lists.specs.declared.pairs.Pair.{Pair}
 use Rattle.write_lists.specs.declared.pairs.Pair.the-variants.{Fill}
 use Rattle.write_lists.specs.declared.pairs.Put.{Put}

@@ -21,8 +21,8 @@ use Rattle.panel.proofs.PathLaws.{and-true}
 use Rattle.commands.specs.Numbers.{tileWords}
 use Rattle.write_lists.specs.Pairs.{Tables, tilePairs}
 use Rattle.write_lists.specs.Layout.{laid, jumpsOf, ownWords, penOf, commandsOf, written}
-use Rattle.write_lists.specs.Lists.{lentChecks, callAnswer, longFrom, freshOf, slotsFit, allFit, fillsFit, wordsNamed, roomChecks, listsFrom, regionsOf, thenCheck, answerOf, listsOf, left, writeListsOf}
-use Rattle.write_lists.specs.Ready.{Ready, noWeight, weighAll, tilesAnswer, Room}
+use Rattle.write_lists.specs.Lists.{lentChecks, callAnswer, longFrom, freshOf, slotsFit, allFit, fillsFit, roomChecks, listsFrom, regionsOf, thenCheck, answerOf, listsOf, left, writeListsOf}
+use Rattle.write_lists.specs.Ready.{Ready, noWeight, weighAll, tilesAnswer, wordsNamed, Room}
 use Rattle.write_lists.specs.declared.pairs.Pair.{Pair}
 use Rattle.write_lists.specs.declared.pairs.Pair.the-variants.{Fill, Solid}
 use Rattle.write_lists.specs.declared.weigh.Weight.{Weight}
@@ -146,15 +146,14 @@ fills-most s cols room (t ∷ ts) e =
 
 -- 15 and 9 passed
 pub tiles-ready : (s : Tables) (cols room n lent : ℕ) → tilesAnswer s cols room n lent 0 true (from 0 n) ≡ Done
-    → (tileWords * (n + freshOf s cols (from 0 n)) ≤ lent) × (tileWords * (n + freshOf s cols (from 0 n)) ≤ wordsNamed)
-    × (fillsFit s cols mostSlots (from 0 n) ≡ true)
+    → (tileWords * (n + freshOf s cols (from 0 n)) ≤ lent) × (fillsFit s cols mostSlots (from 0 n) ≡ true)
 unfolding tilesAnswer
 tiles-ready s cols room n lent e =
     let need = tileWords * (n + (0 + freshOf s cols (from 0 n))) in
     let checks = roomChecks (n + (0 + freshOf s cols (from 0 n))) lent (fillsFit s cols room (from 0 n)) in
     let d = unless-done (firstNo checks) 0 Done (then-done (longFrom s cols (from 0 n)) (unless (firstNo checks) 0 Done) e .1) in
     let c = all-ok checks (d .0) in
-    (omega (arith, leb-true need lent (c .0)), omega (arith, leb-true need wordsNamed (c .1 .0)), fills-most s cols room (from 0 n) (c .1 .1 .0))
+    (omega (arith, leb-true need lent (c .0)), fills-most s cols room (from 0 n) (c .1 .0))
 
 module _ (s : Tables) (cols rows room : ℕ) (ws : List ℕ) where
   answer-is : callAnswer s cols rows ≡ Done → answerOf s cols rows room (length ws) ≡ tilesAnswer s cols room (cols * rows) (length ws) 0 true (from 0 (cols * rows))
