@@ -16,6 +16,7 @@ use Rattle.panel.specs.Checks.{check, firstNo, unless}
 use Rattle.panel.specs.declared.kinds.Answer.{Answer}
 use Rattle.panel.specs.declared.kinds.Answer.the-variants.{Done, Refused}
 use Rattle.commands.specs.Numbers.{tileWords}
+use Rattle.panel.proofs.BoolLaws.{one-false}
 use Rattle.write_lists.specs.Pairs.{Tables, tilePairs}
 use Rattle.write_lists.specs.Layout.{commandsOf, written}
 use Rattle.write_lists.specs.Lists.{callAnswer, longFrom, slotsFit, allFit, fillsFit, regionsOf, thenCheck, answerOf, listsOf, onDone, writeListsOf}
@@ -25,10 +26,6 @@ use Rattle.list_theorems.specs.Refusing.{Some, FirstLong, AllShort, Slot
 use Rattle.list_theorems.proofs.Passed.{not-done, few-commands}
 
 -- ---- two tests
-
-and-false : (a b : Bool) → (a && b) ≡ false → (a ≡ false) ⊎ (b ≡ false)
-and-false true b e = inr e
-and-false false b e = inl refl
 
 false-and : (a b : Bool) → (a ≡ false) ⊎ (b ≡ false) → (a && b) ≡ false
 false-and true b (inl e) = let z : _≡_ {A = ℕ} 0 1 = cc in absurd (omega arith)
@@ -40,7 +37,7 @@ false-and false b e = refl
 module _ (room : ℕ) where
   slots-out : (p : Pair) → slotsFit room p ≡ false → SlotsOut room p
   slots-out (Fill count rule first backdrop colour) e =
-      ⊎-elim (λ f. inl (leb-false (first + count) room f)) (λ f. inr (leb-false (first + count) mostSlots f)) (and-false (leb (first + count) room) (leb (first + count) mostSlots) e)
+      ⊎-elim (λ f. inl (leb-false (first + count) room f)) (λ f. inr (leb-false (first + count) mostSlots f)) (one-false (leb (first + count) room) (leb (first + count) mostSlots) e)
   slots-out (Solid colour) e = let z : _≡_ {A = ℕ} 0 1 = cc in absurd (omega arith)
 
   out-slots : (p : Pair) → SlotsOut room p → slotsFit room p ≡ false
@@ -50,7 +47,7 @@ module _ (room : ℕ) where
 
   some-out : (ps : List Pair) → allFit room ps ≡ false → Some (SlotsOut room) ps
   some-out [] e = let z : _≡_ {A = ℕ} 0 1 = cc in absurd (omega arith)
-  some-out (p ∷ ps) e = go (and-false (slotsFit room p) (allFit room ps) e) (some-out ps)
+  some-out (p ∷ ps) e = go (one-false (slotsFit room p) (allFit room ps) e) (some-out ps)
     where
       go : (slotsFit room p ≡ false) ⊎ (allFit room ps ≡ false) → (allFit room ps ≡ false → Some (SlotsOut room) ps) → SlotsOut room p ⊎ Some (SlotsOut room) ps
       go (inl f) ih = inl (slots-out p f)
@@ -64,7 +61,7 @@ module _ (room : ℕ) where
   module _ (s : Tables) (cols : ℕ) where
     tile-out : (n t : ℕ) → fillsFit s cols room (from t n) ≡ false → (u : ℕ) × (t ≤ u) × (u < t + n) × Some (SlotsOut room) (tilePairs s cols u)
     tile-out zero t e = let z : _≡_ {A = ℕ} 0 1 = cc in absurd (omega arith)
-    tile-out (suc n) t e = go (and-false (allFit room (tilePairs s cols t)) (fillsFit s cols room (from (suc t) n)) e) (tile-out n (suc t))
+    tile-out (suc n) t e = go (one-false (allFit room (tilePairs s cols t)) (fillsFit s cols room (from (suc t) n)) e) (tile-out n (suc t))
       where
         go : (allFit room (tilePairs s cols t) ≡ false) ⊎ (fillsFit s cols room (from (suc t) n) ≡ false)
             → (fillsFit s cols room (from (suc t) n) ≡ false → (u : ℕ) × (suc t ≤ u) × (u < suc t + n) × Some (SlotsOut room) (tilePairs s cols u))

@@ -7,7 +7,7 @@ use native.Mathlib.Omega.{arith}
 use lib.ListN.{length, getD}
 use lib.IntN.{ℤ}
 use lib.Ieee.{Float}
-use Rattle.lists.specs.Run.{All}
+use Rattle.lists.specs.Run.{All, all-append}
 use Rattle.lists.specs.Sums.{from, first-within}
 use Rattle.panel.specs.Refusals.{crooked}
 use Rattle.panel.specs.Widths.{refWords}
@@ -33,7 +33,6 @@ use Rattle.theorems.specs.Drawn.{actsBy, walkOf, drawnAt}
 use Rattle.theorems.specs.Events.{Event, EventOwn, eventsIn, eventsOf, tilesEv, sliceOf}
 use Rattle.theorems.specs.Refs.{AllCounted}
 use Rattle.theorems.specs.Refusing.{StopsAt, ActWhy, LineWhy, five, six, seven, eight, nine, stops, RangeWhy, LookWhy, sevenLine, sixLine, sevenPath, sevenSkipped, ten, nineSlot, twelve}
-use Rattle.theorems.proofs.Own.{all-append}
 use Rattle.theorems.proofs.Slots.{slice-below}
 use Rattle.theorems.proofs.SumLaws.{noEvent, eventAt, all-at, in-list, events, whole, Whole, tiles-below, owned, ref-line, ref-step, ref-slice, event-tile, sums}
 use Rattle.theorems.proofs.Counting.{length-tiles}

@@ -35,7 +35,8 @@ use Rattle.path_tiling.specs.Look.{lookOf}
 use Rattle.fine.specs.Screen.{endsAt}
 use Rattle.fine.specs.Fine.{tilesOf}
 use Rattle.path_tiling.specs.Look.{Lent, packedAt, stepNo, sliceNo}
-use Rattle.acts.specs.Acts.{St, Act, mark, visit, stop, inI32, runActs, deltaOf}
+use Rattle.panel.specs.Signed.{inI32}
+use Rattle.acts.specs.Acts.{St, Act, mark, visit, stop, runActs, deltaOf}
 use Rattle.acts.specs.Line.{planActs, Refusal}
 use Rattle.path_count.specs.Count.{planOf, lineStep, batch}
 
