@@ -18,7 +18,9 @@ use Rattle.panel.specs.Refusals.{countOver, outside, sumOver}
 use Rattle.panel.specs.Widths.{refWords}
 use Rattle.panel.specs.declared.kinds.Verdict.{Verdict}
 use Rattle.panel.specs.declared.kinds.Verdict.the-variants.{Fine, Against}
-use Rattle.acts.specs.Acts.{St, stOf, Act, mark, visit, stop, Hit, on, off, rowActs, crossActs, stepActs, stepsActs, inI32, marked, packed, visited, takeIf, act, runActs, orElse, fineIf, actNo, checkNo, isDone, verdictOf}
+use Rattle.panel.specs.Signed.{inI32}
+use Rattle.panel.proofs.BoolLaws.{both}
+use Rattle.acts.specs.Acts.{St, stOf, Act, mark, visit, stop, Hit, on, off, rowActs, crossActs, stepActs, stepsActs, marked, packed, visited, takeIf, act, runActs, orElse, fineIf, actNo, checkNo, isDone, verdictOf}
 use Rattle.acts.specs.Rows.{RowsIn}
 use Rattle.acts.specs.declared.rows.Rows.{Rows}
 
@@ -205,14 +207,10 @@ either-way : (x c : Bool) → (x && c) ≡ false → (x ≡ false) ⊎ ((x ≡ t
 either-way false c e = inl refl
 either-way true c e = inr (refl, e)
 
-both-ways : (x c : Bool) → (x && c) ≡ true → (x ≡ true) × (c ≡ true)
-both-ways true c e = (refl, e)
-both-ways false c e = absurd (false-true e)
-
 module _ (δ : ℤ) (s : Hit) (i : ℕ) (bs : List ℤ) (cs : List ℕ) (t : ℕ) (x : Bool) (e : s ≡ on t x) (c : Bool) (h : getD cs t 0 < mostCount)
     (p : c ≡ not (inI32 (getD bs (cond x (t + 1) t) (pos 0) +ℤ δ))) where
   pub check-marked : (x && c) ≡ true → Against sumOver ≡ checkNo δ (stepActs s i) bs cs
-  check-marked q = let b = both-ways x c q in check-leaves δ s i bs cs t x e c h (b .0) (rw (b .0) at p) (b .1)
+  check-marked q = let b = both x c q in check-leaves δ s i bs cs t x e c h (b .0) (rw (b .0) at p) (b .1)
 
   pub check-passes : (x && c) ≡ false → Fine ≡ checkNo δ (stepActs s i) bs cs
   check-passes q =

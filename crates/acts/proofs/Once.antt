@@ -15,7 +15,8 @@ use Rattle.panel.specs.Limits.{mostCount}
 use Rattle.panel.specs.Refusals.{countOver, sumOver}
 use Rattle.panel.specs.declared.kinds.Verdict.{Verdict}
 use Rattle.panel.specs.declared.kinds.Verdict.the-variants.{Fine, Against}
-use Rattle.acts.specs.Acts.{St, Act, mark, visit, stop, inI32, marked, visited, takeIf, runActs, orElse, fineIf, checkNo, isDone, verdictOf}
+use Rattle.panel.specs.Signed.{inI32}
+use Rattle.acts.specs.Acts.{St, Act, mark, visit, stop, marked, visited, takeIf, runActs, orElse, fineIf, checkNo, isDone, verdictOf}
 
 abbrev pub marksOf : List Act → List ℕ
 marksOf [] = []

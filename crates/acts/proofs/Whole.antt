@@ -17,17 +17,18 @@ use Rattle.lists.specs.Tally.{tally, slices}
 use Rattle.panel.specs.Limits.{mostCount, mostSlots}
 use Rattle.panel.specs.Refusals.{countOver, noRoom, sumOver}
 use Rattle.panel.specs.Widths.{refWords}
-use Rattle.acts.specs.Acts.{St, Act, mark, visit, stop, Hit, on, off, rowActs, crossActs, stepActs, stepsActs, inI32, marked, packed, visited, takeIf, runActs, deltaOf}
+use Rattle.panel.specs.Signed.{inI32}
+use Rattle.acts.specs.Acts.{St, Act, mark, visit, stop, Hit, on, off, rowActs, crossActs, stepActs, stepsActs, marked, packed, visited, takeIf, runActs, deltaOf}
 use Rattle.acts.specs.Rows.{rowsActs}
 use Rattle.acts.specs.Line.{Plan, planActs, Ref, refsOf, planRefs, haltIf, tooFar, planStep}
 use Rattle.acts.proofs.Once.{visitsOf}
 
 -- an act that is taken, and what is run after it
-on-taken : (b : Bool) (s t : St) (n : ℕ) (k : St → Ran St ℕ) (u : St) → onStep (takeIf b t n) s k ≡ done u → k t ≡ done u
+pub on-taken : (b : Bool) (s t : St) (n : ℕ) (k : St → Ran St ℕ) (u : St) → onStep (takeIf b t n) s k ≡ done u → k t ≡ done u
 on-taken true s t n k u e = e
 on-taken false s t n k u e = let z : _≡_ {A = ℕ} 0 1 = cc in absurd (omega arith)
 
-no-stop : (s u : St) (n : ℕ) → refused s n ≡ done u → ⊥
+pub no-stop : (s u : St) (n : ℕ) → refused s n ≡ done u → ⊥
 no-stop s u n e = let z : _≡_ {A = ℕ} 0 1 = cc in omega arith
 
 -- the words of references, slice by slice

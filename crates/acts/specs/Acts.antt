@@ -2,15 +2,15 @@
 -- line's walk alone, apart from memory; running it is where counts and backdrops come in. Definitions only.
 use mathlib.Core.Bool.{Bool, true, false}
 use mathlib.Core.List.{List, [], _∷_, _++_}
-use Prim.Native.Nat.{ℕ, zero, suc, _+_, _-_, _*_, _^_}
+use Prim.Native.Nat.{ℕ, zero, suc, _+_, _-_, _*_}
 use lib.Dec.{ltb}
 use lib.ListN.{getD, set}
 use lib.IntN.{ℤ, pos, negsuc, _+ℤ_}
-use lib.Signed.{mag}
 use Rattle.lists.specs.Run.{Step, taken, halted, Ran, done, refused, run}
 use Rattle.panel.specs.Limits.{mostSteps, mostCount}
 use Rattle.panel.specs.Refusals.{countOver, outside, sumOver}
 use Rattle.panel.specs.Widths.{refWords}
+use Rattle.panel.specs.Signed.{inI32}
 use Rattle.panel.specs.declared.kinds.Verdict.{Verdict}
 use Rattle.panel.specs.declared.kinds.Verdict.the-variants.{Fine, Against}
 
@@ -57,10 +57,6 @@ stepsActs f zero i = []
 stepsActs f (suc k) i = stepActs (f i) i ++ stepsActs f k (suc i)
 
 -- ---- what an act does
-
--- whether a sum stays within i32
-abbrev pub inI32 : ℤ → Bool
-inI32 z = ltb (mag z) (2 ^ 31)
 
 -- what a mark adds: an upward line +1, a downward one -1
 abbrev pub deltaOf : Bool → ℤ

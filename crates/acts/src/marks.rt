@@ -4,7 +4,8 @@ ghost use mathlib.Core.Bool.{true, not, cond};
 ghost use Prim.Native.Nat.{_+_, _<_, _^_};
 ghost use lib.ListN.{length, getD, set};
 ghost use lib.IntN.{pos, _+ℤ_};
-ghost use Rattle.acts.specs.Acts.{deltaOf, inI32};
+ghost use Rattle.panel.specs.Signed.{inI32};
+ghost use Rattle.acts.specs.Acts.{deltaOf};
 
 // Whether a mark would take backdrop b out of i32.
 pub fn leaves(b: i32, up: bool) -> bool

@@ -9,25 +9,19 @@ use native.Mathlib.Omega.{arith}
 use lib.Dec.{leb}
 use lib.IntN.{ℤ, pos, negsuc, _+ℤ_}
 use lib.Signed.{mag}
-use borrow.Author.Tests.{leb-true, le-leb}
+use borrow.Author.Tests.{leb-true}
 use Rattle.panel.specs.Limits.{edgeMost}
 use Rattle.panel.specs.Paths.{widthOf, heightOf}
 use Rattle.panel.specs.declared.kinds.Path.{Path}
 use Rattle.panel.proofs.LimitLaws.{small}
-use Rattle.panel.proofs.PathLaws.{and-true}
-use Rattle.backdrop.specs.Backdrop.{inI32, backdropAt, rowFits, rowsFit, pathFits}
+use Rattle.panel.proofs.BoolLaws.{both}
+use Rattle.panel.proofs.SignLaws.{mag-in}
+use Rattle.panel.specs.Signed.{inI32}
+use Rattle.backdrop.specs.Backdrop.{backdropAt, rowFits, rowsFit, pathFits}
 use Rattle.backdrop.specs.Calm.{calmOne, calmFrom}
 use Rattle.backdrop.proofs.RowLaws.{sum-mag}
 
 -- a turn of the loop
-pub and-shift : (a b c : Bool) → a && b && c ≡ (a && (b && c))
-and-shift true b c = refl
-and-shift false b c = refl
-
-pub and-all : (a : Bool) → a && true ≡ a
-and-all true = refl
-and-all false = refl
-
 pub calm-turn : (bs : List ℤ) (end i : ℕ) → i < end → calmFrom (end - i) i bs ≡ (calmOne (backdropAt bs i) && calmFrom (end - (i + 1)) (i + 1) bs)
 unfolding calmFrom
 calm-turn bs end i h =
@@ -43,24 +37,20 @@ calm-split : (n m at : ℕ) (bs : List ℤ) → calmFrom (n + m) at bs ≡ true 
 unfolding calmFrom
 calm-split zero m at bs e = (refl, rw (add-zero at) (rw (zero-add m) at e))
 calm-split (suc n) m at bs e =
-    let f = and-true (calmOne (backdropAt bs at)) (calmFrom (n + m) (suc at) bs) (rw (suc-add n m) at e) in
+    let f = both (calmOne (backdropAt bs at)) (calmFrom (n + m) (suc at) bs) (rw (suc-add n m) at e) in
     let r = calm-split n m (suc at) bs (f .1) in
     let past : at + suc n ≡ suc at + n = omega arith in
     (rw (f .0, r .0), rw past (r .1))
 
 one-mag : (b : ℤ) → calmOne b ≡ true → mag b ≤ 2 ^ 18
-one-mag (pos n) e = omega (arith, leb-true n 262144 (and-true true (leb n 262144) e .1))
-one-mag (negsuc n) e = omega (arith, leb-true n 262143 (and-true (leb n 262143) true e .0))
-
-mag-in : (z : ℤ) → mag z < 2 ^ 31 → inI32 z ≡ true
-mag-in (pos n) h = rw (le-leb n 2147483647 (omega arith))
-mag-in (negsuc n) h = rw (le-leb n 2147483647 (omega arith))
+one-mag (pos n) e = omega (arith, leb-true n 262144 (both true (leb n 262144) e .1))
+one-mag (negsuc n) e = omega (arith, leb-true n 262143 (both (leb n 262143) true e .0))
 
 calm-row : (n at : ℕ) (sum : ℤ) (bs : List ℤ) → mag sum + n * (2 ^ 18 + 1) < 2 ^ 31 → calmFrom n at bs ≡ true → rowFits n at sum bs ≡ true
 unfolding calmFrom rowFits
 calm-row zero at sum bs h e = refl
 calm-row (suc n) at sum bs h e =
-    let f = and-true (calmOne (backdropAt bs at)) (calmFrom n (suc at) bs) e in
+    let f = both (calmOne (backdropAt bs at)) (calmFrom n (suc at) bs) e in
     let b = one-mag (backdropAt bs at) (f .0) in
     let s = sum-mag sum (backdropAt bs at) in
     rw (mag-in (sum +ℤ backdropAt bs at) (omega (arith, b, s)), calm-row n (suc at) (sum +ℤ backdropAt bs at) bs (omega (arith, b, s)) (f .1))

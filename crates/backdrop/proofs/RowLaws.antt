@@ -6,7 +6,7 @@ use Prim.Native.Nat.{ℕ, zero, suc, _+_, _-_, _*_, _≤_, _<_}
 use native.Mathlib.Nat.{add-mul}
 use native.Mathlib.Numerals.{add-one}
 use native.Mathlib.Omega.{arith}
-use lib.Dec.{leb, ltb}
+use lib.Dec.{ltb}
 use lib.IntN.{ℤ, pos, negsuc, _+ℤ_, subℕ}
 use lib.Signed.{mag}
 use lib.ListN.{length, set, length-set}
@@ -14,15 +14,12 @@ use lib.Seq.{getD-set-other}
 use mir.Syntax.{w32, w64}
 use mir.Val.{SFits, toZ, ofZ}
 use mir.Facts.{toZ-ofZ, sfits-widen}
-use borrow.Author.Tests.{leb-true, ltb-true, ltb-false}
-use Rattle.panel.proofs.PathLaws.{and-true}
-use Rattle.backdrop.specs.Backdrop.{inI32, backdropAt, rowSums, rowFits, rowsSums, rowsFit}
+use borrow.Author.Tests.{ltb-true, ltb-false}
+use Rattle.panel.proofs.SignLaws.{in-fits}
+use Rattle.panel.specs.Signed.{inI32}
+use Rattle.backdrop.specs.Backdrop.{backdropAt, rowSums, rowFits, rowsSums, rowsFit}
 
 -- ---- i32
-
-pub in-fits : (z : ℤ) → inI32 z ≡ true → SFits w32 z
-in-fits (pos n) e = let h = and-true true (leb n 2147483647) e in record { sfits = omega (arith, leb-true n 2147483647 (h .1)) }
-in-fits (negsuc n) e = let h = and-true (leb n 2147483647) true e in record { sfits = omega (arith, leb-true n 2147483647 (h .0)) }
 
 sub-mag : (a b m : ℕ) → a ≤ m → b ≤ m → mag (subℕ a b) ≤ m
 sub-mag a b m p q = go (ltb a b) refl

@@ -3,8 +3,7 @@
 use mathlib.Core.Bool.{Bool, true, cond, _&&_}
 use mathlib.Core.List.{List}
 use Prim.Native.Nat.{ℕ, zero, suc, _+_}
-use lib.IntN.{ℤ, pos, negsuc, _+ℤ_}
-use lib.Signed.{leZ}
+use lib.IntN.{ℤ, pos, _+ℤ_}
 use lib.ListN.{length, getD, set}
 use Rattle.panel.specs.Refusals.{sumOver}
 use Rattle.panel.specs.Kinds.{paperOf}
@@ -12,10 +11,7 @@ use Rattle.panel.specs.Paths.{pathAt, pathCount, widthOf, heightOf, pathsAnswer
 use Rattle.panel.specs.declared.kinds.Path.{Path}
 use Rattle.panel.specs.declared.kinds.Answer.{Answer}
 use Rattle.panel.specs.declared.kinds.Answer.the-variants.{Done, Refused}
-
--- from -2,147,483,648 to 2,147,483,647
-abbrev pub inI32 : ℤ → Bool
-inI32 z = leZ (negsuc 2147483647) z && leZ z (pos 2147483647)
+use Rattle.panel.specs.Signed.{inI32}
 
 -- what stands at tile t
 abbrev pub backdropAt : List ℤ → ℕ → ℤ

@@ -7,7 +7,8 @@ ghost use lib.IntN.{pos};
 ghost use Rattle.panel.specs.Limits.{edgeMost};
 ghost use Rattle.panel.specs.Paths.{endOf};
 ghost use Rattle.backdrop.specs.Calm.{calmFrom};
-ghost use Rattle.backdrop.specs.Backdrop.{inI32, rowFits, rowSums, rowsFit, pathFits, pathSums};
+ghost use Rattle.panel.specs.Signed.{inI32};
+ghost use Rattle.backdrop.specs.Backdrop.{rowFits, rowSums, rowsFit, pathFits, pathSums};
 use panel::kinds::Path;
 
 // The ends of i32, in 64 bits.

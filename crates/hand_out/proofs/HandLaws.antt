@@ -9,11 +9,11 @@ use native.Mathlib.Numerals.{add-one}
 use native.Mathlib.Omega.{arith}
 use lib.ListN.{length, getD, set, take, drop, drop-of-length-le}
 use lib.Seq.{take-suc, drop-cons, set-at, getD-at, append-snoc, length-take-le, take-all}
-use borrow.Author.Tests.{lt-leb, leb-true, eqb-true}
+use borrow.Author.Tests.{le-ltb, leb-true, eqb-true}
 use Rattle.lists.specs.Sums.{sum, first, first-suc, first-within, first-apart, placed, placed-once}
 use Rattle.panel.specs.Limits.{mostSlots}
 use Rattle.panel.proofs.LimitLaws.{small}
-use Rattle.panel.specs.Slots.{not32, skips}
+use Rattle.panel.specs.Slots.{not32, handedFrom, skips}
 use Rattle.panel.specs.Checks.{firstNo}
 use Rattle.panel.specs.declared.kinds.Verdict.the-variants.{Fine, Against}
 use Rattle.panel.specs.declared.kinds.Answer.{Answer}
@@ -96,7 +96,7 @@ stored-first (suc n) f h k = omega arith
 
 pub stored-taken : (n f : ℕ) → 0 < n → f < 2 ^ 31 → skips (stored n f) ≡ false
 stored-taken zero f h k = absurd (not-suc-le-zero h)
-stored-taken (suc n) f h k = lt-leb (2 ^ 31) (not32 (not32 f)) (omega arith)
+stored-taken (suc n) f h k = le-ltb (not32 f) handedFrom (omega arith)
 
 pub stored-empty : (f : ℕ) → skips (stored 0 f) ≡ true
 stored-empty f = refl

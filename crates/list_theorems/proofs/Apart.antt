@@ -8,7 +8,7 @@ use native.Mathlib.Omega.{arith}
 use native.Mathlib.Decide.{decLt, ℕ-discrete}
 use lib.ListN.{length}
 use borrow.Author.Tests.{leb-true}
-use Rattle.lists.specs.Run.{All}
+use Rattle.lists.specs.Run.{All, all-append}
 use Rattle.lists.specs.Sums.{from}
 use Rattle.commands.specs.Numbers.{jumpNo, jumpWords, tileWords, startOf}
 use Rattle.write_lists.specs.Pairs.{Tables, tilePairs}
@@ -19,10 +19,6 @@ use Rattle.write_lists.specs.declared.pairs.Pair.the-variants.{Fill, Solid}
 use Rattle.list_theorems.proofs.Regions.{Apart, AllApart, Off}
 
 -- ---- lists of chunks
-
-pub all-append : {A : Type 0} (P : A → Type 0) (xs ys : List A) → All P xs → All P ys → All P (xs ++ ys)
-all-append P [] ys p q = q
-all-append P (x ∷ xs) ys p q = (p .0, all-append P xs ys (p .1) q)
 
 pub all-first : {A : Type 0} (P : A → Type 0) (xs ys : List A) → All P (xs ++ ys) → All P xs
 all-first P [] ys p = tt

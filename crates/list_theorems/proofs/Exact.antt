@@ -16,19 +16,16 @@ use Rattle.panel.specs.Checks.{check, firstNo, unless}
 use Rattle.panel.specs.declared.kinds.Answer.{Answer}
 use Rattle.panel.specs.declared.kinds.Answer.the-variants.{Done, Refused}
 use Rattle.commands.specs.Numbers.{tileWords}
+use Rattle.panel.proofs.BoolLaws.{one-false}
 use Rattle.write_lists.specs.Pairs.{Tables, tilePairs}
 use Rattle.write_lists.specs.Layout.{commandsOf, written}
-use Rattle.write_lists.specs.Lists.{callAnswer, longFrom, slotsFit, allFit, fillsFit, wordsNamed, regionsOf, thenCheck, answerOf, listsOf, onDone, writeListsOf}
+use Rattle.write_lists.specs.Lists.{callAnswer, longFrom, slotsFit, allFit, fillsFit, regionsOf, thenCheck, answerOf, listsOf, onDone, writeListsOf}
 use Rattle.write_lists.specs.declared.pairs.Pair.{Pair}
 use Rattle.write_lists.specs.declared.pairs.Pair.the-variants.{Fill, Solid}
 use Rattle.list_theorems.specs.Refusing.{Some, FirstLong, AllShort, SlotsOut, NoRoom, ListsExact}
 use Rattle.list_theorems.proofs.Passed.{not-done, few-commands}
 
 -- ---- two tests
-
-and-false : (a b : Bool) → (a && b) ≡ false → (a ≡ false) ⊎ (b ≡ false)
-and-false true b e = inr e
-and-false false b e = inl refl
 
 false-and : (a b : Bool) → (a ≡ false) ⊎ (b ≡ false) → (a && b) ≡ false
 false-and true b (inl e) = let z : _≡_ {A = ℕ} 0 1 = cc in absurd (omega arith)
@@ -40,7 +37,7 @@ false-and false b e = refl
 module _ (room : ℕ) where
   slots-out : (p : Pair) → slotsFit room p ≡ false → SlotsOut room p
   slots-out (Fill count rule first backdrop colour) e =
-      ⊎-elim (λ f. inl (leb-false (first + count) room f)) (λ f. inr (leb-false (first + count) mostSlots f)) (and-false (leb (first + count) room) (leb (first + count) mostSlots) e)
+      ⊎-elim (λ f. inl (leb-false (first + count) room f)) (λ f. inr (leb-false (first + count) mostSlots f)) (one-false (leb (first + count) room) (leb (first + count) mostSlots) e)
   slots-out (Solid colour) e = let z : _≡_ {A = ℕ} 0 1 = cc in absurd (omega arith)
 
   out-slots : (p : Pair) → SlotsOut room p → slotsFit room p ≡ false
@@ -50,7 +47,7 @@ module _ (room : ℕ) where
 
   some-out : (ps : List Pair) → allFit room ps ≡ false → Some (SlotsOut room) ps
   some-out [] e = let z : _≡_ {A = ℕ} 0 1 = cc in absurd (omega arith)
-  some-out (p ∷ ps) e = go (and-false (slotsFit room p) (allFit room ps) e) (some-out ps)
+  some-out (p ∷ ps) e = go (one-false (slotsFit room p) (allFit room ps) e) (some-out ps)
     where
       go : (slotsFit room p ≡ false) ⊎ (allFit room ps ≡ false) → (allFit room ps ≡ false → Some (SlotsOut room) ps) → SlotsOut room p ⊎ Some (SlotsOut room) ps
       go (inl f) ih = inl (slots-out p f)
@@ -64,7 +61,7 @@ module _ (room : ℕ) where
   module _ (s : Tables) (cols : ℕ) where
     tile-out : (n t : ℕ) → fillsFit s cols room (from t n) ≡ false → (u : ℕ) × (t ≤ u) × (u < t + n) × Some (SlotsOut room) (tilePairs s cols u)
     tile-out zero t e = let z : _≡_ {A = ℕ} 0 1 = cc in absurd (omega arith)
-    tile-out (suc n) t e = go (and-false (allFit room (tilePairs s cols t)) (fillsFit s cols room (from (suc t) n)) e) (tile-out n (suc t))
+    tile-out (suc n) t e = go (one-false (allFit room (tilePairs s cols t)) (fillsFit s cols room (from (suc t) n)) e) (tile-out n (suc t))
       where
         go : (allFit room (tilePairs s cols t) ≡ false) ⊎ (fillsFit s cols room (from (suc t) n) ≡ false)
             → (fillsFit s cols room (from (suc t) n) ≡ false → (u : ℕ) × (suc t ≤ u) × (u < suc t + n) × Some (SlotsOut room) (tilePairs s cols u))
@@ -122,11 +119,10 @@ module _ (s : Tables) (cols : ℕ) where
 
 -- ---- the call
 
-room-is : (a b c : Bool) → unless (firstNo (check a noRoom ∷ check b noRoom ∷ check c noRoom ∷ [])) 0 Done ≡ cond (a && b && c) Done (Refused noRoom 0)
-room-is true true true = refl
-room-is true true false = refl
-room-is true false c = refl
-room-is false b c = refl
+room-is : (a b : Bool) → unless (firstNo (check a noRoom ∷ check b noRoom ∷ [])) 0 Done ≡ cond (a && b) Done (Refused noRoom 0)
+room-is true true = refl
+room-is true false = refl
+room-is false b = refl
 
 clash : {P : Type 0} {n m k : ℕ} → n ∷ m ∷ [] ≡ k ∷ [] → P
 clash e = let z : _≡_ {A = ℕ} 0 1 = cc in absurd (omega arith)
@@ -137,14 +133,13 @@ module _ (s : Tables) (cols rows room : ℕ) (ws : List ℕ) (ok : callAnswer s 
     isOut : AllShort s cols rows → NoRoom s cols rows room (length ws) → answerOf s cols rows room (length ws) ≡ Refused noRoom 0 → Case
     isDone : AllShort s cols rows → (NoRoom s cols rows room (length ws) → ⊥) → answerOf s cols rows room (length ws) ≡ Done → Case
 
-  answer-is : (a : Answer) → longFrom s cols (from 0 (cols * rows)) ≡ a → (b c d : Bool) → leb (tileWords * regionsOf s cols rows) (length ws) ≡ b
-      → leb (tileWords * regionsOf s cols rows) wordsNamed ≡ c → fillsFit s cols room (from 0 (cols * rows)) ≡ d
-      → answerOf s cols rows room (length ws) ≡ thenCheck a (cond (b && c && d) Done (Refused noRoom 0))
+  answer-is : (a : Answer) → longFrom s cols (from 0 (cols * rows)) ≡ a → (b d : Bool) → leb (tileWords * regionsOf s cols rows) (length ws) ≡ b
+      → fillsFit s cols room (from 0 (cols * rows)) ≡ d → answerOf s cols rows room (length ws) ≡ thenCheck a (cond (b && d) Done (Refused noRoom 0))
   unfolding answerOf
-  answer-is a e b c d f g h = rw (ok, e, f, g, h) (ap (thenCheck a) (room-is b c d))
+  answer-is a e b d f h = rw (ok, e, f, h) (ap (thenCheck a) (room-is b d))
 
   which : Case
-  which = go (longFrom s cols (from 0 (cols * rows))) refl (leb (tileWords * regionsOf s cols rows) (length ws)) refl (leb (tileWords * regionsOf s cols rows) wordsNamed) refl (fillsFit s cols room (from 0 (cols * rows))) refl
+  which = go (longFrom s cols (from 0 (cols * rows))) refl (leb (tileWords * regionsOf s cols rows) (length ws)) refl (fillsFit s cols room (from 0 (cols * rows))) refl
     where
       n : ℕ
       n = tileWords * regionsOf s cols rows
@@ -152,26 +147,24 @@ module _ (s : Tables) (cols rows room : ℕ) (ws : List ℕ) (ok : callAnswer s 
       short : longFrom s cols (from 0 (cols * rows)) ≡ Done → AllShort s cols rows
       short e t h = few-commands s cols (cols * rows) 0 t (omega arith) (omega arith) e
 
-      fits : leb n (length ws) ≡ true → leb n wordsNamed ≡ true → fillsFit s cols room (from 0 (cols * rows)) ≡ true → NoRoom s cols rows room (length ws) → ⊥
-      fits f g h (inl w) = let k = leb-true n (length ws) f in omega arith
-      fits f g h (inr (inl w)) = let k = leb-true n wordsNamed g in omega arith
-      fits f g h (inr (inr w)) =
+      fits : leb n (length ws) ≡ true → fillsFit s cols room (from 0 (cols * rows)) ≡ true → NoRoom s cols rows room (length ws) → ⊥
+      fits f h (inl w) = let k = leb-true n (length ws) f in omega arith
+      fits f h (inr w) =
           let k = out-tile room s cols (cols * rows) 0 (w .0) (omega arith) (omega arith) (w .2) in
           let z : _≡_ {A = ℕ} 0 1 = cc in
           omega arith
 
-      go : (a : Answer) → longFrom s cols (from 0 (cols * rows)) ≡ a → (b : Bool) → leb n (length ws) ≡ b → (c : Bool) → leb n wordsNamed ≡ c → (d : Bool)
+      go : (a : Answer) → longFrom s cols (from 0 (cols * rows)) ≡ a → (b : Bool) → leb n (length ws) ≡ b → (d : Bool)
           → fillsFit s cols room (from 0 (cols * rows)) ≡ d → Case
-      go (Refused k t) e b f c g d h =
+      go (Refused k t) e b f d h =
           let w = long-first s cols (cols * rows) 0 k t e in
           isLong t (record { on-screen = omega arith; long = w .2; earlier = λ u r. w .3 u (omega arith) r })
-          (answer-is (Refused tooLong t) (first-long s cols (cols * rows) 0 t (w .0) (w .1) (w .2) (w .3)) b c d f g h)
-      go Done e true f true g true h = isDone (short e) (fits f g h) (answer-is Done e true true true f g h)
-      go Done e true f true g false h =
+          (answer-is (Refused tooLong t) (first-long s cols (cols * rows) 0 t (w .0) (w .1) (w .2) (w .3)) b d f h)
+      go Done e true f true h = isDone (short e) (fits f h) (answer-is Done e true true f h)
+      go Done e true f false h =
           let w = tile-out room s cols (cols * rows) 0 h in
-          isOut (short e) (inr (inr (w .0, omega arith, w .3))) (answer-is Done e true true false f g h)
-      go Done e true f false g d h = isOut (short e) (inr (inl (leb-false n wordsNamed g))) (answer-is Done e true false d f g h)
-      go Done e false f c g d h = isOut (short e) (inl (leb-false n (length ws) f)) (answer-is Done e false c d f g h)
+          isOut (short e) (inr (w .0, omega arith, w .3)) (answer-is Done e true false f h)
+      go Done e false f d h = isOut (short e) (inl (leb-false n (length ws) f)) (answer-is Done e false d f h)
 
   -- the first is one
   one-first : (t u : ℕ) → FirstLong s cols rows t → FirstLong s cols rows u → t ≡ u

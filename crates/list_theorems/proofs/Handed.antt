@@ -25,7 +25,7 @@ use Rattle.commands.specs.Numbers.{tileWords}
 use Rattle.commands.specs.Pixel.{evenOddOf}
 use Rattle.write_lists.specs.Pairs.{Tables, tables, colourAt, ruleAt, inBox, covers, bitsOf, onTile, byPath, onPath, pairsOf, tilePairs}
 use Rattle.write_lists.specs.Layout.{written}
-use Rattle.write_lists.specs.Lists.{callAnswer, longFrom, slotsFit, allFit, fillsFit, wordsNamed, roomChecks, screenTiles, regionsOf, thenCheck, answerOf, listsOf, onDone, writeListsOf}
+use Rattle.write_lists.specs.Lists.{callAnswer, longFrom, slotsFit, allFit, fillsFit, roomChecks, screenTiles, regionsOf, thenCheck, answerOf, listsOf, onDone, writeListsOf}
 use Rattle.write_lists.specs.declared.pairs.Pair.{Pair}
 use Rattle.write_lists.specs.declared.pairs.Pair.the-variants.{Fill, Solid}
 use Rattle.list_theorems.specs.Written.{Wrote}
@@ -119,11 +119,11 @@ module _ (paths paints : List ℕ) (backdrops : List ℤ) (stored tally : List �
 
   -- so a call that isn't refused for 1 to 4 or 15, with words for its regions, is done
   pub handed-done : (rows : ℕ) (ws : List ℕ) → callAnswer s cols rows ≡ Done → AllShort s cols rows → tileWords * regionsOf s cols rows ≤ length ws
-      → tileWords * regionsOf s cols rows ≤ wordsNamed → Wrote s cols rows room ws (written (listsOf s cols rows) ws)
+      → Wrote s cols rows room ws (written (listsOf s cols rows) ws)
   unfolding writeListsOf answerOf
-  handed-done rows ws a b c d =
+  handed-done rows ws a b c =
       let n = tileWords * regionsOf s cols rows in
-      let f = none-fails (roomChecks (regionsOf s cols rows) (length ws) (fillsFit s cols room (screenTiles cols rows))) (le-leb n (length ws) c, (le-leb n wordsNamed d, (handed-fits (screenTiles cols rows), tt))) in
+      let f = none-fails (roomChecks (regionsOf s cols rows) (length ws) (fillsFit s cols room (screenTiles cols rows))) (le-leb n (length ws) c, (handed-fits (screenTiles cols rows), tt)) in
       ap (λ (x : Answer). onDone x ws (written (listsOf s cols rows) ws))
       (ap (λ (x : Answer). thenCheck x (thenCheck (longFrom s cols (screenTiles cols rows)) (unless (firstNo (roomChecks (regionsOf s cols rows) (length ws) (fillsFit s cols room (screenTiles cols rows)))) 0 Done))) a
       ∙ ap (λ (x : Answer). thenCheck x (unless (firstNo (roomChecks (regionsOf s cols rows) (length ws) (fillsFit s cols room (screenTiles cols rows)))) 0 Done)) (short-done s cols (cols * rows) 0 (λ v x y. b v (omega arith)))

@@ -17,23 +17,20 @@ use Rattle.panel.specs.declared.kinds.Answer.{Answer}
 use Rattle.panel.specs.declared.kinds.Answer.the-variants.{Done, Refused}
 use Rattle.panel.proofs.CheckLaws.{all-ok, unless-done}
 use Rattle.panel.proofs.KindLaws.{paper-once}
-use Rattle.panel.proofs.PathLaws.{and-true}
+use Rattle.panel.proofs.BoolLaws.{both}
 use Rattle.commands.specs.Numbers.{tileWords}
 use Rattle.write_lists.specs.Pairs.{Tables, tilePairs}
 use Rattle.write_lists.specs.Layout.{commandsOf, written}
 use Rattle.write_lists.specs.Lists.{lentChecks, callAnswer, longFrom, slotsFit, allFit, fillsFit, roomChecks, screenTiles, regionsOf, thenCheck, answerOf, listsOf, Left, left, onDone, writeListsOf}
 use Rattle.write_lists.specs.declared.pairs.Pair.{Pair}
 use Rattle.write_lists.specs.declared.pairs.Pair.the-variants.{Fill, Solid}
+use Rattle.write_lists.proofs.TileLaws.{then-done}
 use Rattle.list_theorems.proofs.Regions.{Filled}
 
 -- ---- one check after another
 
 pub not-done : {P : Type 0} (n i : ℕ) → Refused n i ≡ Done → P
 not-done n i e = let z : _≡_ {A = ℕ} 0 1 = cc in absurd (omega arith)
-
-then-done : (a b : Answer) → thenCheck a b ≡ Done → (a ≡ Done) × (b ≡ Done)
-then-done Done b e = (refl, e)
-then-done (Refused n i) b e = not-done n i e
 
 long-done : (b : Bool) (a : Answer) (t : ℕ) → cond b a (Refused tooLong t) ≡ Done → (b ≡ true) × (a ≡ Done)
 long-done true a t e = (refl, e)
@@ -42,12 +39,12 @@ long-done false a t e = not-done tooLong t e
 -- ---- every tile
 
 slots-filled : (room : ℕ) (p : Pair) → slotsFit room p ≡ true → Filled room p
-slots-filled room (Fill count rule first backdrop colour) e = leb-true (first + count) room (and-true (leb (first + count) room) (leb (first + count) mostSlots) e .0)
+slots-filled room (Fill count rule first backdrop colour) e = leb-true (first + count) room (both (leb (first + count) room) (leb (first + count) mostSlots) e .0)
 slots-filled room (Solid colour) e = tt
 
 all-filled : (room : ℕ) (ps : List Pair) → allFit room ps ≡ true → All (Filled room) ps
 all-filled room [] e = tt
-all-filled room (p ∷ ps) e = let f = and-true (slotsFit room p) (allFit room ps) e in (slots-filled room p (f .0), all-filled room ps (f .1))
+all-filled room (p ∷ ps) e = let f = both (slotsFit room p) (allFit room ps) e in (slots-filled room p (f .0), all-filled room ps (f .1))
 
 module _ (s : Tables) (cols : ℕ) where
   pub few-commands : (n t u : ℕ) → t ≤ u → u < t + n → longFrom s cols (from t n) ≡ Done → commandsOf (tilePairs s cols u) ≤ mostCommands
@@ -61,7 +58,7 @@ module _ (s : Tables) (cols : ℕ) where
 
   tile-filled : (room n t u : ℕ) → t ≤ u → u < t + n → fillsFit s cols room (from t n) ≡ true → All (Filled room) (tilePairs s cols u)
   tile-filled room zero t u h k e = absurd (omega arith)
-  tile-filled room (suc n) t u h k e = go (ℕ-discrete t u) (tile-filled room n (suc t) u) (and-true (allFit room (tilePairs s cols t)) (fillsFit s cols room (from (suc t) n)) e)
+  tile-filled room (suc n) t u h k e = go (ℕ-discrete t u) (tile-filled room n (suc t) u) (both (allFit room (tilePairs s cols t)) (fillsFit s cols room (from (suc t) n)) e)
     where
       go : Dec (t ≡ u) → (suc t ≤ u → u < suc t + n → fillsFit s cols room (from (suc t) n) ≡ true → All (Filled room) (tilePairs s cols u))
           → (allFit room (tilePairs s cols t) ≡ true) × (fillsFit s cols room (from (suc t) n) ≡ true) → All (Filled room) (tilePairs s cols u)
@@ -93,6 +90,6 @@ passed s cols rows room ws words e =
       few-tiles = leb-true (cols * rows) mostTiles (f .1 .1 .1 .1 .0);
       short = λ t h. few-commands s cols (cols * rows) 0 t (omega arith) (omega arith) (c .0);
       regions = leb-true (tileWords * regionsOf s cols rows) (length ws) (d .0);
-      filled = λ t h. tile-filled s cols room (cols * rows) 0 t (omega arith) (omega arith) (d .1 .1 .0);
+      filled = λ t h. tile-filled s cols room (cols * rows) 0 t (omega arith) (omega arith) (d .1 .0);
       are = a .1;
     }

@@ -15,8 +15,8 @@ use Rattle.lists.specs.Sums.{from}
 use Rattle.panel.specs.Paths.{pathAt, pathCount, tileOf}
 use Rattle.panel.specs.Slots.{not32}
 use Rattle.panel.specs.declared.kinds.Verdict.the-variants.{Fine}
-use Rattle.panel.proofs.PathLaws.{and-true}
-use Rattle.backdrop.specs.Backdrop.{inI32}
+use Rattle.panel.proofs.BoolLaws.{both}
+use Rattle.panel.specs.Signed.{inI32}
 use Rattle.coverage.specs.Coverage.{pixelOf}
 use Rattle.colours.specs.Colour as Colour
 use Rattle.commands.specs.Steps.{countOf, Trace, endOf}
@@ -67,10 +67,10 @@ module _ (segs : List Float) (k : ℕ) where
 pub bits-back : (b : ℤ) → inI32 b ≡ true → signedOf (bitsOf b) ≡ b
 unfolding signedOf
 bits-back (pos n) e =
-    let h : n ≤ 2147483647 = leb-true n 2147483647 (and-true true (leb n 2147483647) e .1) in
+    let h : n ≤ 2147483647 = leb-true n 2147483647 (both true (leb n 2147483647) e .1) in
     rw (lt-ltb n (2 ^ 31) (omega arith))
 bits-back (negsuc n) e =
-    let h : n ≤ 2147483647 = leb-true n 2147483647 (and-true (leb n 2147483647) true e .0) in
+    let h : n ≤ 2147483647 = leb-true n 2147483647 (both (leb n 2147483647) true e .0) in
     let m : 2 ^ 32 - 1 - (2 ^ 32 - 1 - n) ≡ n = omega arith in
     rw (le-ltb (2 ^ 32 - 1 - n) (2 ^ 31) (omega arith)) (ap negsuc m)
 

@@ -9,7 +9,7 @@ use Rattle.panel.specs.Refusals.{doneNo, noRoom, tooLong}
 use Rattle.commands.specs.Numbers.{tileWords}
 use Rattle.write_lists.specs.Pairs.{Tables, tilePairs}
 use Rattle.write_lists.specs.Layout.{commandsOf}
-use Rattle.write_lists.specs.Lists.{wordsNamed, regionsOf, Left}
+use Rattle.write_lists.specs.Lists.{regionsOf, Left}
 use Rattle.write_lists.specs.declared.pairs.Pair.{Pair}
 use Rattle.write_lists.specs.declared.pairs.Pair.the-variants.{Fill, Solid}
 
@@ -32,11 +32,10 @@ abbrev pub SlotsOut : ℕ → Pair → Type 0
 SlotsOut room (Fill count rule first backdrop colour) = (room < first + count) ⊎ (mostSlots < first + count)
 SlotsOut room (Solid colour) = ⊥
 
--- on some screen tile; or a region doesn't fit the words lent, or lies past the words that a JUMP can name
+-- on some screen tile; or a region doesn't fit the words lent
 abbrev pub NoRoom : Tables → (cols rows room lent : ℕ) → Type 0
 NoRoom s cols rows room lent =
     (lent < tileWords * regionsOf s cols rows)
-    ⊎ (wordsNamed < tileWords * regionsOf s cols rows)
     ⊎ ((t : ℕ) × (t < cols * rows) × Some (SlotsOut room) (tilePairs s cols t))
 
 -- after a call that isn't refused for 1 to 4

@@ -11,7 +11,7 @@ use Rattle.panel.specs.Widths.{segmentFloats}
 use Rattle.panel.specs.declared.kinds.Answer.{Answer}
 use Rattle.panel.specs.declared.kinds.Answer.the-variants.{Done}
 use Rattle.panel.specs.declared.kinds.Verdict.the-variants.{Fine}
-use Rattle.backdrop.specs.Backdrop.{inI32}
+use Rattle.panel.specs.Signed.{inI32}
 use Rattle.coverage.specs.Tile.{tileWidth, tileHeight}
 use Rattle.fine.specs.Screen.{tileTrace, endsAt}
 use Rattle.fine.specs.Fine.{shown, fineOf}

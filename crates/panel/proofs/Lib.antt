@@ -1,3 +1,5 @@
+pub mod BoolLaws
+pub mod SignLaws
 pub mod LimitLaws
 pub mod CheckLaws
 pub mod PathLaws

@@ -18,6 +18,7 @@ use Rattle.panel.specs.Paths.{pathAt, pathCount, widthOf, heightOf, endO
 use Rattle.panel.specs.declared.kinds.Path.{Path}
 use Rattle.panel.specs.declared.kinds.Verdict.the-variants.{Fine, Against}
 use Rattle.panel.specs.declared.kinds.Answer.the-variants.{Done, Refused}
+use Rattle.panel.proofs.BoolLaws.{both}
 use Rattle.panel.proofs.CheckLaws.{all-ok, unless-no, unless-fine, unless-done}
 
 -- ---- rows of a grid that is w wide
@@ -68,16 +69,12 @@ tile-once p x y u v b d e =
     let c = cell-once (widthOf p) (y - p .y0) (x - p .x0) (v - p .y0) (u - p .x0) (omega arith) (omega arith) (omega arith) in
     (omega (arith, c .1), omega (arith, c .0))
 
-pub and-true : (a b : Bool) → a && b ≡ true → (a ≡ true) × (b ≡ true)
-and-true true b e = (refl, e)
-and-true false b e = let z : _≡_ {A = ℕ} 0 1 = cc in absurd (omega arith)
-
 all-six : (a b c d e f : Bool) → a && b && c && d && e && f ≡ true → (c ≡ true) × (d ≡ true) × (e ≡ true) × (f ≡ true)
 all-six a b c d e f h =
-    let i = and-true (a && b && c && d && e) f h in
-    let j = and-true (a && b && c && d) e (i .0) in
-    let k = and-true (a && b && c) d (j .0) in
-    (and-true (a && b) c (k .0) .1, k .1, j .1, i .1)
+    let i = both (a && b && c && d && e) f h in
+    let j = both (a && b && c && d) e (i .0) in
+    let k = both (a && b && c) d (j .0) in
+    (both (a && b) c (k .0) .1, k .1, j .1, i .1)
 
 pub box-fits : (p : Path) → boxFits p ≡ true → (p .x0 ≤ p .x1) × (p .x1 ≤ edgeMost) × (p .y0 ≤ p .y1) × (p .y1 ≤ edgeMost)
 box-fits p e =

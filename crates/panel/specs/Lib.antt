@@ -6,3 +6,4 @@ pub mod Kinds
 pub mod Checks
 pub mod Paths
 pub mod Slots
+pub mod Signed

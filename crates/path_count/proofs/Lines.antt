@@ -10,6 +10,7 @@ use lib.ListN.{getD}
 use lib.Ieee.{Float}
 use borrow.Author.Tests.{ltb-true, ltb-false, le-leb, lt-leb}
 use Rattle.lists.specs.Run.{Step, taken, halted, Ran, done, refused, onStep}
+use Rattle.panel.proofs.BoolLaws.{both, second-false}
 use Rattle.panel.specs.Limits.{mostLines, mostSteps, mostSlots}
 use Rattle.panel.specs.Refusals.{countOver, noRoom, lineNumber}
 use Rattle.panel.specs.Paths.{widthOf}
@@ -82,10 +83,6 @@ rows-in b c backs counts o k =
 
 -- ---- the tests of a walk's step numbers and of the room
 
-both : (p q : Bool) → (p && q) ≡ true → (p ≡ true) × (q ≡ true)
-both true q e = (refl, e)
-both false q e = absurd (false≢true e)
-
 either : (m n : ℕ) (q : Bool) → (ltb m n || q) ≡ false → (n ≤ m) × (q ≡ false)
 either m n q e = go (ltb m n) refl e
   where
@@ -94,11 +91,7 @@ either m n q e = go (ltb m n) refl e
     go false f g = (ltb-false m n f, g)
 
 pub not-far : (imin imax : ℕ) → (ltb imin imax && ltb mostSteps imax) ≡ false → imin < imax → imax ≤ mostSteps
-not-far imin imax e h = ltb-false mostSteps imax (go (ltb imin imax) (borrow.Author.Tests.lt-ltb imin imax h) e)
-  where
-    go : (p : Bool) → p ≡ true → (p && ltb mostSteps imax) ≡ false → ltb mostSteps imax ≡ false
-    go true f g = g
-    go false f g = absurd (false≢true f)
+not-far imin imax e h = ltb-false mostSteps imax (second-false (ltb imin imax) (ltb mostSteps imax) (borrow.Author.Tests.lt-ltb imin imax h) e)
 
 pub is-far : (imin imax : ℕ) → (ltb imin imax && ltb mostSteps imax) ≡ true → (imin < imax) × (mostSteps < imax)
 is-far imin imax e = let t = both (ltb imin imax) (ltb mostSteps imax) e in (ltb-true imin imax (t .0), ltb-true mostSteps imax (t .1))

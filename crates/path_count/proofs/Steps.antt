@@ -1,7 +1,7 @@
 -- Where a step of a walk falls: what its tile tells.
 -- Assumes nothing.
 use mathlib.Core.Path.{_≡_, refl, sym, ap, _∙_, subst}
-use mathlib.Core.Bool.{Bool, true, false, cond, _&&_, false≢true}
+use mathlib.Core.Bool.{Bool, true, false, cond, _&&_}
 use mathlib.Core.Logic.{_⊎_, inl, inr}
 use mathlib.Core.List.{List}
 use Prim.Native.Nat.{ℕ, _+_, _-_, _*_, _/_, _%_, _≤_, _<_}
@@ -14,6 +14,7 @@ use lib.IntN.{ℤ}
 use lib.Ieee.{Float, eq}
 use Rattle.float32.proofs.Tests.{below-or-not}
 use borrow.Author.Tests.{ltb-true, eqb-true, leb-true, leb-false}
+use Rattle.panel.proofs.BoolLaws.{both}
 use Rattle.panel.specs.Limits.{mostSteps}
 use Rattle.panel.specs.Paths.{widthOf, endOf}
 use Rattle.panel.specs.declared.kinds.Path.{Path}
@@ -49,11 +50,7 @@ module _ (w : Pace) (b : Path) (i : ℕ) where
 
     -- one that marks has a tile right of it in its row
     pub cross-right : (last : Float) (c : Bool) → c ≡ crossOf (w .«on_top») (b .x1) i last x z → c ≡ true → x + 1 < b .x1
-    cross-right last c k h = ltb-true (x + 1) (b .x1) (second (cond (eqb i 0) (w .«on_top») (eq last z)) (ltb (x + 1) (b .x1)) (sym k ∙ h))
-      where
-        second : (p q : Bool) → (p && q) ≡ true → q ≡ true
-        second true q e = e
-        second false q e = absurd (false≢true e)
+    cross-right last c k h = ltb-true (x + 1) (b .x1) (both (cond (eqb i 0) (w .«on_top») (eq last z)) (ltb (x + 1) (b .x1)) (sym k ∙ h) .1)
 
     -- so the tile that it marks, or its own where it marks none, is in its path's range
     pub next-below : (last : Float) (c : Bool) → c ≡ crossOf (w .«on_top») (b .x1) i last x z → cond c (t .0 + 1) (t .0) < endOf b

@@ -15,7 +15,7 @@ use Rattle.panel.specs.Widths.{pathWords, lineFloats, refWords, segmentFloats}
 use Rattle.panel.specs.Paths.{pathsAnswer}
 use Rattle.panel.specs.declared.kinds.Answer.{Answer}
 use Rattle.panel.specs.declared.kinds.Answer.the-variants.{Done, Refused}
-use Rattle.walk.proofs.Counts.{both}
+use Rattle.panel.proofs.BoolLaws.{both}
 use Rattle.path_tiling.specs.Look.{Lent}
 use Rattle.path_tiling.specs.Tiling.{Tiled, tiled, rangeTiled, rangeOf, slotsOf, wholeOf, checksOf, checkedThen, callOf, tiledOf, Ready}
 

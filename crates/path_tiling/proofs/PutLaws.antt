@@ -9,6 +9,7 @@ use lib.ListN.{getD, set}
 use lib.Seq.{sets}
 use lib.Ieee.{Float}
 use borrow.Author.Tests.{ltb-false}
+use Rattle.panel.specs.Slots.{skips, slotOf}
 use Rattle.panel.specs.Kinds.{slotNoOf}
 use Rattle.panel.specs.Refusals.{noRoom}
 use Rattle.panel.specs.declared.kinds.SlotNo.{SlotNo}
@@ -23,7 +24,7 @@ use Rattle.segment.specs.declared.Segment.{Segment}
 use Rattle.segment.specs.declared.Piece.{Piece}
 use Rattle.segment.specs.declared.Piece.the-variants.{Kept, Crooked}
 use Rattle.segment.proofs.Within.{kept-in}
-use Rattle.path_tiling.specs.Look.{handedFrom, slotOf, stepNo, sliceNo, pieceTo, wordTo, stepTo, foundTo}
+use Rattle.path_tiling.specs.Look.{stepNo, sliceNo, pieceTo, wordTo, stepTo, foundTo}
 use Rattle.path_tiling.specs.declared.look.Look.{Look}
 use Rattle.path_tiling.specs.declared.look.Look.the-variants.{Put, Empty, Against}
 
@@ -41,7 +42,7 @@ module _ {slot : SlotNo} {s : Segment} where
 
   word-put : (slots word slice : ℕ) (p : Piece) → wordTo slots word slice p ≡ Put slot s → (slot .0 < slots) × (p ≡ Kept s)
   unfolding wordTo
-  word-put slots word slice p e = go (ltb word handedFrom) (ltb slots (slotOf word slice + 1)) refl e
+  word-put slots word slice p e = go (skips word) (ltb slots (slotOf word slice + 1)) refl e
     where
       go : (t u : Bool) → ltb slots (slotOf word slice + 1) ≡ u
           → cond t Empty (cond u (Against noRoom) (pieceTo (slotOf word slice) p)) ≡ Put slot s → (slot .0 < slots) × (p ≡ Kept s)

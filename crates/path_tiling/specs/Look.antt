@@ -1,5 +1,5 @@
 -- What one reference comes to: docs/RULES.md, tiling's part of "When the panel says no". Definitions only.
-use Prim.Native.Nat.{ℕ, _+_, _-_, _*_, _/_, _%_, _^_, _≤_, _<_}
+use Prim.Native.Nat.{ℕ, _+_, _*_, _/_, _%_, _≤_, _<_}
 use mathlib.Core.Bool.{Bool, cond}
 use mathlib.Core.List.{List}
 use lib.Dec.{leb, ltb}
@@ -10,6 +10,7 @@ use Rattle.panel.specs.Refusals.{noSuch, noRoom, outside, crooked}
 use Rattle.panel.specs.Widths.{refWords}
 use Rattle.panel.specs.Kinds.{slotNoOf}
 use Rattle.panel.specs.Paths.{endOf}
+use Rattle.panel.specs.Slots.{skips, slotOf}
 use Rattle.exact.specs.Reach.{Starts}
 use Rattle.walk.specs.Step.{Boxed, stepOf}
 use Rattle.walk.specs.Lent.{walkAt}
@@ -48,13 +49,6 @@ stepNo packed = packed % mostSteps
 abbrev pub sliceNo : ℕ → ℕ
 sliceNo packed = packed / mostSteps
 
--- a tile's word, whose NOT is negative as an i32 where it was handed no slot; else the NOT is its first slot
-abbrev pub handedFrom : ℕ
-handedFrom = 2 ^ 31
-
-abbrev pub slotOf : ℕ → ℕ → ℕ
-slotOf word slice = 2 ^ 32 - 1 - word + slice
-
 -- line l, as the walk finds it; no such line is refused
 unfoldable pub foundOf : List ℕ → List Float → List ℕ → ℕ → Walked.Walked
 foundOf ns cs ps l = cond (ltb l (length ns)) (walkAt ns cs ps l) (Found.Refused noSuch)
@@ -67,7 +61,7 @@ pieceTo slot Crooked = Against crooked
 -- a tile's word: empty, or a slot that must be among the slots that there are
 unfoldable pub wordTo : ℕ → ℕ → ℕ → Piece → Look
 wordTo slots word slice piece =
-    cond (ltb word handedFrom) Empty
+    cond (skips word) Empty
     (cond (ltb slots (slotOf word slice + 1)) (Against noRoom) (pieceTo (slotOf word slice) piece))
 
 -- step i, which must lie in its path's box

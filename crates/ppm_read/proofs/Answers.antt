@@ -10,7 +10,7 @@ use borrow.Author.Tests.{le-leb, lt-leb, eq-eqb, ne-eqb}
 use Rattle.panel.specs.Refusals.{noRoom, badSize, badFile}
 use Rattle.ppm_write.specs.Bytes.{pixelBytes}
 use Rattle.ppm_write.specs.Write.{refused, sideOk}
-use Rattle.ppm_write.proofs.Answers.{both-left, both-right}
+use Rattle.panel.proofs.BoolLaws.{both}
 use Rattle.ppm_write.proofs.Stores.{sets-front}
 use Rattle.ppm_read.specs.declared.Answer.{Answer}
 use Rattle.ppm_read.specs.declared.Answer.the-variants.{Done, Refused}
@@ -43,8 +43,8 @@ bad-held noHeader w h r out e bad = let z : _≡_ {A = ℕ} 0 1 = cc in absurd (
 good-held : (H : Header) (w h : ℕ) (r : List ℕ) → size (held w) (held h) r ≡ heldHeader H → sideOk w && sideOk h ≡ true
     → H ≡ size w h r
 good-held (size w′ h′ r′) w h r e ok =
-    let ew : w ≡ w′ = held-eq w w′ (cc) (both-left (sideOk w) (sideOk h) ok) in
-    let eh : h ≡ h′ = held-eq h h′ (cc) (both-right (sideOk w) (sideOk h) ok) in
+    let ew : w ≡ w′ = held-eq w w′ (cc) (both (sideOk w) (sideOk h) ok .0) in
+    let eh : h ≡ h′ = held-eq h h′ (cc) (both (sideOk w) (sideOk h) ok .1) in
     let er : r ≡ r′ = cc in
     cc
 good-held noHeader w h r e ok = let z : _≡_ {A = ℕ} 0 1 = cc in absurd (omega arith)

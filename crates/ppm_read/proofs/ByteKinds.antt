@@ -7,7 +7,7 @@ use native.Mathlib.Omega.{arith}
 use lib.Dec.{leb, ltb, eqb}
 use borrow.Author.Tests.{eqb-true, leb-true}
 use Rattle.ppm_write.specs.Bytes.{newline, blank, zeroByte, ten}
-use Rattle.ppm_write.proofs.Answers.{both-left}
+use Rattle.panel.proofs.BoolLaws.{both}
 use Rattle.ppm_read.specs.Bytes.{hash, tab, verticalTab, formFeed, return, isHash, isLine, isBlank, isWhite, isDigit, kindOf}
 use Rattle.ppm_read.specs.declared.Kind.{Kind}
 use Rattle.ppm_read.specs.declared.Kind.the-variants.{Hash, Line, Blank, Digit, Other}
@@ -64,7 +64,7 @@ white-most b e =
     (either (isLine b) (isBlank b) e)
 
 pub digit-least : (b : ℕ) → isDigit b ≡ true → zeroByte ≤ b
-digit-least b e = leb-true zeroByte b (both-left (leb zeroByte b) (ltb b (zeroByte + ten)) e)
+digit-least b e = leb-true zeroByte b (both (leb zeroByte b) (ltb b (zeroByte + ten)) e .0)
 
 pub hash-is : (b : ℕ) → isHash b ≡ true → b ≡ hash
 hash-is b e = eqb-true b hash e

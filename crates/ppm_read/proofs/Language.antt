@@ -13,7 +13,7 @@ use lib.Dec.{eqb}
 use lib.ListN.{length, drop}
 use borrow.Author.Tests.{eqb-true}
 use Rattle.ppm_write.specs.Bytes.{magic, zeroByte, ten, largest}
-use Rattle.ppm_write.proofs.Answers.{both-left, both-right}
+use Rattle.panel.proofs.BoolLaws.{both}
 use Rattle.ppm_read.specs.declared.Kind.{Kind}
 use Rattle.ppm_read.specs.declared.Kind.the-variants.{Hash, Line, Blank, Digit, Other}
 use Rattle.ppm_read.specs.declared.Stage.{Stage}
@@ -234,13 +234,13 @@ comments-as e x = rw e at x
 magic-split : (file : List ℕ) → startsWith magic file ≡ true → file ≡ magic ++ drop (length magic) file
 magic-split [] e = let z : _≡_ {A = ℕ} 0 1 = cc in absurd (omega arith)
 magic-split (a ∷ []) e =
-    let z : _≡_ {A = ℕ} 0 1 = clash (both-right (eqb a 80) false e) in absurd (omega arith)
+    let z : _≡_ {A = ℕ} 0 1 = clash (both (eqb a 80) false e .1) in absurd (omega arith)
   where
     clash : false ≡ true → _≡_ {A = ℕ} 0 1
     clash q = cc
 magic-split (a ∷ b ∷ bs) e =
-    let ea : a ≡ 80 = eqb-true a 80 (both-left (eqb a 80) (eqb b 54 && true) e) in
-    let eb : b ≡ 54 = eqb-true b 54 (both-left (eqb b 54) true (both-right (eqb a 80) (eqb b 54 && true) e)) in
+    let ea : a ≡ 80 = eqb-true a 80 (both (eqb a 80) (eqb b 54 && true) e .0) in
+    let eb : b ≡ 54 = eqb-true b 54 (both (eqb b 54) true (both (eqb a 80) (eqb b 54 && true) e .1) .0) in
     rw (ea, eb)
 
 record Last (w h most : ℕ) (rest : List ℕ) (w′ h′ : ℕ) (raster : List ℕ) : Type 0 where

@@ -9,6 +9,7 @@ use native.Mathlib.Nat.{mul-le-mul}
 use lib.Dec.{leb}
 use lib.ListN.{length, length-append, drop}
 use borrow.Author.Tests.{le-leb, lt-leb, leb-true, eq-eqb, ne-eqb}
+use Rattle.panel.proofs.BoolLaws.{both}
 use Rattle.panel.specs.Limits.{sideMost}
 use Rattle.panel.specs.Refusals.{doneNo, notWhole, noRoom, badSize}
 use Rattle.ppm_write.specs.Bytes.{pixelBytes, fixedBytes}
@@ -19,20 +20,11 @@ use Rattle.ppm_write.specs.Write.{paperOf, Put, sideOk, refused, writeOf
 use Rattle.ppm_write.proofs.Stores.{sets-front}
 use Rattle.ppm_write.proofs.Puts.{put-then, head-length, raster-length}
 
-pub both-left : (a b : Bool) → a && b ≡ true → a ≡ true
-both-left true b e = refl
-both-left false b e = e
-
-pub both-right : (a b : Bool) → a && b ≡ true → b ≡ true
-both-right true b e = e
-both-right false true e = refl
-both-right false false e = e
-
 pub side-most : (n : ℕ) → sideOk n ≡ true → n ≤ sideMost
-side-most n e = leb-true n sideMost (both-right (leb 1 n) (leb n sideMost) e)
+side-most n e = leb-true n sideMost (both (leb 1 n) (leb n sideMost) e .1)
 
 pub side-least : (n : ℕ) → sideOk n ≡ true → 1 ≤ n
-side-least n e = leb-true 1 n (both-left (leb 1 n) (leb n sideMost) e)
+side-least n e = leb-true 1 n (both (leb 1 n) (leb n sideMost) e .0)
 
 -- the two tests' results, as the sides' own
 pub sides-of : {a b x y t : Bool} → a ≡ x → b ≡ y → a && b ≡ t → x && y ≡ t
@@ -41,7 +33,8 @@ sides-of p q e = rw (p, q) at e
 -- the pixels of a picture that may be
 pub area-most : (w h : ℕ) → sideOk w && sideOk h ≡ true → w * h ≤ sideMost * sideMost
 area-most w h e =
-    mul-le-mul (side-most w (both-left (sideOk w) (sideOk h) e)) (side-most h (both-right (sideOk w) (sideOk h) e))
+    let b = both (sideOk w) (sideOk h) e in
+    mul-le-mul (side-most w (b .0)) (side-most h (b .1))
 
 pub file-length : (ps : List ℕ) (w h : ℕ)
     → length (fileOf ps w h) ≡ fixedBytes + length (decimal w) + length (decimal h) + pixelBytes * length ps

@@ -7,7 +7,7 @@ use lib.Ieee.{Float, le}
 use Rattle.util.specs.Constants.{zero, tileSide}
 use Rattle.util.specs.declared.Vec2.{Vec2}
 use Rattle.walk.specs.declared.setup.Walk.{Walk}
-use Rattle.walk.proofs.Counts.{both}
+use Rattle.panel.proofs.BoolLaws.{both}
 use Rattle.segment.specs.Clips.{InTile, heldOf, segmentOf, pieceOf}
 use Rattle.segment.specs.declared.Segment.{Segment}
 use Rattle.segment.specs.declared.Piece.{Piece}

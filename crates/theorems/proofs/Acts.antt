@@ -1,6 +1,5 @@
 -- What a line that is taken did: its acts ran, all of them on its own path's tiles. Assumes nothing.
 use mathlib.Core.Path.{_≡_, refl, ap, _∙_}
-use mathlib.Core.Bool.{Bool, true, false}
 use mathlib.Core.List.{List, [], _∷_}
 use Prim.Native.Nat.{ℕ, suc, _+_, _*_}
 use native.Mathlib.Omega.{arith}
@@ -9,14 +8,16 @@ use lib.ListN.{length, getD}
 use lib.Seq.{sets}
 use lib.IntN.{ℤ, pos, _+ℤ_}
 use lib.Ieee.{Float}
-use Rattle.lists.specs.Run.{Ran, done, refused, onStep}
+use Rattle.lists.specs.Run.{done}
 use Rattle.lists.specs.Tally.{tally, slices}
 use Rattle.lists.specs.Order as Order
 use Rattle.panel.specs.Limits.{mostCount}
 use Rattle.panel.specs.Refusals.{countOver, sumOver}
 use Rattle.panel.specs.Widths.{refWords}
 use Rattle.walk.specs.Lent.{walkAt}
-use Rattle.acts.specs.Acts.{St, Act, mark, visit, stop, inI32, marked, visited, takeIf, runActs}
+use Rattle.panel.specs.Signed.{inI32}
+use Rattle.acts.specs.Acts.{St, Act, mark, visit, stop, marked, visited, runActs}
+use Rattle.acts.proofs.Whole.{on-taken, no-stop}
 use Rattle.theorems.specs.Drawn.{drawnAt, walkOf, tilesIn, marksIn}
 use Rattle.theorems.specs.Events.{eventsIn, wordsEv}
 
@@ -25,13 +26,6 @@ unfolding walkAt walkOf
 walk-is nos coords paths l = refl
 
 -- ---- a run of acts that goes through
-
-on-taken : (b : Bool) (s t : St) (n : ℕ) (k : St → Ran St ℕ) (u : St) → onStep (takeIf b t n) s k ≡ done u → k t ≡ done u
-on-taken true s t n k u e = e
-on-taken false s t n k u e = let z : _≡_ {A = ℕ} 0 1 = cc in absurd (omega arith)
-
-no-stop : (s u : St) (n : ℕ) → refused s n ≡ done u → ⊥
-no-stop s u n e = let z : _≡_ {A = ℕ} 0 1 = cc in omega arith
 
 module _ (δ : ℤ) (l : ℕ) where
   -- what it leaves: counts by its visits, backdrops by its marks, references one after another

@@ -2,7 +2,7 @@
 -- the sums are never refused. Assumes nothing.
 use mathlib.Core.Path.{_≡_, refl, ap, _∙_}
 use mathlib.Core.Logic.{_⊎_, inl, inr}
-use mathlib.Core.Bool.{Bool, true, false, not, _&&_, false≢true}
+use mathlib.Core.Bool.{Bool, true, false, not}
 use mathlib.Core.List.{List, [], _∷_, map}
 use Prim.Native.Nat.{ℕ, zero, suc, _+_, _-_, _*_, _/_, _≤_, _<_, _^_}
 use native.Mathlib.Omega.{arith}
@@ -11,7 +11,7 @@ use lib.ListN.{length, getD, replicate, length-replicate}
 use lib.IntN.{ℤ, pos, negsuc, _+ℤ_}
 use lib.Signed.{mag}
 use lib.Ieee.{Float}
-use borrow.Author.Tests.{ltb-false, lt-ltb, le-leb}
+use borrow.Author.Tests.{le-leb}
 use Rattle.lists.specs.Run.{Step, taken, halted, done, run, run-cons-done, actAll}
 use Rattle.lists.specs.Sums.{from}
 use Rattle.lists.specs.Occ.{is, is-same, is-other}
@@ -40,7 +40,7 @@ use Rattle.acts.proofs.Once.{Free, Once}
 use Rattle.acts.proofs.Plans.{plan-marks}
 use Rattle.path_count.specs.Count.{planOf, planBy, lineStep, batch, Lent}
 use Rattle.path_count.proofs.Steps.{apart}
-use Rattle.path_count.proofs.Lines.{starts, walkable, on-tiles, left}
+use Rattle.path_count.proofs.Lines.{not-far, starts, walkable, on-tiles, left}
 use Rattle.theorems.specs.Drawn.{drawnAt, drawn, actsBy, deltaBy, marksIn, marksOf}
 use Rattle.theorems.specs.Refs.{AllCounted}
 use Rattle.theorems.proofs.Acts.{walk-is}
@@ -91,12 +91,8 @@ module _ (nos : List ℕ) (coords : List Float) (paths : List ℕ) (n : ℕ) (ok
       let g = walkable nos coords paths l w b e n n lent in
       let o = on-tiles nos coords paths l w b e n n lent in
       plan-marks (planBy (not (w .e .«is_down»)) (w .pace) b (clippedOf w b)) mostSteps (apart (w .pace) b (starts w b g) (o .boxed))
-      (λ p. ltb-false mostSteps (clippedOf w b .imax) (near (ltb (clippedOf w b .imin) (clippedOf w b .imax)) (lt-ltb _ _ p) f))
+      (not-far (clippedOf w b .imin) (clippedOf w b .imax) f)
       (omega (arith, g .wide)) (left w b (clippedOf w b) refl .top)
-    where
-      near : (p : Bool) → p ≡ true → (p && ltb mostSteps (clippedOf w b .imax)) ≡ false → ltb mostSteps (clippedOf w b .imax) ≡ false
-      near true p q = q
-      near false p q = absurd (false≢true p)
 
   line-mag : (room l t : ℕ) (s u : St) → lineStep nos coords paths room l l s ≡ taken u → (w : ℤ) → mag (marksAt t (marksOf paths (drawnAt nos coords l)) w) ≤ mag w + 2
   line-mag room l t s u e w =

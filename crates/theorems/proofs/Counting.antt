@@ -7,7 +7,7 @@ use lib.ListN.{length, getD, length-append}
 use lib.Seq.{sets}
 use lib.IntN.{ℤ}
 use lib.Ieee.{Float}
-use Rattle.lists.specs.Run.{Step, taken, halted, done, run, run-cons-done, All, actAll}
+use Rattle.lists.specs.Run.{Step, taken, halted, done, run, run-cons-done, All, actAll, all-append}
 use Rattle.lists.specs.Sums.{from}
 use Rattle.lists.specs.Tally.{tally, slices, tally-append, slices-append, length-slices}
 use Rattle.lists.specs.Cells.{sets-append}
@@ -28,7 +28,7 @@ use Rattle.path_count.specs.Count.{planOf, lineStep, batch}
 use Rattle.theorems.specs.Drawn.{drawnAt, walkOf, actsBy, deltaBy, tilesIn, marksIn, tilesOf, marksOf, InPath, OwnLine}
 use Rattle.theorems.specs.Events.{Event, EventOwn, eventsIn, eventsAt, eventsOf, tilesEv, wordsEv}
 use Rattle.theorems.proofs.Acts.{walk-is, Ran-through, ran-through}
-use Rattle.theorems.proofs.Own.{all-append, ActOwn, WalkOwn, took}
+use Rattle.theorems.proofs.Own.{ActOwn, WalkOwn, took}
 
 -- ---- lists of events
 

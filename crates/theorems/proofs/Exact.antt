@@ -1,7 +1,7 @@
 -- Refusals are exact: each number is given where its ground holds, and nowhere else. Assumes nothing.
 use mathlib.Core.Path.{_≡_, refl, sym, ap, _∙_}
 use mathlib.Core.Logic.{_≢_, _↔_, inl, inr}
-use mathlib.Core.Bool.{Bool, true, false, cond, _&&_, false≢true}
+use mathlib.Core.Bool.{Bool, true, false, cond}
 use mathlib.Core.List.{List, [], _∷_}
 use Prim.Native.Nat.{ℕ, _+_, _-_, _≤_, _<_, min}
 use native.Mathlib.Omega.{arith}
@@ -28,10 +28,12 @@ use Rattle.walk.specs.Lent.{lineAt, reachedOf, walkedOf, walkAt}
 use Rattle.walk.specs.declared.setup.Walk.{Walk}
 use Rattle.walk.specs.declared.lent.Walked.{Walked}
 use Rattle.walk.specs.declared.lent.Walked.the-variants as Found
-use Rattle.acts.specs.Acts.{St, Act, mark, visit, stop, inI32, marked, visited, takeIf, act, runActs, deltaOf}
+use Rattle.panel.specs.Signed.{inI32}
+use Rattle.acts.specs.Acts.{St, Act, mark, visit, stop, marked, visited, takeIf, act, runActs, deltaOf}
 use Rattle.acts.specs.Line.{Plan, planActs, haltIf, tooFar, planStep}
 use Rattle.acts.proofs.Lines.{plan-far, plan-full, plan-runs}
 use Rattle.path_count.specs.Count.{planOf, walkedStep, lineStep}
+use Rattle.path_count.proofs.Lines.{is-far, not-far}
 use Rattle.theorems.specs.Refusing.{RowWhy, HandExact, Walks, StopsAt, ActWhy, LineWhy, five, six, seven, eight, nine, stops}
 
 pub no-clash : {A : Type 0} → _≡_ {A = ℕ} 0 1 → A
@@ -165,21 +167,6 @@ module _ (nos : List ℕ) (coords : List Float) (paths : List ℕ) (room l : ℕ
   none-halts (done u) e = no-clash cc
   none-halts (refused u m) e = let q : m ≡ n = cc in (u, ap (refused u) q)
 
-  is-far : (p q : ℕ) → (ltb p q && ltb mostSteps q) ≡ true → (p < q) × (mostSteps < q)
-  is-far p q e = go (ltb p q) refl (ltb mostSteps q) refl e
-    where
-      go : (a : Bool) → ltb p q ≡ a → (b : Bool) → ltb mostSteps q ≡ b → (a && b) ≡ true → (p < q) × (mostSteps < q)
-      go true f true g h = (ltb-true p q f, ltb-true mostSteps q g)
-      go true f false g h = absurd (false≢true h)
-      go false f b g h = absurd (false≢true h)
-
-  is-near : (p q : ℕ) → (ltb p q && ltb mostSteps q) ≡ false → p < q → q ≤ mostSteps
-  is-near p q e h = ltb-false mostSteps q (go (ltb p q) (lt-ltb p q h) e)
-    where
-      go : (a : Bool) → a ≡ true → (a && ltb mostSteps q) ≡ false → ltb mostSteps q ≡ false
-      go true f g = g
-      go false f g = absurd (false≢true f)
-
   plan-why : (w : Walk) (b : Path) → Walks nos coords paths l w b → planStep room l (planOf w b) s ≡ halted n → LineWhy nos coords paths room l s n
   unfolding planStep
   plan-why w b k e = go (tooFar (planOf w b)) refl (ltb (min room mostSlots) after) refl e
@@ -194,11 +181,11 @@ module _ (nos : List ℕ) (coords : List Float) (paths : List ℕ) (room l : ℕ
           → haltIf x countOver (haltIf y noRoom (allOrNone (runActs (deltaOf (planOf w b .up)) l (planActs (planOf w b)) s))) ≡ halted n
           → LineWhy nos coords paths room l s n
       go true f y g h = let q = is-far (planOf w b .imin) (planOf w b .imax) f in eight (cc) w b k (q .0) (q .1)
-      go false f true g h = nine (cc) w b k (is-near (planOf w b .imin) (planOf w b .imax) f) (ltb-true (min room mostSlots) after g)
+      go false f true g h = nine (cc) w b k (not-far (planOf w b .imin) (planOf w b .imax) f) (ltb-true (min room mostSlots) after g)
       go false f false g h =
           let o = none-halts (runActs (deltaOf (planOf w b .up)) l (planActs (planOf w b)) s) h in
           let r = run-why (deltaOf (planOf w b .up)) l (planActs (planOf w b)) s (o .0) n (o .1) in
-          stops w b k (is-near (planOf w b .imin) (planOf w b .imax) f) (ltb-false (min room mostSlots) after g) (o .0) (r .0) (r .1) (r .2)
+          stops w b k (not-far (planOf w b .imin) (planOf w b .imax) f) (ltb-false (min room mostSlots) after g) (o .0) (r .0) (r .1) (r .2)
 
   -- what the walk of a line as it is lent tells, refused
   walk-why : (m : ℕ) → l < mostLines → walkAt nos coords paths l ≡ Found.Refused m → m ≡ n → LineWhy nos coords paths room l s n

@@ -8,6 +8,7 @@ use native.Mathlib.Omega.{arith}
 use lib.Dec.{ltb}
 use lib.ListN.{length, getD}
 use borrow.Author.Tests.{lt-ltb, le-ltb, ltb-true, ltb-false}
+use Rattle.panel.specs.Slots.{handedFrom, slotOf}
 use Rattle.panel.specs.Refusals.{coordinate, noSuch, noRoom, outside, crooked}
 use Rattle.panel.specs.Paths.{pathAt, pathCount}
 use Rattle.panel.specs.declared.kinds.Path.{Path}
@@ -23,7 +24,7 @@ use Rattle.segment.specs.Clips.{pieceOf}
 use Rattle.segment.specs.declared.Piece.{Piece}
 use Rattle.segment.specs.declared.Piece.the-variants.{Kept, Crooked}
 use Rattle.path_tiling.specs.Look as Look
-use Rattle.path_tiling.specs.Look.{Lent, packedAt, stepNo, sliceNo, handedFrom, slotOf, pieceTo, wordTo, stepTo, foundTo, foundOf, lookOf}
+use Rattle.path_tiling.specs.Look.{Lent, packedAt, stepNo, sliceNo, pieceTo, wordTo, stepTo, foundTo, foundOf, lookOf}
 use Rattle.path_tiling.specs.declared.look.Look.the-variants.{Empty, Against}
 use Rattle.theorems.specs.Refusing.{RefWalks, RefOn, LookWhy, sevenLine, sixLine, sevenPath, sevenSkipped, ten, nineSlot, twelve}
 use Rattle.theorems.proofs.Exact.{no-clash, never}

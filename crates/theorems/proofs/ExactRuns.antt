@@ -8,7 +8,7 @@ use Prim.Native.Nat.{ℕ, zero, suc, _+_, _-_, _<_}
 use native.Mathlib.Omega.{arith}
 use lib.IntN.{ℤ}
 use lib.Ieee.{Float}
-use Rattle.lists.specs.Run.{Step, taken, halted, Ran, done, refused, run, onStep, andThen, All}
+use Rattle.lists.specs.Run.{Step, taken, halted, Ran, done, refused, run, onStep, andThen, All, all-append}
 use Rattle.lists.specs.Sums.{from}
 use Rattle.panel.specs.Refusals.{outside}
 use Rattle.acts.specs.Acts.{St, Act, mark, visit, stop, Hit, on, off, rowActs, stepActs, stepsActs}
@@ -17,7 +17,6 @@ use Rattle.acts.specs.Line.{Plan, planActs, Refusal, atLine, batchOf}
 use Rattle.acts.proofs.Lines.{batch-append}
 use Rattle.path_count.specs.Count.{lineStep, batch}
 use Rattle.theorems.specs.Refusing.{StopsAt, BatchWhy}
-use Rattle.theorems.proofs.Own.{all-append}
 use Rattle.theorems.proofs.Exact.{no-clash}
 
 -- ---- a batch

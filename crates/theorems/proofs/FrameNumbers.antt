@@ -7,11 +7,12 @@ use native.Mathlib.Omega.{arith}
 use lib.ListN.{length, getD}
 use lib.IntN.{ℤ}
 use lib.Ieee.{Float}
-use Rattle.lists.specs.Run.{All}
+use Rattle.lists.specs.Run.{All, all-append}
 use Rattle.lists.specs.Sums.{from, first-within}
 use Rattle.panel.specs.Refusals.{crooked}
 use Rattle.panel.specs.Widths.{refWords}
 use Rattle.panel.specs.declared.kinds.Running.{Running}
+use Rattle.panel.specs.Slots.{slotOf}
 use Rattle.panel.specs.declared.kinds.TileNo.{TileNo}
 use Rattle.walk.specs.Step.{stepOf}
 use Rattle.walk.specs.Lent.{walkAt}
@@ -22,7 +23,6 @@ use Rattle.acts.specs.Acts.{St, stOf, Act, mark, visit, stop, deltaOf}
 use Rattle.acts.specs.Line.{planActs}
 use Rattle.path_count.specs.Count.{planOf}
 use Rattle.hand_out.specs.HandOut.{hand}
-use Rattle.path_tiling.specs.Look as Look
 use Rattle.path_tiling.specs.Look.{Lent, lent, lineAt, packedAt, stepNo, sliceNo}
 use Rattle.path_tiling.specs.Tiling.{slotsOf}
 use Rattle.frame.specs.Frame.{outOf, frameOf}
@@ -33,7 +33,6 @@ use Rattle.theorems.specs.Drawn.{actsBy, walkOf, drawnAt}
 use Rattle.theorems.specs.Events.{Event, EventOwn, eventsIn, eventsOf, tilesEv, sliceOf}
 use Rattle.theorems.specs.Refs.{AllCounted}
 use Rattle.theorems.specs.Refusing.{StopsAt, ActWhy, LineWhy, five, six, seven, eight, nine, stops, RangeWhy, LookWhy, sevenLine, sixLine, sevenPath, sevenSkipped, ten, nineSlot, twelve}
-use Rattle.theorems.proofs.Own.{all-append}
 use Rattle.theorems.proofs.Slots.{slice-below}
 use Rattle.theorems.proofs.SumLaws.{noEvent, eventAt, all-at, in-list, events, whole, Whole, tiles-below, owned, ref-line, ref-step, ref-slice, event-tile, sums}
 use Rattle.theorems.proofs.Counting.{length-tiles}
@@ -95,7 +94,7 @@ module _ (b : ℕ) (nos : List ℕ) (coords : List Float) (paths : List ℕ) (n 
   step = ref-step b nos coords paths n refs bs cs rs m all es w k q
 
   -- its slot is one of those below the number of references
-  slot-in : (t : ℕ) → t ≡ eventAt es k .tile → Look.slotOf (getD (hand 0 cs) t 0) (sliceNo (packedAt rs k)) < m
+  slot-in : (t : ℕ) → t ≡ eventAt es k .tile → slotOf (getD (hand 0 cs) t 0) (sliceNo (packedAt rs k)) < m
   slot-in t e =
       let i : t ≡ getD (tilesEv es) k 0 = e ∙ sym (event-tile b nos coords paths n refs bs cs rs m all es w k q) in
       let below : sliceOf n (tilesEv es) k < getD cs (getD (tilesEv es) k 0) 0 =

@@ -1,6 +1,6 @@
 -- All acts of a line are on its own path's tiles; and what a line that is taken did. Assumes nothing.
 use mathlib.Core.Path.{_≡_, refl, sym, ap, subst}
-use mathlib.Core.Bool.{Bool, true, false, not, cond, _&&_, false≢true}
+use mathlib.Core.Bool.{Bool, true, false, not, cond}
 use mathlib.Core.List.{List, [], _∷_, _++_}
 use Prim.Native.Nat.{ℕ, zero, suc, _+_, _-_, _≤_, _<_, min}
 use native.Mathlib.Omega.{arith}
@@ -8,13 +8,14 @@ use lib.Dec.{ltb, leb, eqb}
 use lib.ListN.{getD}
 use lib.Ieee.{Float, eq}
 use borrow.Author.Tests.{ltb-true, ltb-false, leb-false, lt-ltb}
-use Rattle.lists.specs.Run.{Step, taken, done, All}
+use Rattle.lists.specs.Run.{Step, taken, done, All, all-append}
 use Rattle.panel.specs.Limits.{mostLines, mostSteps, mostSlots}
 use Rattle.panel.specs.Refusals.{countOver, lineNumber}
 use Rattle.panel.specs.Paths.{endOf, widthOf, pathAt, pathsAnswer}
 use Rattle.panel.specs.declared.kinds.Path.{Path}
 use Rattle.panel.specs.declared.kinds.Answer.the-variants.{Done}
 use Rattle.panel.proofs.PathLaws.{Holds, checked}
+use Rattle.panel.proofs.BoolLaws.{both}
 use Rattle.walk.specs.Lent.{walkAt}
 use Rattle.walk.specs.Step.{Boxed, stepOf, lastZ, crossOf}
 use Rattle.walk.specs.declared.setup.Walk.{Walk}
@@ -35,13 +36,10 @@ use Rattle.acts.specs.declared.rows.Rows.{Rows}
 use Rattle.acts.proofs.Laws.{row-below}
 use Rattle.acts.proofs.Whole.{plan-taken, plan-refs}
 use Rattle.path_count.specs.Steps.{hitAt, hitOf}
+use Rattle.path_count.proofs.Lines.{not-far}
 use Rattle.path_count.specs.Count.{rowsBy, planBy, planOf, walkedStep, lineStep}
 use Rattle.theorems.specs.Drawn.{actsBy, deltaBy}
 use Rattle.theorems.specs.Events.{StepOn}
-
-pub all-append : {A : Type 0} (P : A → Type 0) (xs ys : List A) → All P xs → All P ys → All P (xs ++ ys)
-all-append P [] ys p q = q
-all-append P (x ∷ xs) ys p q = (p .0, all-append P xs ys (p .1) q)
 
 -- an act of a walk w over the box of path b: on b's tiles, and a visit is where the step falls
 abbrev pub ActOwn : Walk → Path → Act → Type 0
@@ -57,10 +55,6 @@ module _ (w : Walk) (b : Path) (k : Boxed b) where
   rows-own r h e (suc n) y p q =
       ((omega arith, row-below r (endOf b) y h p (omega arith)), rows-own r h e n (suc y) (omega arith) (omega arith))
 
-  second : (p q : Bool) → (p && q) ≡ true → q ≡ true
-  second true q e = e
-  second false q e = absurd (false≢true e)
-
   hit-own : (i : ℕ) → i < mostSteps → (s : S.Step) → stepOf (w .pace) b i ≡ s → All (ActOwn w b) (stepActs (hitOf (w .pace) b i s) i)
   hit-own i h (On.Tile t x y z) e = go (crossOf (w .pace .«on_top») (b .x1) i (lastZ (w .pace) i) x z) refl
     where
@@ -72,7 +66,7 @@ module _ (w : Walk) (b : Path) (k : Boxed b) where
 
       go : (c : Bool) → crossOf (w .pace .«on_top») (b .x1) i (lastZ (w .pace) i) x z ≡ c → All (ActOwn w b) (visit (t .0) i ∷ crossActs c (t .0))
       go true f =
-          let r : x + 1 < b .x1 = ltb-true (x + 1) (b .x1) (second (cond (eqb i 0) (w .pace .«on_top») (eq (lastZ (w .pace) i) z)) (ltb (x + 1) (b .x1)) f) in
+          let r : x + 1 < b .x1 = ltb-true (x + 1) (b .x1) (both (cond (eqb i 0) (w .pace .«on_top») (eq (lastZ (w .pace) i) z)) (ltb (x + 1) (b .x1)) f .1) in
           ((here, fell, h), ((omega (arith, here .0), mark-in (w .pace) b i t x y z e r), tt))
       go false f = ((here, fell, h), tt)
   hit-own i h On.Refused e = (tt, tt)
@@ -103,11 +97,7 @@ module _ (w : Walk) (b : Path) (k : Boxed b) where
   unfolding planOf
   plan-own wide e =
       by-clip (not (w .e .«is_down»)) (clippedOf w b) (clip-left w b) wide
-      (λ p. ltb-false mostSteps (clippedOf w b .imax) (near (ltb (clippedOf w b .imin) (clippedOf w b .imax)) (lt-ltb _ _ p) e))
-    where
-      near : (p : Bool) → p ≡ true → (p && ltb mostSteps (clippedOf w b .imax)) ≡ false → ltb mostSteps (clippedOf w b .imax) ≡ false
-      near true f g = g
-      near false f g = absurd (false≢true f)
+      (not-far (clippedOf w b .imin) (clippedOf w b .imax) e)
 
 -- ---- a line that is taken
 

@@ -3,8 +3,7 @@ use mathlib.Core.Path.{_≡_, refl, sym, ap, _∙_}
 use mathlib.Core.Logic.{_≢_}
 use mathlib.Core.Bool.{Bool, true, false, cond}
 use mathlib.Core.List.{List, [], _∷_, map}
-use Prim.Native.Nat.{ℕ, zero, suc, _+_, _-_, _*_, _/_, _^_, _≤_, _<_}
-use native.Mathlib.Nat.{not-suc-le-zero}
+use Prim.Native.Nat.{ℕ, zero, suc, _+_, _-_, _*_, _/_, _≤_, _<_}
 use native.Mathlib.Decide.{decLt}
 use native.Mathlib.Omega.{arith}
 use lib.Dec.{ltb}
@@ -12,9 +11,8 @@ use lib.ListN.{length, getD, length-replicate}
 use lib.Seq.{length-sets}
 use lib.IntN.{ℤ}
 use lib.Ieee.{Float, nan}
-use borrow.Author.Tests.{le-ltb}
 use Rattle.lists.specs.Run.{All}
-use Rattle.lists.specs.Sums.{sum, first, first-within, from}
+use Rattle.lists.specs.Sums.{sum, first, from}
 use Rattle.lists.specs.Tally.{zeros, Below, below-at, length-tally, Distinct}
 use Rattle.lists.specs.Cells.{getD-sets-after, getD-sets-before, getD-sets-in}
 use Rattle.panel.specs.Limits.{mostSlots}
@@ -22,13 +20,13 @@ use Rattle.panel.specs.Refusals.{notWhole, noSuch, noRoom}
 use Rattle.panel.specs.Widths.{segmentFloats}
 use Rattle.panel.specs.Kinds.{slotNoOf}
 use Rattle.panel.specs.Paths.{pathAt, endOf, pathsAnswer}
+use Rattle.panel.specs.Slots.{not32, skips}
 use Rattle.panel.specs.declared.kinds.Answer.the-variants.{Done, Refused}
-use Rattle.panel.proofs.LimitLaws.{small}
 use Rattle.panel.specs.Checks.{firstNo}
 use Rattle.panel.specs.declared.kinds.Verdict.{Verdict}
 use Rattle.panel.specs.declared.kinds.Verdict.the-variants as Verdict
-use Rattle.hand_out.specs.HandOut.{stored, hand, handChecks, onFine, handOutOf, outOf}
-use Rattle.hand_out.proofs.HandLaws.{length-hand, word-at, out-once}
+use Rattle.hand_out.specs.HandOut.{hand, handChecks, onFine, handOutOf, outOf}
+use Rattle.hand_out.proofs.HandLaws.{length-hand, reads-back, skips-no-other, out-once}
 use Rattle.walk.specs.Step.{stepOf}
 use Rattle.walk.specs.Lent.{walkAt}
 use Rattle.walk.specs.declared.setup.Walk.{Walk}
@@ -40,7 +38,7 @@ use Rattle.segment.specs.Clips.{pieceOf}
 use Rattle.segment.specs.declared.Segment.{Segment}
 use Rattle.segment.specs.declared.Piece.{Piece}
 use Rattle.segment.specs.declared.Piece.the-variants.{Kept, Crooked}
-use Rattle.path_tiling.specs.Look.{Lent, lent, lineAt, packedAt, stepNo, sliceNo, handedFrom, pieceTo, wordTo, stepTo, foundTo, foundOf, lookOf}
+use Rattle.path_tiling.specs.Look.{Lent, lent, lineAt, packedAt, stepNo, sliceNo, pieceTo, wordTo, stepTo, foundTo, foundOf, lookOf}
 use Rattle.path_tiling.specs.Tiling.{Write, Range, range, lookThen, rangeOf, slotsOf, floatsOf, putOf, applied, checksOf, checkedThen, callOf, Made}
 use Rattle.path_tiling.specs.declared.look.Look as L
 use Rattle.path_tiling.specs.declared.look.Look.the-variants.{Put, Empty, Against}
@@ -53,12 +51,6 @@ use Rattle.theorems.specs.Stray.{writtenTo, writtenFrom, slotFloat, OwnW
 use Rattle.theorems.proofs.Slots.{slice-below, slots-once, slots-differ}
 use Rattle.theorems.proofs.SumLaws.{sums, passed, events, whole, Whole, tiles-below, ref-line, ref-step, ref-slice, ref-tile, owned, event-tile, eventAt}
 use Rattle.theorems.proofs.Counting.{length-tiles}
-
--- ---- a tile's word that is not empty: it reads back as its first slot
-
-stored-big : (n f : ℕ) → 0 < n → f ≤ 2 ^ 24 → (2 ^ 31 ≤ stored n f) × (2 ^ 32 - 1 - stored n f ≡ f)
-stored-big zero f h k = absurd (not-suc-le-zero h)
-stored-big (suc n) f h k = (omega arith, omega arith)
 
 -- ---- what a reference comes to, where its slot is known: never an empty tile
 
@@ -81,16 +73,16 @@ unfolding pieceTo
 piece-at k (Kept s) = refl
 piece-at k Crooked = tt
 
-word-put : (slots word slice first : ℕ) (p : Piece) → 2 ^ 31 ≤ word → 2 ^ 32 - 1 - word ≡ first → PutAt (first + slice) (wordTo slots word slice p)
+word-put : (slots word slice first : ℕ) (p : Piece) → skips word ≡ false → not32 word ≡ first → PutAt (first + slice) (wordTo slots word slice p)
 unfolding wordTo
 word-put slots word slice first p h e =
-    rw (le-ltb word handedFrom h, e) (go (ltb slots (first + slice + 1)))
+    rw (h, e) (go (ltb slots (first + slice + 1)))
   where
     go : (t : Bool) → PutAt (first + slice) (cond t (Against noRoom) (pieceTo (first + slice) p))
     go true = tt
     go false = piece-at (first + slice) p
 
-step-put : (xs : List ℕ) (slots : ℕ) (w : Walk) (i slice first t : ℕ) (s : Step) → stepTile s ≡ t → OnTile s → 2 ^ 31 ≤ getD xs t 0 → 2 ^ 32 - 1 - getD xs t 0 ≡ first
+step-put : (xs : List ℕ) (slots : ℕ) (w : Walk) (i slice first t : ℕ) (s : Step) → stepTile s ≡ t → OnTile s → skips (getD xs t 0) ≡ false → not32 (getD xs t 0) ≡ first
     → PutAt (first + slice) (stepTo xs slots w i slice s)
 unfolding stepTo
 step-put xs slots w i slice first t (On.Tile u x y z) e o h g =
@@ -102,7 +94,7 @@ unfolding foundTo
 refused-put xs slots packed k n = tt
 
 found-put : (xs : List ℕ) (slots packed first t : ℕ) (f : Walked) → walkTile f (stepNo packed) ≡ t → OnWalk f (stepNo packed)
-    → 2 ^ 31 ≤ getD xs t 0 → 2 ^ 32 - 1 - getD xs t 0 ≡ first → PutAt (first + sliceNo packed) (foundTo xs slots packed f)
+    → skips (getD xs t 0) ≡ false → not32 (getD xs t 0) ≡ first → PutAt (first + sliceNo packed) (foundTo xs slots packed f)
 unfolding foundTo
 found-put xs slots packed first t (Found.Refused n) e o h g = tt
 found-put xs slots packed first t Found.Skipped e o h g = tt
@@ -177,14 +169,14 @@ module _ (b : ℕ) (nos : List ℕ) (coords : List Float) (paths : List ℕ) (n 
 
   -- reference k's tile holds a word that reads back as its first slot
   pub word-back : (k : ℕ) → k < m
-      → (2 ^ 31 ≤ getD (hand 0 cs) (getD (tilesEv es) k 0) 0) × (2 ^ 32 - 1 - getD (hand 0 cs) (getD (tilesEv es) k 0) 0 ≡ first cs (getD (tilesEv es) k 0))
+      → (skips (getD (hand 0 cs) (getD (tilesEv es) k 0) 0) ≡ false) × (not32 (getD (hand 0 cs) (getD (tilesEv es) k 0) 0) ≡ first cs (getD (tilesEv es) k 0))
   word-back k q =
       let t = getD (tilesEv es) k 0 in
       let s = sums b nos coords paths n refs bs cs rs m all .total in
       let few : sum cs ≤ mostSlots = omega (arith, h .few) in
       let p : t < n = below-at n (tilesEv es) k box (omega (arith, long)) in
       let c : 0 < getD cs t 0 = rw (h .counts) (let d = slice-below n (tilesEv es) box k (omega (arith, long)) in omega arith) in
-      rw (word-at cs few t (omega (arith, cs-long))) (stored-big (getD cs t 0) (first cs t) c (omega (arith, first-within cs t, small .slots)))
+      (skips-no-other cs few t (omega (arith, cs-long)) c, reads-back cs few t (omega (arith, cs-long)) c)
 
   abbrev lentNow : Lent
   lentNow = lent nos coords paths (hand 0 cs) rs

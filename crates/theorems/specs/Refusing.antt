@@ -13,6 +13,7 @@ use Rattle.panel.specs.Limits.{mostPaths, mostTiles, mostLines, mostSteps, most
 use Rattle.panel.specs.Refusals.{doneNo, notWhole, tooMany, badBox, badRange, lineNumber, coordinate, noSuch, countOver, noRoom, outside, sumOver, crooked}
 use Rattle.panel.specs.Widths.{pathWords}
 use Rattle.panel.specs.Checks.{Check}
+use Rattle.panel.specs.Slots.{handedFrom, slotOf}
 use Rattle.panel.specs.Paths.{pathAt, pathCount, endOf}
 use Rattle.panel.specs.declared.kinds.Path.{Path}
 use Rattle.panel.specs.declared.kinds.Answer.the-variants.{Done}
@@ -33,8 +34,9 @@ use Rattle.path_tiling.specs.declared.look.Look.the-variants as Looked
 use Rattle.path_tiling.specs.Look.{lookOf}
 use Rattle.fine.specs.Screen.{endsAt}
 use Rattle.fine.specs.Fine.{tilesOf}
-use Rattle.path_tiling.specs.Look.{Lent, packedAt, stepNo, sliceNo, handedFrom, slotOf}
-use Rattle.acts.specs.Acts.{St, Act, mark, visit, stop, inI32, runActs, deltaOf}
+use Rattle.path_tiling.specs.Look.{Lent, packedAt, stepNo, sliceNo}
+use Rattle.panel.specs.Signed.{inI32}
+use Rattle.acts.specs.Acts.{St, Act, mark, visit, stop, runActs, deltaOf}
 use Rattle.acts.specs.Line.{planActs, Refusal}
 use Rattle.path_count.specs.Count.{planOf, lineStep, batch}
 

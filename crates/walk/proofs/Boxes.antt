@@ -21,7 +21,7 @@ use Rattle.walk.specs.Num.{cutOf, insideOf}
 use Rattle.walk.specs.Step.{Boxed, Within, tileIn}
 use Rattle.walk.specs.declared.step.Step.{Step}
 use Rattle.walk.specs.declared.step.Step.the-variants.{Tile, Refused}
-use Rattle.walk.proofs.Counts.{both}
+use Rattle.panel.proofs.BoolLaws.{both}
 
 -- ---- numbers of tiles
 pub in-box : (b : Path) (x y : ℕ) → Within b x y → InBox b x y

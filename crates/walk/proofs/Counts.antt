@@ -4,22 +4,19 @@
 use Prim.Native.Nat.{ℕ, _+_, _*_, _≤_, _<_, _^_}
 use native.Mathlib.Omega.{arith}
 use mathlib.Core.Path.{_≡_, refl}
-use mathlib.Core.Bool.{Bool, true, false, cond, _&&_, false≢true}
+use mathlib.Core.Bool.{Bool, true, false, cond, _&&_}
 use lib.Dec.{T, le→leb}
 use lib.IntN.{pos}
 use lib.Ieee.{binary32, le, inFloat}
 use Rattle.util.specs.Constants.{tileScale}
 use Rattle.util.specs.Vec.{scaleOf}
 use Rattle.util.specs.declared.Vec2.{Vec2}
+use Rattle.panel.proofs.BoolLaws.{both}
 use Rattle.exact.specs.Reach.{inReach, coordTiles}
 use Rattle.exact.proofs.Limits.{far}
 use Rattle.exact.proofs.Bounds.{near-of, span-least, span-most}
 use Rattle.walk.specs.Setup.{Scaled, endsOf, countsOf}
 use Rattle.walk.specs.Lent.{reachedOf, Reached}
-
-pub both : (s t : Bool) → (s && t) ≡ true → (s ≡ true) × (t ≡ true)
-both true t h = (refl, h)
-both false t h = absurd (false≢true h)
 
 -- ---- the ends
 pub scaled-of : (p : Vec2) → (inReach (p .x) && inReach (p .y)) ≡ true → Scaled (scaleOf p tileScale)

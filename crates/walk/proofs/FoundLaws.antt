@@ -19,7 +19,7 @@ use Rattle.exact.proofs.Columns.{column-is}
 use Rattle.walk.specs.Setup.{endsOf, countsOf}
 use Rattle.walk.specs.Lent.{Reached}
 use Rattle.walk.specs.Found.{leastOf, lastOf, tilesOf, Spans, countsBy, Around}
-use Rattle.walk.proofs.Counts.{both}
+use Rattle.panel.proofs.BoolLaws.{both}
 
 -- ---- the tiles between two edges are the span
 edged : (a b : Float) {low high : Float} → Near a → Near b → low ≡ floorOf (leastOf a b) → high ≡ ceilOf (lastOf a b)

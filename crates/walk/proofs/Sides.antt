@@ -39,7 +39,7 @@ use Rattle.walk.specs.Num.{float, cutOf, insideOf}
 use Rattle.walk.specs.Step.{Boxed, zAt, tileIn, stepOf, edgesOf}
 use Rattle.walk.specs.declared.edges.Edges.{Edges}
 use Rattle.walk.specs.declared.setup.Pace.{Pace}
-use Rattle.walk.proofs.Counts.{both}
+use Rattle.panel.proofs.BoolLaws.{both}
 use Rattle.walk.proofs.Boxes.{okOf, inside-bounds}
 use Rattle.walk.proofs.Steps.{z-fits, zWhole, z-whole, turned-whole}
 

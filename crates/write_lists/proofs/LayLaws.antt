@@ -10,12 +10,12 @@ use lib.ListN.{length, set}
 use lib.Seq.{sets, length-sets}
 use Rattle.lists.specs.Run.{actAll-append}
 use Rattle.panel.specs.Limits.{mostSlots}
-use Rattle.panel.proofs.PathLaws.{and-true}
+use Rattle.panel.proofs.BoolLaws.{both}
 use Rattle.commands.specs.Numbers.{jumpNo, jumpWords, tileWords}
 use Rattle.write_lists.specs.Pairs.{putList}
 use Rattle.write_lists.specs.Layout.{Chunk, chunk, penAt, pairSize, pairWords, fits, jumpIf, turned, after, pairChunks, laid, jumpCount, leftAt, leftAfter, jumpsOf, written, begun, penAfter}
-use Rattle.write_lists.specs.Lists.{slotsFit, allFit, wordsNamed}
-use Rattle.write_lists.specs.Ready.{Room}
+use Rattle.write_lists.specs.Lists.{slotsFit, allFit}
+use Rattle.write_lists.specs.Ready.{wordsNamed, Room}
 use Rattle.write_lists.specs.declared.pairs.Pair.{Pair}
 use Rattle.write_lists.specs.declared.pairs.Pair.the-variants.{Fill}
 use Rattle.write_lists.specs.declared.pairs.Put.{Put}
@@ -102,7 +102,7 @@ laid-append (p ∷ ps) qs pen =
 pub all-fit-append : (room : ℕ) (ps qs : List Pair) → allFit room (ps ++ qs) ≡ true → (allFit room ps ≡ true) × (allFit room qs ≡ true)
 all-fit-append room [] qs e = (refl, e)
 all-fit-append room (p ∷ ps) qs e =
-    let f = and-true (slotsFit room p) (allFit room (ps ++ qs)) e in
+    let f = both (slotsFit room p) (allFit room (ps ++ qs)) e in
     let g = all-fit-append room ps qs (f .1) in
     (rw (f .0) (g .0), g .1)
 
@@ -158,7 +158,7 @@ jump-laid pen to words e = let one : pen .at + 1 ≡ suc (pen .at) = omega arith
 -- a FILL whose slots fit has few segments
 pub fill-few : (p : Pair) (count rule first backdrop colour : ℕ) → p ≡ Fill count rule first backdrop colour → slotsFit mostSlots p ≡ true → count ≤ mostSlots
 fill-few p count rule first backdrop colour e h =
-    let f = and-true (leb (first + count) mostSlots) (leb (first + count) mostSlots) (sym (ap (slotsFit mostSlots) e) ∙ h) in
+    let f = both (leb (first + count) mostSlots) (leb (first + count) mostSlots) (sym (ap (slotsFit mostSlots) e) ∙ h) in
     omega (arith, leb-true (first + count) mostSlots (f .0))
 
 -- ---- one pair, by its parts

@@ -5,4 +5,5 @@ pub mod PairLaws
 pub mod WeighLaws
 pub mod LayLaws
 pub mod TileLaws
+pub mod RegionLaws
 pub mod Example

@@ -13,7 +13,8 @@ use Rattle.panel.specs.Widths.{paintWords}
 use Rattle.panel.specs.Paths.{pathAt, pathCount, widthOf, endOf, tileOf}
 use Rattle.panel.specs.Slots.{not32}
 use Rattle.panel.specs.declared.kinds.Path.{Path}
-use Rattle.panel.proofs.PathLaws.{InBox, own-tile, and-true, checked}
+use Rattle.panel.proofs.PathLaws.{InBox, own-tile, checked}
+use Rattle.panel.proofs.BoolLaws.{both}
 use Rattle.commands.specs.Pixel.{evenOddOf}
 use Rattle.write_lists.specs.Pairs.{Tables, inBox, covers, bitsOf, onTile, byPath, onPath}
 use Rattle.write_lists.specs.Ready.{Ready}
@@ -38,9 +39,9 @@ module _ (colour rule count stored : ℕ) (b : ℤ) where
 
 pub box-in : (p : Path) (x y : ℕ) → inBox p x y ≡ true → InBox p x y
 box-in p x y e =
-    let f = and-true (leb (p .x0) x && ltb x (p .x1) && leb (p .y0) y) (ltb y (p .y1)) e in
-    let g = and-true (leb (p .x0) x && ltb x (p .x1)) (leb (p .y0) y) (f .0) in
-    let h = and-true (leb (p .x0) x) (ltb x (p .x1)) (g .0) in
+    let f = both (leb (p .x0) x && ltb x (p .x1) && leb (p .y0) y) (ltb y (p .y1)) e in
+    let g = both (leb (p .x0) x && ltb x (p .x1)) (leb (p .y0) y) (f .0) in
+    let h = both (leb (p .x0) x) (ltb x (p .x1)) (g .0) in
     record {
       left = leb-true (p .x0) x (h .0);
       right = ltb-true x (p .x1) (h .1);

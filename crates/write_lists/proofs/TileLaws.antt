@@ -1,6 +1,6 @@
 -- The screen's tiles one by one: those left, checked or written from here, come to the same as all of them. Assumes nothing.
 use mathlib.Core.Path.{_≡_, refl, sym, ap, _∙_}
-use mathlib.Core.Bool.{Bool, true, false, _&&_}
+use mathlib.Core.Bool.{Bool, true, false, _&&_, and-true, and-assoc}
 use mathlib.Core.List.{List, [], _∷_}
 use Prim.Native.Nat.{ℕ, zero, suc, _+_, _*_, _/_, _≤_, _<_}
 use native.Mathlib.Nat.{zero-mul}
@@ -17,16 +17,16 @@ use Rattle.panel.specs.Paths.{pathsAnswer}
 use Rattle.panel.specs.declared.kinds.Answer.{Answer}
 use Rattle.panel.specs.declared.kinds.Answer.the-variants.{Done, Refused}
 use Rattle.panel.proofs.CheckLaws.{all-ok, unless-done}
-use Rattle.panel.proofs.PathLaws.{and-true}
+use Rattle.panel.proofs.BoolLaws.{both}
 use Rattle.commands.specs.Numbers.{tileWords}
 use Rattle.write_lists.specs.Pairs.{Tables, tilePairs}
 use Rattle.write_lists.specs.Layout.{laid, jumpsOf, ownWords, penOf, commandsOf, written}
-use Rattle.write_lists.specs.Lists.{lentChecks, callAnswer, longFrom, freshOf, slotsFit, allFit, fillsFit, wordsNamed, roomChecks, listsFrom, regionsOf, thenCheck, answerOf, listsOf, left, writeListsOf}
-use Rattle.write_lists.specs.Ready.{Ready, noWeight, weighAll, tilesAnswer, Room}
+use Rattle.write_lists.specs.Lists.{lentChecks, callAnswer, longFrom, freshOf, slotsFit, allFit, fillsFit, roomChecks, listsFrom, regionsOf, thenCheck, answerOf, listsOf, left, writeListsOf}
+use Rattle.write_lists.specs.Ready.{Ready, noWeight, weighAll, tilesAnswer, wordsNamed, Room}
 use Rattle.write_lists.specs.declared.pairs.Pair.{Pair}
 use Rattle.write_lists.specs.declared.pairs.Pair.the-variants.{Fill, Solid}
 use Rattle.write_lists.specs.declared.weigh.Weight.{Weight}
-use Rattle.write_lists.proofs.WeighLaws.{and-all, and-assoc, weighed-pairs, weighed-jumps, weighed-slots}
+use Rattle.write_lists.proofs.WeighLaws.{weighed-pairs, weighed-jumps, weighed-slots}
 use Rattle.write_lists.proofs.LayLaws.{written-append, length-written}
 
 -- ---- checked
@@ -64,7 +64,7 @@ module _ (s : Tables) (cols room n lent fresh : ℕ) (slots : Bool) where
 
   pub answer-end : tilesAnswer s cols room n lent fresh slots [] ≡ unless (firstNo (roomChecks (n + fresh) lent slots)) 0 Done
   unfolding tilesAnswer
-  answer-end = let sum : fresh + 0 ≡ fresh = omega arith in rw (sum, and-all slots)
+  answer-end = let sum : fresh + 0 ≡ fresh = omega arith in rw (sum, and-true slots)
 
 -- ---- written
 
@@ -89,7 +89,7 @@ module _ (s : Tables) (cols n : ℕ) (words₀ : List ℕ) where
         (record {
           same = length-written chunks words ∙ i .same;
           sum = omega (arith, i .sum);
-          slots = and-true (allFit mostSlots (tilePairs s cols t)) (fillsFit s cols mostSlots ts) (i .slots) .1;
+          slots = both (allFit mostSlots (tilePairs s cols t)) (fillsFit s cols mostSlots ts) (i .slots) .1;
           memory = sym (written-append chunks (listsFrom s cols next ts) words) ∙ i .memory;
         })
 
@@ -99,7 +99,7 @@ module _ (s : Tables) (cols n : ℕ) (words₀ : List ℕ) where
         record { here = omega (arith, i .same); jump = omega arith; fresh = omega (arith, i .same, i .sum); named = omega (arith, i .sum) }
 
     pub tile-slots : allFit mostSlots (tilePairs s cols t) ≡ true
-    tile-slots = and-true (allFit mostSlots (tilePairs s cols t)) (fillsFit s cols mostSlots ts) (i .slots) .0
+    tile-slots = both (allFit mostSlots (tilePairs s cols t)) (fillsFit s cols mostSlots ts) (i .slots) .0
 
 -- ---- the call
 
@@ -123,38 +123,38 @@ pub has-columns : (cols rows : ℕ) → 0 < cols * rows → 0 < cols
 has-columns zero rows h = absurd (omega (arith, zero-mul rows))
 has-columns (suc cols) rows h = omega arith
 
-then-done : (a b : Answer) → thenCheck a b ≡ Done → (a ≡ Done) × (b ≡ Done)
+-- one check after another
+pub then-done : (a b : Answer) → thenCheck a b ≡ Done → (a ≡ Done) × (b ≡ Done)
 then-done Done b e = (refl, e)
 then-done (Refused n i) b e = let z : _≡_ {A = ℕ} 0 1 = cc in absurd (omega arith)
 
 -- slots that fit a room named fit the limit
 slots-most : (room : ℕ) (p : Pair) → slotsFit room p ≡ true → slotsFit mostSlots p ≡ true
 slots-most room (Fill count rule first backdrop colour) e =
-    let f = and-true (leb (first + count) room) (leb (first + count) mostSlots) e in
+    let f = both (leb (first + count) room) (leb (first + count) mostSlots) e in
     rw (f .1)
 slots-most room (Solid colour) e = refl
 
 all-most : (room : ℕ) (ps : List Pair) → allFit room ps ≡ true → allFit mostSlots ps ≡ true
 all-most room [] e = refl
-all-most room (p ∷ ps) e = let f = and-true (slotsFit room p) (allFit room ps) e in rw (slots-most room p (f .0)) (all-most room ps (f .1))
+all-most room (p ∷ ps) e = let f = both (slotsFit room p) (allFit room ps) e in rw (slots-most room p (f .0)) (all-most room ps (f .1))
 
 fills-most : (s : Tables) (cols room : ℕ) (ts : List ℕ) → fillsFit s cols room ts ≡ true → fillsFit s cols mostSlots ts ≡ true
 fills-most s cols room [] e = refl
 fills-most s cols room (t ∷ ts) e =
-    let f = and-true (allFit room (tilePairs s cols t)) (fillsFit s cols room ts) e in
+    let f = both (allFit room (tilePairs s cols t)) (fillsFit s cols room ts) e in
     rw (all-most room (tilePairs s cols t) (f .0)) (fills-most s cols room ts (f .1))
 
 -- 15 and 9 passed
 pub tiles-ready : (s : Tables) (cols room n lent : ℕ) → tilesAnswer s cols room n lent 0 true (from 0 n) ≡ Done
-    → (tileWords * (n + freshOf s cols (from 0 n)) ≤ lent) × (tileWords * (n + freshOf s cols (from 0 n)) ≤ wordsNamed)
-    × (fillsFit s cols mostSlots (from 0 n) ≡ true)
+    → (tileWords * (n + freshOf s cols (from 0 n)) ≤ lent) × (fillsFit s cols mostSlots (from 0 n) ≡ true)
 unfolding tilesAnswer
 tiles-ready s cols room n lent e =
     let need = tileWords * (n + (0 + freshOf s cols (from 0 n))) in
     let checks = roomChecks (n + (0 + freshOf s cols (from 0 n))) lent (fillsFit s cols room (from 0 n)) in
     let d = unless-done (firstNo checks) 0 Done (then-done (longFrom s cols (from 0 n)) (unless (firstNo checks) 0 Done) e .1) in
     let c = all-ok checks (d .0) in
-    (omega (arith, leb-true need lent (c .0)), omega (arith, leb-true need wordsNamed (c .1 .0)), fills-most s cols room (from 0 n) (c .1 .1 .0))
+    (omega (arith, leb-true need lent (c .0)), fills-most s cols room (from 0 n) (c .1 .0))
 
 module _ (s : Tables) (cols rows room : ℕ) (ws : List ℕ) where
   answer-is : callAnswer s cols rows ≡ Done → answerOf s cols rows room (length ws) ≡ tilesAnswer s cols room (cols * rows) (length ws) 0 true (from 0 (cols * rows))

@@ -1,6 +1,6 @@
 -- A tile's weight, pair by pair, comes to its pairs, its JUMPs and whether its slots fit. Assumes nothing.
 use mathlib.Core.Path.{_≡_, refl, sym, ap, _∙_}
-use mathlib.Core.Bool.{Bool, true, false, _&&_}
+use mathlib.Core.Bool.{Bool, true, _&&_, and-true, and-assoc}
 use mathlib.Core.List.{List, [], _∷_, _++_}
 use Prim.Native.Nat.{ℕ, suc, _+_, _-_, _≤_, _<_}
 use native.Mathlib.Omega.{arith}
@@ -17,14 +17,6 @@ use Rattle.write_lists.specs.declared.pairs.Put.{Put}
 use Rattle.write_lists.specs.declared.pairs.Put.the-variants.{Nothing, Puts}
 use Rattle.write_lists.specs.declared.weigh.Weight.{Weight}
 use Rattle.write_lists.proofs.SizeLaws.{jump-small, left-small}
-
-pub and-all : (a : Bool) → a && true ≡ a
-and-all true = refl
-and-all false = refl
-
-pub and-assoc : (a b c : Bool) → (a && b) && c ≡ a && (b && c)
-and-assoc true b c = refl
-and-assoc false b c = refl
 
 -- one pair, by its parts
 pub weigh-is : (room : ℕ) (p : Pair) (w : Weight) (ok : Bool) (size jump here : ℕ) (within : Bool) → ok ≡ fits p (w .left) → size ≡ pairSize p
@@ -104,5 +96,5 @@ weighed-jumps room (p ∷ ps) w = weighed-jumps room ps (weighPair room p w) ∙
 
 pub weighed-slots : (room : ℕ) (ps : List Pair) (w : Weight) → weighAll room ps w .slots ≡ w .slots && allFit room ps
 unfolding weighPair
-weighed-slots room [] w = sym (and-all (w .slots))
+weighed-slots room [] w = sym (and-true (w .slots))
 weighed-slots room (p ∷ ps) w = weighed-slots room ps (weighPair room p w) ∙ and-assoc (w .slots) (slotsFit room p) (allFit room ps)

@@ -2,7 +2,7 @@
 -- Definitions only.
 use mathlib.Core.Bool.{Bool, true, cond, _&&_}
 use mathlib.Core.List.{List, [], _∷_, _++_}
-use Prim.Native.Nat.{ℕ, _+_, _*_, _/_, _%_, _^_}
+use Prim.Native.Nat.{ℕ, _+_, _*_, _/_, _%_}
 use lib.Dec.{eqb, leb}
 use lib.ListN.{length}
 use Rattle.lists.specs.Sums.{from}
@@ -63,15 +63,10 @@ abbrev pub fillsFit : Tables → ℕ → ℕ → List ℕ → Bool
 fillsFit s cols room [] = true
 fillsFit s cols room (t ∷ ts) = allFit room (tilePairs s cols t) && fillsFit s cols room ts
 
--- the words that a JUMP's operand can name
-abbrev pub wordsNamed : ℕ
-wordsNamed = 2 ^ 32
-
 -- the words of so many regions, with so many lent, and whether all FILLs' slots fit
 abbrev pub roomChecks : ℕ → ℕ → Bool → List Check
 roomChecks regions lent slots =
     check (leb (tileWords * regions) lent) noRoom
-    ∷ check (leb (tileWords * regions) wordsNamed) noRoom
     ∷ check slots noRoom
     ∷ []
 

@@ -2,7 +2,7 @@
 use mathlib.Core.Path.{_≡_}
 use mathlib.Core.Bool.{Bool, true, _&&_}
 use mathlib.Core.List.{List}
-use Prim.Native.Nat.{ℕ, _+_, _*_, _≤_}
+use Prim.Native.Nat.{ℕ, _+_, _*_, _^_, _≤_}
 use lib.ListN.{length}
 use Rattle.lists.specs.Run.{actAll}
 use Rattle.panel.specs.Widths.{paintWords}
@@ -13,7 +13,7 @@ use Rattle.panel.specs.declared.kinds.Answer.the-variants.{Done}
 use Rattle.commands.specs.Numbers.{jumpWords, tileWords}
 use Rattle.write_lists.specs.Pairs.{Tables}
 use Rattle.write_lists.specs.Layout.{fits, jumpCount, leftAfter, jumpsOf, ownWords}
-use Rattle.write_lists.specs.Lists.{slotsFit, wordsNamed, thenCheck, longFrom, freshOf, fillsFit, roomChecks}
+use Rattle.write_lists.specs.Lists.{slotsFit, thenCheck, longFrom, freshOf, fillsFit, roomChecks}
 use Rattle.write_lists.specs.declared.pairs.Pair.{Pair}
 use Rattle.write_lists.specs.declared.lay.Pen.{Pen}
 use Rattle.write_lists.specs.declared.weigh.Weight.{Weight}
@@ -44,6 +44,10 @@ weighAll room ps w = actAll (weighPair room) ps w
 unfoldable pub tilesAnswer : Tables → (cols room n lent : ℕ) → ℕ → Bool → List ℕ → Answer
 tilesAnswer s cols room n lent fresh slots ts =
     thenCheck (longFrom s cols ts) (unless (firstNo (roomChecks (n + (fresh + freshOf s cols ts)) lent (slots && fillsFit s cols room ts))) 0 Done)
+
+-- the words that a JUMP's operand can name: those of all regions are, `proofs/RegionLaws.antt`
+abbrev pub wordsNamed : ℕ
+wordsNamed = 2 ^ 32
 
 -- so many words have room for these pairs from the pen on, all nameable by a JUMP, and now for a JUMP
 pub record Room (pen : Pen) (ps : List Pair) (words : ℕ) : Type 0 where

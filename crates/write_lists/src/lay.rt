@@ -24,8 +24,8 @@ ghost use Rattle.panel.specs.Limits.{mostSlots, mostTiles};
 ghost use Rattle.commands.specs.Numbers.{endNo, jumpWords, tileWords};
 ghost use Rattle.write_lists.specs.Pairs.{tables, tilePairs, putList};
 ghost use Rattle.write_lists.specs.Layout.{pairWords, pairSize, jumpIf, turned, after, pairChunks, jumpCount, begun, penAfter, laid, jumpsOf, ownWords, penOf, written};
-ghost use Rattle.write_lists.specs.Lists.{slotsFit, allFit, wordsNamed};
-ghost use Rattle.write_lists.specs.Ready.{Ready, Room};
+ghost use Rattle.write_lists.specs.Lists.{slotsFit, allFit};
+ghost use Rattle.write_lists.specs.Ready.{Ready, Room, wordsNamed};
 
 // The word of a fresh region that a list goes on at: its first. In a tile's own region it starts at
 // LIST_START.

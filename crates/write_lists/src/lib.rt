@@ -30,11 +30,8 @@ ghost use Rattle.panel.specs.Checks.{firstNo};
 ghost use Rattle.commands.specs.Numbers.{tileWords};
 ghost use Rattle.write_lists.specs.Pairs.{tables};
 ghost use Rattle.write_lists.specs.Layout.{written};
-ghost use Rattle.write_lists.specs.Lists.{lentChecks, callAnswer, roomChecks, freshOf, fillsFit, wordsNamed, listsFrom, left, writeListsOf};
-ghost use Rattle.write_lists.specs.Ready.{Ready, tilesAnswer};
-
-// The words that a JUMP's operand can name.
-const WORDS_NAMED: u64 = 4294967296;
+ghost use Rattle.write_lists.specs.Lists.{lentChecks, callAnswer, roomChecks, freshOf, fillsFit, listsFrom, left, writeListsOf};
+ghost use Rattle.write_lists.specs.Ready.{Ready, tilesAnswer, wordsNamed};
 
 // The lengths lent: whole paths, a paint for each, equally many backdrops, stored indices and tally
 // words (1); then the screen (2).
@@ -101,9 +98,6 @@ fn check_room(regions: u64, lent: usize, slots: bool) -> Verdict
 {
     let need = TILE_WORDS as u64 * regions;
     if need > lent as u64 {
-        return Verdict::Against(NO_ROOM);
-    }
-    if need > WORDS_NAMED {
         return Verdict::Against(NO_ROOM);
     }
     if !slots {

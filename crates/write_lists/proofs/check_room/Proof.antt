@@ -11,13 +11,10 @@ returns : tie.Need-returns
 returns c = rw (lt-leb _ _ (c .if1 .taken))
 
 returns-2 : tie.Need-returns-2
-returns-2 c = rw (le-leb _ _ (c .before .if1 .left), lt-leb _ _ (c .if2 .taken))
+returns-2 c = rw (le-leb _ _ (c .before .if1 .left), not-true (c .before .before .args .slots) (c .if2 .taken))
 
 returns-3 : tie.Need-returns-3
-returns-3 c = rw (le-leb _ _ (c .before .before .if1 .left), le-leb _ _ (c .before .if2 .left), not-true (c .before .before .before .args .slots) (c .if3 .taken))
-
-returns-4 : tie.Need-returns-4
-returns-4 c = rw (le-leb _ _ (c .before .before .if1 .left), le-leb _ _ (c .before .if2 .left), not-false (c .before .before .before .args .slots) (c .if3 .left))
+returns-3 c = rw (le-leb _ _ (c .before .if1 .left), not-false (c .before .before .args .slots) (c .if2 .left))
 
 pub check-room-spec : {M : Type 1} → statement M
-check-room-spec = tie.close (tie.spec mul-need returns returns-2 returns-3 returns-4)
+check-room-spec = tie.close (tie.spec mul-need returns returns-2 returns-3)

@@ -12,6 +12,7 @@ use Rattle.write_lists.specs.Pairs.{tables}
 use Rattle.write_lists.specs.Lists.{callAnswer}
 use Rattle.write_lists.specs.Ready.{tilesAnswer}
 use Rattle.write_lists.proofs.TileLaws.{call-ready, has-columns, tiles-ready, call-no, tiles-no, call-done}
+use Rattle.write_lists.proofs.RegionLaws.{regions-named}
 use Rattle.write_lists.proofs.write_lists.Statement.{statement}
 use Rattle.write_lists.proofs.write_lists.Tie as tie
 
@@ -68,7 +69,7 @@ lay-tiles-requires c κs =
     let n = a .cols * a .rows in
     let fits : tilesAnswer s (a .cols) (a .room) n (length (a .words .now)) 0 true (from 0 n) ≡ Done = sym (c .before .before .before .check-tiles .ensures) ∙ c .before .enum-told3 .given .1 in
     let r = tiles-ready s (a .cols) (a .room) n (length (a .words .now)) fits in
-    (z .0, z .1, has-columns (a .cols) (a .rows), r .0, r .1, r .2)
+    (z .0, z .1, has-columns (a .cols) (a .rows), r .0, regions-named s (a .cols) (a .rows) done, r .1)
 
 same-length : tie.Need-same-length
 same-length c = search needs

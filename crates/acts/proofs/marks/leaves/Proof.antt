@@ -9,7 +9,8 @@ use mir.Syntax.{w32}
 use mir.Val.{SFits, toZ, ofZ}
 use mir.Facts.{toZ-ofZ}
 use borrow.Author.Tests.{eqb-true, eqb-false}
-use Rattle.acts.specs.Acts.{inI32, deltaOf}
+use Rattle.panel.specs.Signed.{inI32}
+use Rattle.acts.specs.Acts.{deltaOf}
 use Rattle.acts.proofs.Signs.{up-in, down-in}
 use Rattle.acts.proofs.marks.leaves.Statement.{statement}
 use Rattle.acts.proofs.marks.leaves.Tie as tie

@@ -10,8 +10,9 @@ use mir.Syntax.{w32}
 use mir.Val.{SFits, toZ, ofZ}
 use mir.Facts.{toZ-ofZ}
 use borrow.Author.Needs.{needs}
-use Rattle.acts.specs.Acts.{inI32, deltaOf}
-use Rattle.acts.proofs.Signs.{in-fits}
+use Rattle.panel.specs.Signed.{inI32}
+use Rattle.acts.specs.Acts.{deltaOf}
+use Rattle.panel.proofs.SignLaws.{in-fits}
 use Rattle.acts.proofs.marks.mark.Statement.{statement}
 use Rattle.acts.proofs.marks.mark.Tie as tie
 use Rattle.acts.proofs.marks.mark.Reads as reads

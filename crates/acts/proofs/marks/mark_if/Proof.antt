@@ -13,8 +13,9 @@ use lib.Signed.{mag}
 use mir.Syntax.{w32}
 use mir.Val.{SFits, toZ, ofZ}
 use mir.Facts.{toZ-ofZ}
-use Rattle.acts.specs.Acts.{inI32, deltaOf}
-use Rattle.acts.proofs.Signs.{in-fits}
+use Rattle.panel.specs.Signed.{inI32}
+use Rattle.acts.specs.Acts.{deltaOf}
+use Rattle.panel.proofs.SignLaws.{in-fits}
 use borrow.Author.Needs.{needs}
 use Rattle.acts.proofs.marks.mark_if.Statement.{statement}
 use Rattle.acts.proofs.marks.mark_if.Tie as tie

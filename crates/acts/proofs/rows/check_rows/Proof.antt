@@ -9,7 +9,8 @@ use lib.ListN.{length, getD}
 use lib.IntN.{pos, _+ℤ_}
 use borrow.Author.Needs.{needs}
 use Rattle.panel.specs.Refusals.{sumOver}
-use Rattle.acts.specs.Acts.{checkNo, rowActs, inI32, deltaOf}
+use Rattle.panel.specs.Signed.{inI32}
+use Rattle.acts.specs.Acts.{checkNo, rowActs, deltaOf}
 use Rattle.acts.proofs.Laws.{row-below, row-leaves, row-stays, rows-turn, rows-end, check-goes, check-stops, check-ends}
 use Rattle.acts.proofs.Signs.{told}
 use Rattle.acts.proofs.rows.check_rows.Statement.{statement}

@@ -9,7 +9,8 @@ use native.Mathlib.Omega.{arith}
 use lib.ListN.{length, getD}
 use lib.IntN.{pos, _+ℤ_}
 use borrow.Author.Needs.{needs}
-use Rattle.acts.specs.Acts.{runActs, rowActs, stOf, isDone, inI32, deltaOf}
+use Rattle.panel.specs.Signed.{inI32}
+use Rattle.acts.specs.Acts.{runActs, rowActs, stOf, isDone, deltaOf}
 use Rattle.acts.proofs.Laws.{row-below, mark-ok, mark-done, rows-turn, rows-end, run-goes, run-first, run-ends}
 use Rattle.acts.proofs.rows.write_rows.Statement.{statement}
 use Rattle.acts.proofs.rows.write_rows.Tie as tie

@@ -1,7 +1,7 @@
 -- `backdrop::rows::calm` meets its contract. The loop's invariant: those passed are calm, and those left, exactly where all are.
 -- Assumes nothing.
 use mathlib.Core.Path.{_≡_, refl, sym, _∙_}
-use mathlib.Core.Bool.{_&&_}
+use mathlib.Core.Bool.{_&&_, and-true, and-assoc}
 use Prim.Native.Nat.{_≤_, _-_, _+_}
 use native.Mathlib.Omega.{arith}
 use borrow.Author.Needs.{needs}
@@ -10,7 +10,7 @@ use mir.Val.{SFits}
 use mir.Facts.{toZ-ofZ}
 use Rattle.backdrop.specs.Backdrop.{backdropAt}
 use Rattle.backdrop.specs.Calm.{calmOne, calmFrom}
-use Rattle.backdrop.proofs.CalmLaws.{and-shift, and-all, calm-turn, calm-end}
+use Rattle.backdrop.proofs.CalmLaws.{calm-turn, calm-end}
 use Rattle.backdrop.proofs.rows.calm.Statement.{statement}
 use Rattle.backdrop.proofs.rows.calm.Tie as tie
 
@@ -43,13 +43,13 @@ loop-again c =
     let b = backdropAt bs (l .i) in
     let g : SFits w32 b = record { sfits = c .b .given } in
     let turn = calm-turn bs (a .end) (l .i) (c .before .loop-test .taken) in
-    (omega arith, rw (toZ-ofZ g) (and-shift (l .ok) (calmOne b) (calmFrom (a .end - (l .i + 1)) (l .i + 1) bs) ∙ rw (← turn) (l .inv .1)))
+    (omega arith, rw (toZ-ofZ g) (and-assoc (l .ok) (calmOne b) (calmFrom (a .end - (l .i + 1)) (l .i + 1) bs) ∙ rw (← turn) (l .inv .1)))
 
 returns : tie.Need-returns Inv-loop μ-loop
 returns c =
     let l = c .before .loop in
     let a = c .before .before .args in
-    sym (and-all (l .ok)) ∙ rw (calm-end (a .backdrops .now) (a .end) (l .i) (c .loop-test .left)) at (l .inv .1)
+    sym (and-true (l .ok)) ∙ rw (calm-end (a .backdrops .now) (a .end) (l .i) (c .loop-test .left)) at (l .inv .1)
 
 pub calm-spec : {M : Type 1} → statement M
 calm-spec =

@@ -9,8 +9,10 @@ use borrow.Author.Tests.{not-true, not-false}
 use lib.IntN.{pos, _+ℤ_}
 use mir.Syntax.{w32, w64}
 use mir.Val.{SFits, toZ}
-use Rattle.backdrop.specs.Backdrop.{inI32, backdropAt, rowFits}
-use Rattle.backdrop.proofs.RowLaws.{in-fits, read-fits, added-fits, added, fits-turn, fits-end}
+use Rattle.panel.specs.Signed.{inI32}
+use Rattle.backdrop.specs.Backdrop.{backdropAt, rowFits}
+use Rattle.panel.proofs.SignLaws.{in-fits}
+use Rattle.backdrop.proofs.RowLaws.{read-fits, added-fits, added, fits-turn, fits-end}
 use Rattle.backdrop.proofs.rows.row_fits.Statement.{statement}
 use Rattle.backdrop.proofs.rows.row_fits.Tie as tie
 

@@ -9,7 +9,7 @@ use borrow.Author.Needs.{needs}
 use lib.IntN.{pos}
 use lib.ListN.{length}
 use Rattle.panel.specs.Paths.{widthOf, heightOf}
-use Rattle.panel.proofs.PathLaws.{and-true}
+use Rattle.panel.proofs.BoolLaws.{both}
 use Rattle.backdrop.specs.Backdrop.{rowFits, rowSums, rowsFit, rowsSums}
 use Rattle.backdrop.proofs.RowLaws.{rows-fit-turn, next-fits, rows-turn, rows-end, rows-left, length-row}
 use Rattle.backdrop.proofs.rows.sum_path.Statement.{statement}
@@ -59,7 +59,7 @@ sum-row-requires c κs =
     let p = c .before .before .before .before .before .before .args .p in
     let left = rows-left bs (widthOf p) (heightOf p) (l .y) (l .at) (omega arith) in
     let wide : l .at + widthOf p - l .at ≡ widthOf p = omega arith in
-    let fine = and-true (rowFits (widthOf p) (l .at) (pos 0) bs) (rowsFit (heightOf p - (l .y + 1)) (widthOf p) (l .at + widthOf p) bs) (sym (rows-fit-turn bs (widthOf p) (heightOf p) (l .y) (l .at) (omega arith)) ∙ l .inv .3) in
+    let fine = both (rowFits (widthOf p) (l .at) (pos 0) bs) (rowsFit (heightOf p - (l .y + 1)) (widthOf p) (l .at + widthOf p) bs) (sym (rows-fit-turn bs (widthOf p) (heightOf p) (l .y) (l .at) (omega arith)) ∙ l .inv .3) in
     (omega arith, omega (arith, left), rw wide (fine .0))
 
 add-y : tie.Need-add-y Inv-loop μ-loop
@@ -75,7 +75,7 @@ loop-again c =
     let p = c .before .before .before .before .before .before .before .before .args .p in
     let left = rows-left bs (widthOf p) (heightOf p) (l .y) (l .at) (omega arith) in
     let wide : l .at + widthOf p - l .at ≡ widthOf p = omega arith in
-    let fine = and-true (rowFits (widthOf p) (l .at) (pos 0) bs) (rowsFit (heightOf p - (l .y + 1)) (widthOf p) (l .at + widthOf p) bs) (sym (rows-fit-turn bs (widthOf p) (heightOf p) (l .y) (l .at) (omega arith)) ∙ l .inv .3) in
+    let fine = both (rowFits (widthOf p) (l .at) (pos 0) bs) (rowsFit (heightOf p - (l .y + 1)) (widthOf p) (l .at + widthOf p) bs) (sym (rows-fit-turn bs (widthOf p) (heightOf p) (l .y) (l .at) (omega arith)) ∙ l .inv .3) in
     let after : c .before .sum-row .last .0 ≡ rowSums (widthOf p) (l .at) (pos 0) bs = c .before .sum-row .ensures ∙ rw wide in
     let len = length-row (widthOf p) (l .at) (pos 0) bs in
     rw after

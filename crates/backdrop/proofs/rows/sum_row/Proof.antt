@@ -9,9 +9,11 @@ use lib.IntN.{pos, _+ℤ_}
 use lib.ListN.{length, length-set}
 use mir.Syntax.{w32}
 use mir.Val.{SFits, toZ}
-use Rattle.panel.proofs.PathLaws.{and-true}
-use Rattle.backdrop.specs.Backdrop.{inI32, backdropAt, rowFits, rowSums}
-use Rattle.backdrop.proofs.RowLaws.{in-fits, summed-fits, summed, fits-turn, fits-past, sums-turn, sums-end}
+use Rattle.panel.proofs.BoolLaws.{both}
+use Rattle.panel.specs.Signed.{inI32}
+use Rattle.backdrop.specs.Backdrop.{backdropAt, rowFits, rowSums}
+use Rattle.panel.proofs.SignLaws.{in-fits}
+use Rattle.backdrop.proofs.RowLaws.{summed-fits, summed, fits-turn, fits-past, sums-turn, sums-end}
 use Rattle.backdrop.proofs.rows.sum_row.Statement.{statement}
 use Rattle.backdrop.proofs.rows.sum_row.Tie as tie
 
@@ -40,7 +42,7 @@ add-sum c =
     let s = toZ w32 (l .sum) in
     let end = c .before .before .before .args .end in
     let g : SFits w32 b = record { sfits = c .sum .given } in
-    let now-fits = and-true (inI32 (s +ℤ b)) (rowFits (end - (l .i + 1)) (l .i + 1) (s +ℤ b) bs) (sym (fits-turn bs end (l .i) s (c .before .loop-test .taken)) ∙ l .inv .3) in
+    let now-fits = both (inI32 (s +ℤ b)) (rowFits (end - (l .i + 1)) (l .i + 1) (s +ℤ b) bs) (sym (fits-turn bs end (l .i) s (c .before .loop-test .taken)) ∙ l .inv .3) in
     summed-fits s b g (now-fits .0)
 
 mul-sum-2 : tie.Need-mul-sum-2 Inv-loop μ-loop
@@ -63,7 +65,7 @@ loop-again c =
     let s = toZ w32 (l .sum) in
     let end = c .before .before .before .args .end in
     let g : SFits w32 b = record { sfits = c .sum .given } in
-    let now-fits = and-true (inI32 (s +ℤ b)) (rowFits (end - (l .i + 1)) (l .i + 1) (s +ℤ b) bs) (sym (fits-turn bs end (l .i) s (c .before .loop-test .taken)) ∙ l .inv .3) in
+    let now-fits = both (inI32 (s +ℤ b)) (rowFits (end - (l .i + 1)) (l .i + 1) (s +ℤ b) bs) (sym (fits-turn bs end (l .i) s (c .before .loop-test .taken)) ∙ l .inv .3) in
     rw (summed s b g (now-fits .0))
     (omega arith, in-fits (s +ℤ b) (now-fits .0), length-set bs (l .i) (s +ℤ b) ∙ l .inv .2, fits-past (end - (l .i + 1)) (l .i) (s +ℤ b) (s +ℤ b) bs ∙ now-fits .1, sym (sums-turn bs end (l .i) s (c .before .loop-test .taken)) ∙ l .inv .4)
 

@@ -10,7 +10,8 @@ use borrow.Author.Needs.{needs}
 use Rattle.panel.specs.declared.kinds.Verdict.{Verdict}
 use Rattle.walk.specs.Step.{stepOf}
 use Rattle.walk.specs.declared.step.Step.the-variants.{Tile}
-use Rattle.acts.specs.Acts.{on, inI32, deltaOf, checkNo, stepActs}
+use Rattle.panel.specs.Signed.{inI32}
+use Rattle.acts.specs.Acts.{on, deltaOf, checkNo, stepActs}
 use Rattle.acts.proofs.Signs.{told}
 use Rattle.acts.proofs.Laws.{check-off, check-full, check-passes}
 use Rattle.path_count.specs.Steps.{hitAt, zOf, wordOf, notedOf, notedBy}

@@ -3,7 +3,8 @@ use Prim.Native.Nat.{_+_, _-_, _≤_, _<_, _^_}
 use borrow.Author.Needs.{needs}
 use borrow.Author.Tests.{lt-ltb, le-ltb}
 use native.Mathlib.Omega.{arith}
-use Rattle.path_tiling.specs.Look.{handedFrom, slotOf, wordTo}
+use Rattle.panel.specs.Slots.{slotOf}
+use Rattle.path_tiling.specs.Look.{wordTo}
 use Rattle.path_tiling.proofs.look.look_word.Statement.{statement}
 use Rattle.path_tiling.proofs.look.look_word.Tie as tie
 

@@ -4,7 +4,7 @@ use mathlib.Core.Bool.{true}
 use mathlib.Core.List.{List, [], _∷_}
 use lib.ListN.{length}
 use Rattle.panel.specs.Limits.{mostSlots}
-use Rattle.panel.proofs.PathLaws.{and-true}
+use Rattle.panel.proofs.BoolLaws.{both}
 use Rattle.write_lists.specs.Pairs.{putList}
 use Rattle.write_lists.specs.Lists.{allFit}
 use Rattle.write_lists.specs.Ready.{Room}
@@ -26,7 +26,7 @@ lay-pair-requires c κs =
     let e : putList (a .put) ≡ _ ∷ [] = ap putList (c .before .before .put .given .1) in
     let r = subst (λ (l : List Pair). Room (a .pen) l (length (a .words .now))) e (c .before .before .before .before .before .pre .0) in
     let f = subst (λ (l : List Pair). allFit mostSlots l ≡ true) e (c .before .before .before .before .before .pre .1) in
-    (r, and-true _ true f .0)
+    (r, both _ true f .0)
 
 returns : tie.Need-returns
 returns c = search needs
