@@ -1,5 +1,6 @@
 -- backdrop.rs: running sums along the tile rows of each path, over the whole numbers, and where they leave i32. docs/RULES.md, refusal 11.
 -- Definitions only.
+use mathlib.Core.Path.{_≡_}
 use mathlib.Core.Bool.{Bool, true, cond, _&&_}
 use mathlib.Core.List.{List}
 use Prim.Native.Nat.{ℕ, zero, suc, _+_}
@@ -63,3 +64,7 @@ onDone (Refused n item) bs next = outOf (Refused n item) bs
 
 unfoldable pub backdropOf : List ℕ → List ℤ → Out
 backdropOf ws bs = onDone (pathsAnswer ws (length bs)) bs (sumPaths ws (pathCount ws) 0 bs)
+
+-- the call's promise: the answer r and the backdrops afterwards are these
+abbrev pub BackdropMet : (paths : List ℕ) (bs : List ℤ) → Answer → (bs′ : List ℤ) → Type 0
+BackdropMet paths bs r bs′ = outOf r bs′ ≡ backdropOf paths bs

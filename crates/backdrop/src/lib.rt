@@ -4,7 +4,7 @@ ghost use mathlib.Core.Path.{_≡_};
 ghost use lib.ListN.{length};
 ghost use Rattle.panel.specs.Paths.{pathCount, pathsAnswer};
 ghost use Rattle.panel.specs.declared.kinds.Answer.the-variants.{Done};
-ghost use Rattle.backdrop.specs.Backdrop.{outOf, sumPaths, backdropOf};
+ghost use Rattle.backdrop.specs.Backdrop.{outOf, sumPaths, BackdropMet};
 use panel::checks::check_paths;
 use panel::checks::path_at;
 use panel::kinds::Answer;
@@ -31,7 +31,7 @@ fn sum_paths(paths: &[u32], n: u32, backdrops: &mut [i32]) -> Answer
 }
 
 pub fn backdrop(paths: &[u32], backdrops: &mut [i32]) -> Answer
-    ensures { λ r. ⌜ outOf r (now (backdrops .exit)) ≡ backdropOf (now (paths .entry)) (now (backdrops .entry)) ⌝ }
+    ensures { λ r. ⌜ BackdropMet (now (paths .entry)) (now (backdrops .entry)) r (now (backdrops .exit)) ⌝ }
 {
     let a = check_paths(paths, backdrops.len());
     let Answer::Done = a else {

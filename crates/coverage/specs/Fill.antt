@@ -1,4 +1,5 @@
 -- The public call of coverage: refusals 1 and 13, then the coverage of a tile's pixels. Definitions only.
+use mathlib.Core.Path.{_≡_}
 use mathlib.Core.Bool.{Bool}
 use mathlib.Core.List.{List, [], _∷_}
 use Prim.Native.Nat.{ℕ, _+_, _/_, _%_}
@@ -39,3 +40,7 @@ unfoldable pub fillOf : List Float → ℕ → ℕ → Bool → ℤ → Float �
 fillOf segments first n even-odd backdrop x-tile y-tile area =
     let v = firstNo (fillChecks (length segments) (length area) first n) in
     filled (unless v 0 Done) (ifFine v (coverageOf segments first n even-odd backdrop x-tile y-tile) area)
+
+-- the call's promise: the answer r and the area afterwards are these
+abbrev pub FillMet : List Float → ℕ → ℕ → Bool → ℤ → Float → Float → (area : List Float) → Answer → (area′ : List Float) → Type 0
+FillMet segments first n even-odd backdrop x-tile y-tile area r area′ = filled r area′ ≡ fillOf segments first n even-odd backdrop x-tile y-tile area

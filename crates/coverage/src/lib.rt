@@ -14,7 +14,7 @@ use panel::widths::SEGMENT_FLOATS;
 use tile::TILE_SIZE;
 ghost use mathlib.Core.Path.{_≡_};
 ghost use Rattle.panel.specs.Checks.{firstNo};
-ghost use Rattle.coverage.specs.Fill.{fillChecks, filled, fillOf};
+ghost use Rattle.coverage.specs.Fill.{fillChecks, FillMet};
 
 // What is checked first: whole segments and an area of a tile's size (1), then the fill's segments
 // (13), their sum in 64 bits.
@@ -47,7 +47,7 @@ pub fn fill(
     y_tile: f32,
     area: &mut [f32],
 ) -> Answer
-    ensures { λ r. ⌜ filled r (now (area .exit)) ≡ fillOf (now (segments .entry)) first number «even_odd» backdrop «x_tile» «y_tile» (now (area .entry)) ⌝ }
+    ensures { λ r. ⌜ FillMet (now (segments .entry)) first number «even_odd» backdrop «x_tile» «y_tile» (now (area .entry)) r (now (area .exit)) ⌝ }
 {
     let v = check_fill(segments.len(), area.len(), first, number);
     if let Verdict::Against(no) = v {

@@ -1,4 +1,5 @@
 -- The public call: refusals 1, 2 and 16, then the tiles of a range in order, up to the first that is refused. Definitions only.
+use mathlib.Core.Path.{_≡_}
 use mathlib.Core.List.{List, [], _∷_}
 use Prim.Native.Nat.{ℕ, _-_, _*_, _/_, _%_}
 use lib.Dec.{eqb, leb}
@@ -66,3 +67,7 @@ unlessNo (Against n) pixels next = shown (Refused n 0) pixels
 unfoldable pub fineOf : List ℕ → List Float → ℕ → ℕ → ℕ → ℕ → ℕ → List ℕ → Shown
 fineOf words segments width cols rows from to pixels =
     unlessNo (firstNo (fineChecks (length segments) width cols rows from to (length pixels))) pixels (shownOf (tilesOf words segments width cols from to pixels))
+
+-- the call's promise: the answer r and the pixels afterwards are these
+abbrev pub FineMet : List ℕ → List Float → ℕ → ℕ → ℕ → ℕ → ℕ → (pixels : List ℕ) → Answer → (pixels′ : List ℕ) → Type 0
+FineMet words segments width cols rows from to pixels r pixels′ = shown r pixels′ ≡ fineOf words segments width cols rows from to pixels

@@ -14,7 +14,7 @@ use panel::widths::SEGMENT_FLOATS;
 use screen::tiles;
 ghost use mathlib.Core.Path.{_≡_};
 ghost use Rattle.panel.specs.Checks.{firstNo};
-ghost use Rattle.fine.specs.Fine.{fineChecks, shown, fineOf};
+ghost use Rattle.fine.specs.Fine.{fineChecks, FineMet};
 
 // What is checked first: whole segments and a range of screen tiles (1), not too many of those (2),
 // then the width and the pixels (16). 16 * width * rows can pass 64 bits, so the pixels are divided.
@@ -63,7 +63,7 @@ pub fn fine(
     to: u32,
     pixels: &mut [u32],
 ) -> Answer
-    ensures { λ r. ⌜ shown r (now (pixels .exit)) ≡ fineOf (now (words .entry)) (now (segments .entry)) width cols rows from to (now (pixels .entry)) ⌝ }
+    ensures { λ r. ⌜ FineMet (now (words .entry)) (now (segments .entry)) width cols rows from to (now (pixels .entry)) r (now (pixels .exit)) ⌝ }
 {
     let v = check_screen(segments.len(), width, cols, rows, from, to, pixels.len());
     if let Verdict::Against(no) = v {

@@ -1,4 +1,5 @@
 -- One call for a frame: the stages' own definitions one after another, up to the first that refuses. docs/RULES.md, "A frame". Definitions only.
+use mathlib.Core.Path.{_≡_}
 use mathlib.Core.List.{List, [], _∷_}
 use Prim.Native.Nat.{ℕ, _/_, _%_}
 use lib.Dec.{eqb}
@@ -119,3 +120,8 @@ unfoldable pub frameOf : (nos : List ℕ) (coords : List Float) (paths : List �
 frameOf nos coords paths backs tiles tally refs segs =
     goOn (checksOf nos coords paths backs tiles tally refs segs) Stage.Lent (runningOf 0 0) (λ f. outOf f backs tiles tally refs segs)
     (drawnOf nos coords paths backs tiles tally refs segs)
+
+-- the call's promise: the answer r, and all that was lent to be changed as it is afterwards, are these
+abbrev pub FrameMet : (nos : List ℕ) (coords : List Float) (paths : List ℕ) (bs : List ℤ) (ts ks rs : List ℕ) (sg : List Float) → Framed
+    → (bs′ : List ℤ) (ts′ ks′ rs′ : List ℕ) (sg′ : List Float) → Type 0
+FrameMet nos coords paths bs ts ks rs sg r bs′ ts′ ks′ rs′ sg′ = outOf r bs′ ts′ ks′ rs′ sg′ ≡ frameOf nos coords paths bs ts ks rs sg

@@ -1,7 +1,7 @@
 // The public call, which asks nothing of its caller.
 ghost use mathlib.Core.Path.{_≡_};
 ghost use Rattle.panel.specs.Checks.{firstNo};
-ghost use Rattle.frame.specs.Frame.{outOf, lentChecks, frameOf};
+ghost use Rattle.frame.specs.Frame.{lentChecks, FrameMet};
 use super::kinds::Framed;
 use super::kinds::Stage;
 use super::stages::draw;
@@ -59,8 +59,8 @@ pub fn frame(
     refs: &mut [u32],
     segments: &mut [f32],
 ) -> Framed
-    ensures { λ r. ⌜ outOf r (now (backdrops .exit)) (now (tiles .exit)) (now (tally .exit)) (now (refs .exit)) (now (segments .exit))
-        ≡ frameOf (now («path_nos» .entry)) (now (coords .entry)) (now (paths .entry)) (now (backdrops .entry)) (now (tiles .entry)) (now (tally .entry)) (now (refs .entry)) (now (segments .entry)) ⌝ }
+    ensures { λ r. ⌜ FrameMet (now («path_nos» .entry)) (now (coords .entry)) (now (paths .entry)) (now (backdrops .entry)) (now (tiles .entry)) (now (tally .entry)) (now (refs .entry)) (now (segments .entry))
+        r (now (backdrops .exit)) (now (tiles .exit)) (now (tally .exit)) (now (refs .exit)) (now (segments .exit)) ⌝ }
 {
     let none = Running { lines: 0, refs: 0 };
     let v = check_lent(

@@ -1,5 +1,6 @@
 -- What a caller sees of a frame, and the same read off what its definition leaves. Definitions only.
 use Prim.Native.Nat.{ℕ}
+use mathlib.Core.Path.{_≡_}
 use mathlib.Core.List.{List, [], _∷_}
 use lib.IntN.{ℤ}
 use lib.Ieee.{Float}
@@ -61,3 +62,9 @@ frameLent t bs ts ks rs sg = record { told = t; backs = bs; tiles = ts; tally = 
 
 abbrev pub frameSeen : Frame.Out → FrameSeen
 frameSeen o = frameLent (toldOn (o .paper)) (o .backs) (o .tiles) (o .tally) (o .refs) (o .segments)
+
+-- the call's promise: what a caller sees is what the frame's definition leaves
+abbrev pub GpFrameMet : (nos : List ℕ) (coords : List Float) (paths : List ℕ) (bs : List ℤ) (ts ks rs : List ℕ) (sg : List Float) → ℕ → ℕ → ℕ → ℕ → ℕ
+    → (bs′ : List ℤ) (ts′ ks′ rs′ : List ℕ) (sg′ : List Float) → Type 0
+GpFrameMet nos coords paths bs ts ks rs sg r stage item lines made bs′ ts′ ks′ rs′ sg′ =
+    frameLent (toldOf r stage item lines made) bs′ ts′ ks′ rs′ sg′ ≡ frameSeen (Frame.frameOf nos coords paths bs ts ks rs sg)

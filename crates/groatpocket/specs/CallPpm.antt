@@ -1,10 +1,12 @@
 -- What a caller sees of the picture's writer and reader, and the same read off what their definitions leave. Definitions only.
 use Prim.Native.Nat.{ℕ}
+use mathlib.Core.Path.{_≡_}
 use mathlib.Core.List.{List, [], _∷_}
 use Rattle.panel.specs.Refusals.{doneNo}
-use Rattle.ppm_write.specs.Write.{Left}
+use Rattle.ppm_write.specs.Write.{Left, writeOf}
 use Rattle.ppm_write.specs.declared.Written.{Written}
 use Rattle.ppm_write.specs.declared.Written.the-variants.{Done as Wrote, Refused as NotWritten}
+use Rattle.ppm_read.specs.Read.{readOf}
 use Rattle.ppm_read.specs.declared.Answer.{Answer}
 use Rattle.ppm_read.specs.declared.Answer.the-variants.{Done as Read, Refused as NotRead}
 use Rattle.groatpocket.specs.Seen.{no, item, SeenAt, seenAt}
@@ -21,6 +23,10 @@ wroteSize (NotWritten n) = 0
 
 abbrev pub writeSeen : Left → SeenAt (List ℕ)
 writeSeen l = seenAt (no (l .answer)) (item (l .answer)) (l .bytes)
+
+-- its promise: what a caller sees is what the writer's definition leaves
+abbrev pub GpWriteMet : List ℕ → ℕ → ℕ → (out : List ℕ) → ℕ → ℕ → (out′ : List ℕ) → Type 0
+GpWriteMet pixels w h out r size out′ = seenAt r size out′ ≡ writeSeen (writeOf pixels w h out)
 
 -- ---- the reader: its number, the width and the height, and the bytes lent
 
@@ -54,3 +60,7 @@ readPaper (n ∷ w ∷ h ∷ more) bs = readLent n w h bs
 
 abbrev pub readSeen : Left → ReadSeen
 readSeen l = readPaper (l .answer) (l .bytes)
+
+-- its promise: what a caller sees is what the reader's definition leaves
+abbrev pub GpReadMet : (file out : List ℕ) → ℕ → ℕ → ℕ → (out′ : List ℕ) → Type 0
+GpReadMet file out r w h out′ = readLent r w h out′ ≡ readSeen (readOf file out)

@@ -1,17 +1,22 @@
 -- For each call: what a caller sees of it, and the same read off what the stage's definition leaves. Definitions only.
 use Prim.Native.Nat.{ℕ}
+use mathlib.Core.Path.{_≡_}
+use mathlib.Core.Bool.{not}
 use mathlib.Core.List.{List, [], _∷_}
+use lib.Dec.{eqb}
 use lib.IntN.{ℤ}
 use lib.Ieee.{Float}
 use Rattle.coverage.specs.Fill as Fill
 use Rattle.fine.specs.Fine as Fine
 use Rattle.backdrop.specs.Backdrop as Backdrop
 use Rattle.hand_out.specs.HandOut as HandOut
+use Rattle.path_tiling.specs.Look.{Lent}
 use Rattle.path_tiling.specs.Tiling as Tiling
 use Rattle.path_count.specs.Count as Count
 use Rattle.path_count.specs.declared.kinds.Counted.{Counted}
 use Rattle.path_count.specs.declared.kinds.Counted.the-variants.{Done, Refused}
 use Rattle.panel.specs.Refusals.{doneNo}
+use Rattle.panel.specs.Kinds.{runningOf}
 use Rattle.panel.specs.declared.kinds.Running.{Running}
 use Rattle.groatpocket.specs.Seen.{no, item, Seen, seen, SeenAt, seenAt}
 
@@ -74,3 +79,26 @@ countPaper (n ∷ i ∷ l ∷ m ∷ more) bs cs rs = countLent n i l m bs cs rs
 
 abbrev pub countSeen : Count.Told → CountSeen
 countSeen t = countPaper (t .paper) (t .backs) (t .counts) (t .refs)
+
+-- ---- the promises of these calls: what a caller sees is what the stage's definition leaves
+
+-- even-odd where the flag isn't 0
+abbrev pub GpFillMet : List Float → ℕ → ℕ → ℕ → ℤ → Float → Float → (area : List Float) → ℕ → (area′ : List Float) → Type 0
+GpFillMet segs first n flag backdrop x y area r area′ = seen r area′ ≡ fillSeen (Fill.fillOf segs first n (not (eqb flag 0)) backdrop x y area)
+
+abbrev pub GpBackdropMet : (paths : List ℕ) (bs : List ℤ) → ℕ → ℕ → (bs′ : List ℤ) → Type 0
+GpBackdropMet paths bs r at bs′ = seenAt r at bs′ ≡ backdropSeen (Backdrop.backdropOf paths bs)
+
+abbrev pub GpHandMet : ℕ → (ns kept : List ℕ) → ℕ → (ns′ kept′ : List ℕ) → Type 0
+GpHandMet room ns kept r ns′ kept′ = handed r ns′ kept′ ≡ handSeen (HandOut.handOutOf room ns kept)
+
+abbrev pub GpTileMet : ℕ → ℕ → Lent → (segs : List Float) → ℕ → ℕ → (segs′ : List Float) → Type 0
+GpTileMet from to L segs r at segs′ = seenAt r at segs′ ≡ tileSeen (Tiling.tiledOf from to L segs)
+
+abbrev pub GpFineMet : List ℕ → List Float → ℕ → ℕ → ℕ → ℕ → ℕ → (pixels : List ℕ) → ℕ → ℕ → (pixels′ : List ℕ) → Type 0
+GpFineMet words segs width cols rows from to pixels r at pixels′ = seenAt r at pixels′ ≡ fineSeen (Fine.fineOf words segs width cols rows from to pixels)
+
+-- from the lines and references so far, l and m, to those afterwards, l′ and m′
+abbrev pub GpCountMet : ℕ → ℕ → ℕ → (nos : List ℕ) (coords : List Float) (paths : List ℕ) (bs : List ℤ) (cs rs : List ℕ) → ℕ → ℕ → ℕ → ℕ → (bs′ : List ℤ) (cs′ rs′ : List ℕ) → Type 0
+GpCountMet l m end nos coords paths bs cs rs r at l′ m′ bs′ cs′ rs′ =
+    countLent r at l′ m′ bs′ cs′ rs′ ≡ countSeen (Count.counted (runningOf l m) end nos coords paths bs cs rs)

@@ -3,9 +3,7 @@ use panel::kinds::Running;
 use panel::refusals::DONE;
 use path_count::Counted;
 ghost use mathlib.Core.Path.{_≡_};
-ghost use Rattle.panel.specs.Kinds.{runningOf};
-ghost use Rattle.path_count.specs.Count.{counted};
-ghost use Rattle.groatpocket.specs.Calls.{numberOn, itemOn, runningOn, countLent, countSeen};
+ghost use Rattle.groatpocket.specs.Calls.{numberOn, itemOn, runningOn, GpCountMet};
 
 // The number that an answer has on paper, the item's, and the running numbers.
 fn number_of(c: Counted) -> u32
@@ -48,9 +46,9 @@ pub extern "C" fn gp_count(
     made: &mut u32,
     at: &mut u32,
 ) -> u32
-    ensures { λ r. ⌜ countLent r (now (at .exit)) (now (lines .exit)) (now (made .exit)) (now (backdrops .exit)) (now (counts .exit)) (now (refs .exit))
-        ≡ countSeen (counted (runningOf (now (lines .entry)) (now (made .entry))) end (now («path_nos» .entry)) (now (coords .entry)) (now (paths .entry))
-        (now (backdrops .entry)) (now (counts .entry)) (now (refs .entry))) ⌝ }
+    ensures { λ r. ⌜ GpCountMet (now (lines .entry)) (now (made .entry)) end (now («path_nos» .entry)) (now (coords .entry)) (now (paths .entry))
+        (now (backdrops .entry)) (now (counts .entry)) (now (refs .entry))
+        r (now (at .exit)) (now (lines .exit)) (now (made .exit)) (now (backdrops .exit)) (now (counts .exit)) (now (refs .exit)) ⌝ }
 {
     let running = Running {
         lines: *lines,

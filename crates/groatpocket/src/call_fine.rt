@@ -1,10 +1,7 @@
 // fine::fine: the pixels of a range of screen tiles, each by its list of commands.
 use panel::kinds::item;
 use panel::kinds::number;
-ghost use mathlib.Core.Path.{_≡_};
-ghost use Rattle.fine.specs.Fine.{fineOf};
-ghost use Rattle.groatpocket.specs.Seen.{seenAt};
-ghost use Rattle.groatpocket.specs.Calls.{fineSeen};
+ghost use Rattle.groatpocket.specs.Calls.{GpFineMet};
 
 #[no_mangle]
 pub extern "C" fn gp_fine(
@@ -18,8 +15,7 @@ pub extern "C" fn gp_fine(
     pixels: &mut [u32],
     at: &mut u32,
 ) -> u32
-    ensures { λ r. ⌜ seenAt r (now (at .exit)) (now (pixels .exit))
-        ≡ fineSeen (fineOf (now (words .entry)) (now (segments .entry)) width cols rows from to (now (pixels .entry))) ⌝ }
+    ensures { λ r. ⌜ GpFineMet (now (words .entry)) (now (segments .entry)) width cols rows from to (now (pixels .entry)) r (now (at .exit)) (now (pixels .exit)) ⌝ }
 {
     let r = fine::fine(words, segments, width, cols, rows, from, to, pixels);
     *at = item(r);

@@ -4,8 +4,7 @@ use frame::stage_no;
 use panel::kinds::Running;
 use panel::refusals::DONE;
 ghost use mathlib.Core.Path.{_≡_};
-ghost use Rattle.frame.specs.Frame.{frameOf};
-ghost use Rattle.groatpocket.specs.CallFrame.{numberOn, stageOn, itemOn, runningOn, toldOf, frameLent, frameSeen};
+ghost use Rattle.groatpocket.specs.CallFrame.{numberOn, stageOn, itemOn, runningOn, GpFrameMet};
 
 // The number that an answer has on paper, the stage's, the item's, and the running numbers.
 fn number_of(f: Framed) -> u32
@@ -59,9 +58,9 @@ pub extern "C" fn gp_frame(
     lines: &mut u32,
     made: &mut u32,
 ) -> u32
-    ensures { λ r. ⌜ frameLent (toldOf r (now (stage .exit)) (now (item .exit)) (now (lines .exit)) (now (made .exit)))
-        (now (backdrops .exit)) (now (tiles .exit)) (now (tally .exit)) (now (refs .exit)) (now (segments .exit))
-        ≡ frameSeen (frameOf (now («path_nos» .entry)) (now (coords .entry)) (now (paths .entry)) (now (backdrops .entry)) (now (tiles .entry)) (now (tally .entry)) (now (refs .entry)) (now (segments .entry))) ⌝ }
+    ensures { λ r. ⌜ GpFrameMet (now («path_nos» .entry)) (now (coords .entry)) (now (paths .entry)) (now (backdrops .entry)) (now (tiles .entry)) (now (tally .entry)) (now (refs .entry)) (now (segments .entry))
+        r (now (stage .exit)) (now (item .exit)) (now (lines .exit)) (now (made .exit))
+        (now (backdrops .exit)) (now (tiles .exit)) (now (tally .exit)) (now (refs .exit)) (now (segments .exit)) ⌝ }
 {
     let f = frame::frame(
         path_nos,

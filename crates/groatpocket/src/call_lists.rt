@@ -1,11 +1,8 @@
 // write_lists::write_lists: a list of commands for each screen tile.
 use panel::kinds::item;
 use panel::kinds::number;
-ghost use mathlib.Core.Path.{_≡_};
 ghost use Rattle.write_lists.specs.Pairs.{tables};
-ghost use Rattle.write_lists.specs.Lists.{writeListsOf};
-ghost use Rattle.groatpocket.specs.Seen.{seenAt};
-ghost use Rattle.groatpocket.specs.CallLists.{listsSeen};
+ghost use Rattle.groatpocket.specs.CallLists.{GpListsMet};
 
 #[no_mangle]
 pub extern "C" fn gp_write_lists(
@@ -20,8 +17,8 @@ pub extern "C" fn gp_write_lists(
     words: &mut [u32],
     at: &mut u32,
 ) -> u32
-    ensures { λ r. ⌜ seenAt r (now (at .exit)) (now (words .exit))
-        ≡ listsSeen (writeListsOf (tables (now (paths .entry)) (now (paints .entry)) (now (backdrops .entry)) (now (stored .entry)) (now (tally .entry))) cols rows room (now (words .entry))) ⌝ }
+    ensures { λ r. ⌜ GpListsMet (tables (now (paths .entry)) (now (paints .entry)) (now (backdrops .entry)) (now (stored .entry)) (now (tally .entry))) cols rows room (now (words .entry))
+        r (now (at .exit)) (now (words .exit)) ⌝ }
 {
     let r = write_lists::write_lists(
         paths,

@@ -3,10 +3,7 @@ use panel::refusals::DONE;
 use ppm_read::Answer;
 use ppm_write::Written;
 ghost use mathlib.Core.Path.{_≡_};
-ghost use Rattle.ppm_write.specs.Write.{writeOf};
-ghost use Rattle.ppm_read.specs.Read.{readOf};
-ghost use Rattle.groatpocket.specs.Seen.{seenAt};
-ghost use Rattle.groatpocket.specs.CallPpm.{wroteNo, wroteSize, writeSeen, readNo, readWidth, readHeight, readLent, readSeen};
+ghost use Rattle.groatpocket.specs.CallPpm.{wroteNo, wroteSize, GpWriteMet, readNo, readWidth, readHeight, GpReadMet};
 
 // The number that an answer has on paper, and how many bytes were written: none where it is refused.
 fn wrote_no(w: Written) -> u32
@@ -35,7 +32,7 @@ pub extern "C" fn gp_ppm_write(
     out: &mut [u8],
     size: &mut usize,
 ) -> u32
-    ensures { λ r. ⌜ seenAt r (now (size .exit)) (now (out .exit)) ≡ writeSeen (writeOf (now (pixels .entry)) width height (now (out .entry))) ⌝ }
+    ensures { λ r. ⌜ GpWriteMet (now (pixels .entry)) width height (now (out .entry)) r (now (size .exit)) (now (out .exit)) ⌝ }
 {
     let w = ppm_write::write(pixels, width, height, out);
     *size = wrote_size(w);
@@ -72,7 +69,7 @@ fn read_height(a: Answer) -> u32
 
 #[no_mangle]
 pub extern "C" fn gp_ppm_read(file: &[u8], out: &mut [u8], width: &mut u32, height: &mut u32) -> u32
-    ensures { λ r. ⌜ readLent r (now (width .exit)) (now (height .exit)) (now (out .exit)) ≡ readSeen (readOf (now (file .entry)) (now (out .entry))) ⌝ }
+    ensures { λ r. ⌜ GpReadMet (now (file .entry)) (now (out .entry)) r (now (width .exit)) (now (height .exit)) (now (out .exit)) ⌝ }
 {
     let a = ppm_read::read(file, out);
     *width = read_width(a);

@@ -1,11 +1,8 @@
 // path_tiling::tile: a segment for each reference of a range.
 use panel::kinds::item;
 use panel::kinds::number;
-ghost use mathlib.Core.Path.{_≡_};
 ghost use Rattle.path_tiling.specs.Look.{lent};
-ghost use Rattle.path_tiling.specs.Tiling.{tiledOf};
-ghost use Rattle.groatpocket.specs.Seen.{seenAt};
-ghost use Rattle.groatpocket.specs.Calls.{tileSeen};
+ghost use Rattle.groatpocket.specs.Calls.{GpTileMet};
 
 #[no_mangle]
 pub extern "C" fn gp_tile(
@@ -19,8 +16,8 @@ pub extern "C" fn gp_tile(
     segments: &mut [f32],
     at: &mut u32,
 ) -> u32
-    ensures { λ r. ⌜ seenAt r (now (at .exit)) (now (segments .exit))
-        ≡ tileSeen (tiledOf from to (lent (now («path_nos» .entry)) (now (coords .entry)) (now (paths .entry)) (now (indices .entry)) (now (refs .entry))) (now (segments .entry))) ⌝ }
+    ensures { λ r. ⌜ GpTileMet from to (lent (now («path_nos» .entry)) (now (coords .entry)) (now (paths .entry)) (now (indices .entry)) (now (refs .entry))) (now (segments .entry))
+        r (now (at .exit)) (now (segments .exit)) ⌝ }
 {
     let r = path_tiling::tile(from, to, path_nos, coords, paths, indices, refs, segments);
     *at = item(r);

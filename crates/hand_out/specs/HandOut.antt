@@ -1,5 +1,6 @@
 -- Hand-out: over the tiles in rising order, a tile with count n above 0 takes the next n slots and holds the bitwise NOT of its first; an empty
 -- tile holds 0. The counts are kept in the tally. docs/RULES.md, "The walk of a line". Definitions only.
+use mathlib.Core.Path.{_≡_}
 use mathlib.Core.List.{List, [], _∷_}
 use Prim.Native.Nat.{ℕ, zero, suc, _+_}
 use lib.Dec.{eqb, leb}
@@ -50,3 +51,7 @@ onFine (Against n) ns kept = outOf (Refused n 0) ns kept
 
 unfoldable pub handOutOf : ℕ → List ℕ → List ℕ → Out
 handOutOf room ns kept = onFine (firstNo (handChecks room ns (length kept))) ns kept
+
+-- the call's promise: the answer r, the tiles' words and the tally afterwards are these
+abbrev pub HandMet : ℕ → (ns kept : List ℕ) → Answer → (ns′ kept′ : List ℕ) → Type 0
+HandMet room ns kept r ns′ kept′ = outOf r ns′ kept′ ≡ handOutOf room ns kept

@@ -7,7 +7,7 @@ ghost use Rattle.lists.specs.Sums.{sum};
 ghost use Rattle.panel.specs.Limits.{mostTiles, mostSlots};
 ghost use Rattle.panel.specs.Checks.{firstNo};
 ghost use Rattle.panel.specs.declared.kinds.Answer.the-variants.{Done};
-ghost use Rattle.hand_out.specs.HandOut.{stored, hand, handChecks, outOf, handOutOf};
+ghost use Rattle.hand_out.specs.HandOut.{stored, hand, handChecks, outOf, HandMet};
 use panel::kinds::Answer;
 use panel::kinds::SlotNo;
 use panel::kinds::Verdict;
@@ -76,7 +76,7 @@ fn fill(counts: &mut [u32], tally: &mut [u32])
 }
 
 pub fn hand_out(counts: &mut [u32], tally: &mut [u32], room: u32) -> Answer
-    ensures { λ r. ⌜ outOf r (now (counts .exit)) (now (tally .exit)) ≡ handOutOf room (now (counts .entry)) (now (tally .entry)) ⌝ }
+    ensures { λ r. ⌜ HandMet room (now (counts .entry)) (now (tally .entry)) r (now (counts .exit)) (now (tally .exit)) ⌝ }
 {
     let v = check_call(counts, tally.len(), room);
     if let Verdict::Against(no) = v {

@@ -26,11 +26,11 @@ use Rattle.fine.specs.Screen.{clear, tileTrace, colourAt}
 use Rattle.fine.specs.Fine.{fineChecks, tilesOf, shownOf, unlessNo, fineOf}
 use Rattle.write_lists.specs.Pairs.{Tables, tilePairs}
 use Rattle.write_lists.specs.Layout.{ownWords}
-use Rattle.write_lists.specs.Lists.{freshOf, listsFrom, regionsOf, listsOf, Left}
+use Rattle.write_lists.specs.Lists.{freshOf, listsFrom, regionsOf, listsOf, Left, ListsMet}
 use Rattle.write_lists.specs.declared.pairs.Pair.{Pair}
 use Rattle.write_lists.specs.declared.pairs.Pair.the-variants.{Fill, Solid}
 use Rattle.list_theorems.specs.Painted.{painted}
-use Rattle.list_theorems.specs.Written.{ListsMet, Wrote, Fills, AllI32, PairsInOrder, NeverRefused, LikePainted}
+use Rattle.list_theorems.specs.Written.{Wrote, Fills, AllI32, PairsInOrder, NeverRefused, LikePainted}
 use Rattle.list_theorems.proofs.Regions.{ChunkStands, InWords, Filled, Off, all-stand, word-stays, list-goes}
 use Rattle.list_theorems.proofs.Apart.{all-map, lists-in, lists-apart, tile-among, first-off}
 use Rattle.list_theorems.proofs.Passed.{Passed, passed}

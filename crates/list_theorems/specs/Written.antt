@@ -8,7 +8,6 @@ use lib.ListN.{length}
 use lib.Ieee.{Float}
 use Rattle.lists.specs.Run.{All}
 use Rattle.panel.specs.Widths.{segmentFloats}
-use Rattle.panel.specs.declared.kinds.Answer.{Answer}
 use Rattle.panel.specs.declared.kinds.Answer.the-variants.{Done}
 use Rattle.panel.specs.declared.kinds.Verdict.the-variants.{Fine}
 use Rattle.panel.specs.Signed.{inI32}
@@ -20,10 +19,6 @@ use Rattle.write_lists.specs.Layout.{ownWords}
 use Rattle.write_lists.specs.Lists.{left, writeListsOf}
 use Rattle.list_theorems.specs.Painted.{painted, screenOf}
 use Rattle.list_theorems.specs.Traced.{listTrace}
-
--- ---- the call's promise: the answer r, and the words `after` of those lent
-abbrev pub ListsMet : Tables → (cols rows room : ℕ) → List ℕ → Answer → List ℕ → Type 0
-ListsMet s cols rows room ws r after = left r after ≡ writeListsOf s cols rows room ws
 
 -- ---- the premises
 

@@ -139,6 +139,10 @@ counted r b nos coords paths backs counts refs =
     let s = stOf backs counts refs (r .refs) in
     callTold (callAnswer nos coords paths (r .lines) b s) r s (batchTold b (batch nos coords paths (length refs / refWords) (r .lines) b s))
 
+-- the call's promise: the answer r, and all that was lent as it is afterwards, are these
+abbrev pub CountMet : Running → ℕ → (nos : List ℕ) (coords : List Float) (paths : List ℕ) (bs : List ℤ) (cs rs : List ℕ) → Counted → (bs′ : List ℤ) (cs′ rs′ : List ℕ) → Type 0
+CountMet running end nos coords paths bs cs rs r bs′ cs′ rs′ = toldOf (paperOf r) (stOf bs′ cs′ rs′ (madeOf r)) ≡ counted running end nos coords paths bs cs rs
+
 -- ---- what the checks of a call leave to lean on
 
 -- so many backdrops and tiles are lent, and each path that is there lies among them

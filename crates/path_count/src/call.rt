@@ -5,7 +5,7 @@ ghost use lib.ListN.{length};
 ghost use Rattle.panel.specs.Widths.{refWords, lineFloats};
 ghost use Rattle.panel.specs.Checks.{firstNo};
 ghost use Rattle.acts.specs.Acts.{stOf};
-ghost use Rattle.path_count.specs.Count.{numberOf, batch, paperOf, madeOf, toldOf, batchTold, lentChecks, counted, Lent};
+ghost use Rattle.path_count.specs.Count.{numberOf, batch, paperOf, madeOf, toldOf, batchTold, lentChecks, CountMet, Lent};
 use super::kinds::Counted;
 use super::kinds::Tallied;
 use super::line::count_noted;
@@ -106,8 +106,8 @@ pub fn count(
     counts: &mut [u32],
     refs: &mut [u32],
 ) -> Counted
-    ensures { λ r. ⌜ toldOf (paperOf r) (stOf (now (backdrops .exit)) (now (counts .exit)) (now (refs .exit)) (madeOf r))
-        ≡ counted running end (now («path_nos» .entry)) (now (coords .entry)) (now (paths .entry)) (now (backdrops .entry)) (now (counts .entry)) (now (refs .entry)) ⌝ }
+    ensures { λ r. ⌜ CountMet running end (now («path_nos» .entry)) (now (coords .entry)) (now (paths .entry)) (now (backdrops .entry)) (now (counts .entry)) (now (refs .entry))
+        r (now (backdrops .exit)) (now (counts .exit)) (now (refs .exit)) ⌝ }
 {
     let v = check_lent(
         path_nos.len(),

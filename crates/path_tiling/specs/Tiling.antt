@@ -129,6 +129,10 @@ rangeTiled r segs = tiled (r .answer) (applied (r .writes) segs)
 abbrev pub tiledOf : ℕ → ℕ → Lent → List Float → Tiled
 tiledOf from to L segs = rangeTiled (callOf from to L segs) segs
 
+-- the call's promise: the answer r and the segments afterwards are these
+abbrev pub TileMet : ℕ → ℕ → Lent → (segs : List Float) → Answer → (segs′ : List Float) → Type 0
+TileMet from to L segs r segs′ = tiled r segs′ ≡ tiledOf from to L segs
+
 -- ---- what the laws of proofs/WriteLaws.antt speak of
 
 -- one range after another: the second is tiled only where the first was not refused

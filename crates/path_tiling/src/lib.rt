@@ -7,7 +7,7 @@ ghost use Prim.Native.Nat.{_+_, _-_, _*_, _/_, _≤_};
 ghost use lib.ListN.{length};
 ghost use Rattle.panel.specs.Widths.{refWords, segmentFloats};
 ghost use Rattle.path_tiling.specs.Look.{lent, FoundFits, foundTo};
-ghost use Rattle.path_tiling.specs.Tiling.{putOf, one, oneOf, slotsOf, wholeOf, Ready, rangeOf, tiled, rangeTiled, tiledOf};
+ghost use Rattle.path_tiling.specs.Tiling.{putOf, one, oneOf, slotsOf, wholeOf, Ready, rangeOf, tiled, rangeTiled, TileMet};
 ghost use Rattle.path_tiling.specs.Runs.{ranOf, runOf};
 use look::Look;
 use panel::kinds::Answer;
@@ -175,7 +175,7 @@ pub fn tile(
     refs: &[u32],
     segments: &mut [f32],
 ) -> Answer
-    ensures { λ r. ⌜ tiled r (now (segments .exit)) ≡ tiledOf from to (lent (now («path_nos» .entry)) (now (coords .entry)) (now (paths .entry)) (now (indices .entry)) (now (refs .entry))) (now (segments .entry)) ⌝ }
+    ensures { λ r. ⌜ TileMet from to (lent (now («path_nos» .entry)) (now (coords .entry)) (now (paths .entry)) (now (indices .entry)) (now (refs .entry))) (now (segments .entry)) r (now (segments .exit)) ⌝ }
 {
     if !whole(
         from,

@@ -1,5 +1,6 @@
 -- What the reader answers, and what the bytes lent hold after it. Definitions only.
 use Prim.Native.Nat.{ℕ, _+_, _*_}
+use mathlib.Core.Path.{_≡_}
 use mathlib.Core.List.{List, [], _∷_, _++_}
 use mathlib.Core.Bool.{_&&_, cond}
 use lib.Dec.{leb, eqb}
@@ -32,3 +33,11 @@ onHeader (size w h raster) out =
 
 unfoldable pub readOf : List ℕ → List ℕ → Left
 readOf file out = onHeader (headerOf file) out
+
+-- an answer with the bytes as they are afterwards
+abbrev pub leftOf : Answer → List ℕ → Left
+leftOf r out = record { answer = paperOf r; bytes = out }
+
+-- the call's promise: the answer r and the bytes afterwards are these
+abbrev pub ReadMet : (file out : List ℕ) → Answer → (out′ : List ℕ) → Type 0
+ReadMet file out r out′ = leftOf r out′ ≡ readOf file out

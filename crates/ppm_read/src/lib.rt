@@ -11,7 +11,7 @@ ghost use lib.Seq.{sets};
 ghost use Rattle.ppm_write.specs.Bytes.{ten, magic};
 ghost use Rattle.ppm_read.specs.Bytes.{kindOf};
 ghost use Rattle.ppm_read.specs.Header.{stepOf, numberFrom, headerOf, startsWith};
-ghost use Rattle.ppm_read.specs.Read.{paperOf, readOf};
+ghost use Rattle.ppm_read.specs.Read.{ReadMet};
 ghost use Rattle.ppm_read.specs.Held.{held, heldNext, heldGot, heldHeader, gotOf, sizedOf, Within, WithinHead};
 
 const TEN: u32 = 10;
@@ -220,7 +220,7 @@ fn copy(file: &[u8], from: usize, out: &mut [u8])
 
 // The raster of a file, at the front of the bytes lent.
 pub fn read(file: &[u8], out: &mut [u8]) -> Answer
-    ensures { λ r. ⌜ record { answer = paperOf r; bytes = now (out .exit) } ≡ readOf (now (file .entry)) (now (out .entry)) ⌝ }
+    ensures { λ r. ⌜ ReadMet (now (file .entry)) (now (out .entry)) r (now (out .exit)) ⌝ }
 {
     let Head::Size(width, height, from) = header(file) else {
         return Answer::Refused(refusals::BAD_FILE);

@@ -42,6 +42,14 @@ writeOf pixels w h out =
     (refused notWhole out))
     (refused badSize out)
 
+-- an answer with the bytes as they are afterwards
+abbrev pub leftOf : Written → List ℕ → Left
+leftOf r out = record { answer = paperOf r; bytes = out }
+
+-- the call's promise: the answer r and the bytes afterwards are these
+abbrev pub WriteMet : List ℕ → ℕ → ℕ → (out : List ℕ) → Written → (out′ : List ℕ) → Type 0
+WriteMet pixels w h out r out′ = leftOf r out′ ≡ writeOf pixels w h out
+
 -- bs stored in out from at on, and the place after them
 pub record Put (out : List ℕ) (at : ℕ) (bs : List ℕ) (next : ℕ) (out′ : List ℕ) : Type 0 where
   pub place : next ≡ at + length bs

@@ -6,7 +6,7 @@ ghost use mathlib.Core.Path.{_≡_};
 ghost use Prim.Native.Nat.{_+_, _≤_};
 ghost use lib.ListN.{length};
 ghost use Rattle.ppm_write.specs.File.{decimal, fieldOf, headOf, rasterOf};
-ghost use Rattle.ppm_write.specs.Write.{Put, paperOf, sideOk, writeOf};
+ghost use Rattle.ppm_write.specs.Write.{Put, sideOk, WriteMet};
 
 // The largest value of a colour's byte, which the header names.
 pub const LARGEST: u32 = 255;
@@ -102,7 +102,7 @@ fn put_pixels(out: &mut [u8], at: usize, pixels: &[u32]) -> usize
 
 // The file of a picture, at the front of the bytes lent.
 pub fn write(pixels: &[u32], width: u32, height: u32, out: &mut [u8]) -> Written
-    ensures { λ r. ⌜ record { answer = paperOf r; bytes = now (out .exit) } ≡ writeOf (now (pixels .entry)) width height (now (out .entry)) ⌝ }
+    ensures { λ r. ⌜ WriteMet (now (pixels .entry)) width height (now (out .entry)) r (now (out .exit)) ⌝ }
 {
     if !(side_ok(width) & side_ok(height)) {
         return Written::Refused(refusals::BAD_SIZE);

@@ -1,5 +1,6 @@
 -- The call: a list for each screen tile, or a refusal that writes nothing. docs/RULES.md, "Command lists" and refusals 1 to 4, 9 and 15.
 -- Definitions only.
+use mathlib.Core.Path.{_≡_}
 use mathlib.Core.Bool.{Bool, true, cond, _&&_}
 use mathlib.Core.List.{List, [], _∷_, _++_}
 use Prim.Native.Nat.{ℕ, _+_, _*_, _/_, _%_}
@@ -115,3 +116,7 @@ onDone (Refused n item) old new = left (Refused n item) old
 
 unfoldable pub writeListsOf : Tables → (cols rows room : ℕ) → List ℕ → Left
 writeListsOf s cols rows room ws = onDone (answerOf s cols rows room (length ws)) ws (written (listsOf s cols rows) ws)
+
+-- the call's promise: the answer r and the words afterwards are these
+abbrev pub ListsMet : Tables → (cols rows room : ℕ) → List ℕ → Answer → List ℕ → Type 0
+ListsMet s cols rows room ws r ws′ = left r ws′ ≡ writeListsOf s cols rows room ws

@@ -30,7 +30,7 @@ ghost use Rattle.panel.specs.Checks.{firstNo};
 ghost use Rattle.commands.specs.Numbers.{tileWords};
 ghost use Rattle.write_lists.specs.Pairs.{tables};
 ghost use Rattle.write_lists.specs.Layout.{written};
-ghost use Rattle.write_lists.specs.Lists.{lentChecks, callAnswer, roomChecks, freshOf, fillsFit, listsFrom, left, writeListsOf};
+ghost use Rattle.write_lists.specs.Lists.{lentChecks, callAnswer, roomChecks, freshOf, fillsFit, listsFrom, ListsMet};
 ghost use Rattle.write_lists.specs.Ready.{Ready, tilesAnswer, wordsNamed};
 
 // The lengths lent: whole paths, a paint for each, equally many backdrops, stored indices and tally
@@ -189,7 +189,7 @@ pub fn write_lists(
     room: u32,
     words: &mut [u32],
 ) -> Answer
-    ensures { λ r. ⌜ left r (now (words .exit)) ≡ writeListsOf (tables (now (paths .entry)) (now (paints .entry)) (now (backdrops .entry)) (now (stored .entry)) (now (tally .entry))) cols rows room (now (words .entry)) ⌝ }
+    ensures { λ r. ⌜ ListsMet (tables (now (paths .entry)) (now (paints .entry)) (now (backdrops .entry)) (now (stored .entry)) (now (tally .entry))) cols rows room (now (words .entry)) r (now (words .exit)) ⌝ }
 {
     let a = check_call(paths, paints, backdrops, stored, tally, cols, rows);
     let Answer::Done = a else {
