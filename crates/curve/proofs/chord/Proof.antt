@@ -1,0 +1,68 @@
+use mathlib.Core.Path.{_≡_, refl, sym, ap, _∙_}
+use native.Mathlib.Omega.{arith}
+use native.Mathlib.Numerals.{add-one, add-two, add-three}
+use lib.ListN.{length-set}
+use Rattle.curve.specs.Halves.{linesOf}
+use borrow.Author.Needs.{needs}
+use Rattle.curve.proofs.chord.Statement.{statement}
+use Rattle.curve.proofs.chord.Tie as tie
+use Rattle.curve.proofs.chord.Reads as reads
+use Rattle.curve.proofs.chord.Lts as lts
+
+mul-out : tie.Need-mul-out
+mul-out c = search needs
+
+slice-write-out : tie.Need-slice-write-out
+slice-write-out c = search needs
+
+add-out : tie.Need-add-out
+add-out c = search needs
+
+mul-out-2 : tie.Need-mul-out-2
+mul-out-2 c = search needs
+
+slice-write-out-2 : tie.Need-slice-write-out-2
+slice-write-out-2 c = simp length-set (omega arith)
+
+add-out-2 : tie.Need-add-out-2
+add-out-2 c = search needs
+
+mul-out-3 : tie.Need-mul-out-3
+mul-out-3 c = search needs
+
+slice-write-out-3 : tie.Need-slice-write-out-3
+slice-write-out-3 c = simp length-set (omega arith)
+
+add-out-3 : tie.Need-add-out-3
+add-out-3 c = search needs
+
+mul-out-4 : tie.Need-mul-out-4
+mul-out-4 c = search needs
+
+slice-write-out-4 : tie.Need-slice-write-out-4
+slice-write-out-4 c = simp length-set (omega arith)
+
+same-length : tie.Need-same-length
+same-length c = search needs
+
+returns : tie.Need-returns
+unfolding linesOf
+returns c = simp (add-one, add-two, add-three)
+
+pub chord-spec : {M : Type 1} → statement M
+chord-spec =
+    tie.close
+    (tie.spec
+    mul-out
+    slice-write-out
+    add-out
+    mul-out-2
+    slice-write-out-2
+    add-out-2
+    mul-out-3
+    slice-write-out-3
+    add-out-3
+    mul-out-4
+    slice-write-out-4
+    same-length
+    returns)
