@@ -2,7 +2,9 @@
  *
  * Everything is lent: a slice is a pointer and the number of its elements. Each pointer must be
  * valid and aligned for that many elements (not NULL, also for none), and slices that a call writes
- * must not overlap any other slice of the call. Floats are IEEE 754 with the default environment:
+ * must not overlap any other slice of the call. A pointer to one number (item, stage, lines, made,
+ * size, width, height) must not be NULL, and the number must lie apart from the others and from
+ * every slice. Floats are IEEE 754 with the default environment:
  * round to nearest, subnormals kept (a program linked with -ffast-math turns them off). Nothing else
  * is asked: any words and floats may be lent, and calls may run at once over different memory. A call
  * touches nothing outside the slices, always ends, and answers a refusal number; what is refused
@@ -24,7 +26,7 @@ extern "C" {
 #define GP_NOT_WHOLE 1u   /* no whole records, paired slices that differ, or a bad range */
 #define GP_TOO_MANY 2u    /* too many paths, tiles or screen tiles */
 #define GP_BAD_BOX 3u     /* a box edge over the limit, or edges the wrong way round */
-#define GP_BAD_RANGE 4u   /* a path's tiles overlap those before it, or run past the tiles */
+#define GP_BAD_RANGE 4u   /* a path's first tile before the end of the path before it, or tiles past the end */
 #define GP_LINE_NUMBER 5u /* counting: line number 65,536 or more */
 #define GP_COORDINATE 6u  /* a coordinate not finite, or over 16,384 in size */
 #define GP_NO_SUCH 7u     /* no such path; in a reference, no such line or a skipped one */
@@ -143,7 +145,9 @@ uint32_t gp_tile(const uint32_t *path_nos, size_t path_nos_len,
                  float *segments, size_t segments_len, uint32_t *item);
 
 /* The coverage of the 256 pixels of one tile: number segments from first on, over the backdrop.
- * even_odd: 0 for non-zero, else even-odd. area_len must be 256. */
+ * even_odd: 0 for non-zero, else even-odd. x_tile, y_tile: the tile's corner in the segments'
+ * coordinates: 0, 0 for segments from gp_tile or gp_frame, which are relative to their tile.
+ * area_len must be 256, else 1. */
 uint32_t gp_fill(const float *segments, size_t segments_len,
                  uint32_t first, uint32_t number, uint32_t even_odd, int32_t backdrop,
                  float x_tile, float y_tile, float *area, size_t area_len);

@@ -12,7 +12,7 @@ use crate::refusal::{answered, Refused, UNTOLD};
 /// assert_eq!(&out[..n], b"P6\n2 1\n255\n\x20\x40\x60\x20\x40\x60");
 /// ```
 pub fn ppm_write(pixels: &[u32], width: u32, height: u32, out: &mut [u8]) -> Result<usize, Refused> {
-    let mut size = 0;
+    let mut size = usize::MAX;
     // SAFETY: as for `count`.
     #[rustfmt::skip]
     let number = unsafe {
@@ -23,6 +23,7 @@ pub fn ppm_write(pixels: &[u32], width: u32, height: u32, out: &mut [u8]) -> Res
             &mut size,
         )
     };
+    debug_assert!(number == 0 || size == 0, "a size where it is refused");
     answered(number, 0).map(|()| size)
 }
 
@@ -45,5 +46,6 @@ pub fn ppm_read(file: &[u8], out: &mut [u8]) -> Result<(u32, u32), Refused> {
             &mut width, &mut height,
         )
     };
+    debug_assert!(number == 0 || (width, height) == (0, 0), "a width or height where it is refused");
     answered(number, 0).map(|()| (width, height))
 }

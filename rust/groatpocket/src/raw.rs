@@ -1,4 +1,5 @@
 //! The exported functions, as include/groatpocket.h declares them: pointers and lengths.
+//! Made from include/groatpocket.h by tests/rust/signatures (`-- write`), which `./test` holds it against: edit there.
 //!
 //! Each pointer must be valid for its length, and what a call writes must overlap nothing else
 //! that it is lent. The safe calls of this crate see to both.
@@ -39,6 +40,20 @@ extern "C" {
         item: &mut u32,
     ) -> u32;
 
+    pub fn gp_fill(
+        segments: *const f32, segments_len: usize,
+        first: u32, number: u32, even_odd: u32, backdrop: i32, x_tile: f32, y_tile: f32,
+        area: *mut f32, area_len: usize,
+    ) -> u32;
+
+    pub fn gp_fine(
+        words: *const u32, words_len: usize,
+        segments: *const f32, segments_len: usize,
+        width: u32, cols: u32, rows: u32, from: u32, to: u32,
+        pixels: *mut u32, pixels_len: usize,
+        item: &mut u32,
+    ) -> u32;
+
     pub fn gp_frame(
         path_nos: *const u32, path_nos_len: usize,
         coords: *const f32, coords_len: usize,
@@ -59,20 +74,6 @@ extern "C" {
         tally: *const u32, tally_len: usize,
         cols: u32, rows: u32, room: u32,
         words: *mut u32, words_len: usize,
-        item: &mut u32,
-    ) -> u32;
-
-    pub fn gp_fill(
-        segments: *const f32, segments_len: usize,
-        first: u32, number: u32, even_odd: u32, backdrop: i32, x_tile: f32, y_tile: f32,
-        area: *mut f32, area_len: usize,
-    ) -> u32;
-
-    pub fn gp_fine(
-        words: *const u32, words_len: usize,
-        segments: *const f32, segments_len: usize,
-        width: u32, cols: u32, rows: u32, from: u32, to: u32,
-        pixels: *mut u32, pixels_len: usize,
         item: &mut u32,
     ) -> u32;
 

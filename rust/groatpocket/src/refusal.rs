@@ -11,7 +11,7 @@ pub enum Refusal {
     TooMany = 2,
     /// 3: a box edge over the limit, or edges the wrong way round.
     BadBox = 3,
-    /// 4: a path's tiles overlap those before it, or run past the tiles.
+    /// 4: a path's first tile before the end of the path before it, or tiles past the end.
     BadRange = 4,
     /// 5: counting: line number 65,536 or more.
     LineNumber = 5,

@@ -2,7 +2,7 @@
 use crate::raw;
 use crate::refusal::{answered, Refused, UNTOLD};
 
-/// One fill of a tile: its segments, its rule, its backdrop and the tile's corner.
+/// One fill of a tile: its segments, its rule, its backdrop, and where the tile lies in the segments' coordinates.
 #[derive(Clone, Copy, Debug, PartialEq)]
 pub struct Fill {
     /// The first segment.
@@ -13,13 +13,14 @@ pub struct Fill {
     pub even_odd: bool,
     /// What the area starts at.
     pub backdrop: i32,
-    /// The tile's corner that the segments are relative to.
+    /// The tile's corner in the segments' coordinates: 0 for segments from [`tile`](crate::tile) or
+    /// `frame`, which are relative to their tile.
     pub x_tile: f32,
-    /// The tile's corner that the segments are relative to.
+    /// As `x_tile`, downward.
     pub y_tile: f32,
 }
 
-/// The coverage of a tile's 256 pixels, into `area`.
+/// The coverage of a tile's 256 pixels, into `area`, which must be 256 long.
 ///
 /// ```
 /// use groatpocket::{fill, Fill};

@@ -4,6 +4,12 @@
 //! else `docs/src`, from the project's root. An attribute can't hold `concat!(env!(..))`, so the lines
 //! with the absolute paths go to OUT_DIR. Where no source is found the crate builds without it, and
 //! `oracle::AT_HAND` is false.
+//!
+//! The five files must be those of SHA256SUMS, byte for byte; any other isn't built. The self-test (tests/rust/can_fail)
+//! builds an altered copy: GROATPOCKET_RUST_ALTERED=yes lets it pass, and `oracle::ALTERED` is true.
+
+#[path = "sha256.rs"]
+mod sha256;
 
 use std::path::{Path, PathBuf};
 use std::{env, fs};
@@ -31,6 +37,18 @@ fn find() -> Option<PathBuf> {
     folders.into_iter().filter_map(|f| f.canonicalize().ok()).find(|f| holds_source(f))
 }
 
+/// Ends the build where a file isn't the one that was ported.
+fn hold_against_sums(folder: &Path) {
+    let sums = fs::read_to_string("SHA256SUMS").expect("SHA256SUMS stands beside build.rs");
+    for file in FILES.map(|name| format!("src/cpu/{name}.rs")) {
+        let found = sha256::sha256(&fs::read(folder.join(&file)).expect("a file that was found"));
+        if !sums.lines().any(|line| line == format!("{found}  {file}")) {
+            eprintln!("{} isn't the ported file: its SHA-256 is {found}, not SHA256SUMS's", folder.join(&file).display());
+            std::process::exit(1);
+        }
+    }
+}
+
 fn lines_for(folder: &Path) -> String {
     let file = |name: &str| folder.join("src/cpu").join(format!("{name}.rs")).display().to_string();
     let mut out = format!("#[path = {:?}]\npub mod util;\n", file("util"));
@@ -46,11 +64,21 @@ fn lines_for(folder: &Path) -> String {
 
 fn main() {
     println!("cargo:rerun-if-env-changed=GROATPOCKET_RUST");
+    println!("cargo:rerun-if-env-changed=GROATPOCKET_RUST_ALTERED");
     println!("cargo:rerun-if-changed=build.rs");
-    println!("cargo:rustc-check-cfg=cfg(at_hand)");
+    println!("cargo:rerun-if-changed=sha256.rs");
+    println!("cargo:rerun-if-changed=SHA256SUMS");
+    println!("cargo:rustc-check-cfg=cfg(at_hand, altered)");
     let out = PathBuf::from(env::var("OUT_DIR").unwrap()).join("ported.rs");
-    match find() {
+    let found = find();
+    println!("cargo:rustc-env=ORACLE_FOLDER={}", found.as_deref().unwrap_or(Path::new("")).display());
+    match found {
         Some(folder) => {
+            if env::var("GROATPOCKET_RUST_ALTERED").is_ok_and(|v| v == "yes") {
+                println!("cargo:rustc-cfg=altered");
+            } else {
+                hold_against_sums(&folder);
+            }
             println!("cargo:rustc-cfg=at_hand");
             println!("cargo:rerun-if-changed={}", folder.join("src/cpu/util.rs").display());
             fs::write(out, lines_for(&folder)).unwrap();

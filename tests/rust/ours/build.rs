@@ -5,7 +5,7 @@ use std::env;
 use std::path::{Path, PathBuf};
 use std::process::Command;
 
-const STAGES: [&str; 9] = ["FLOATS", "BACKDROP", "HAND_OUT", "COUNT", "TILE", "FILL", "FINE", "FRAME", "LISTS"];
+const STAGES: [&str; 10] = ["FLOATS", "BACKDROP", "HAND_OUT", "COUNT", "TILE", "FILL", "FINE", "FRAME", "LISTS", "PICTURE"];
 
 fn linked(stage: &str) -> bool {
     env::var(format!("CARGO_FEATURE_{stage}")).is_ok()
@@ -52,6 +52,7 @@ fn make_server(archive: &Path) {
 fn main() {
     println!("cargo:rerun-if-changed=build.rs");
     println!("cargo:rerun-if-changed=server.c");
+    println!("cargo:rerun-if-changed=server_calls.h");
     println!("cargo:rustc-check-cfg=cfg(bridge)");
     if env::var("DEP_GROATPOCKET_LINKED").is_ok_and(|linked| linked == "false") {
         make_server(Path::new(&env::var_os("DEP_GROATPOCKET_ARCHIVE").expect("the archive's path")));

@@ -253,9 +253,11 @@ fn frame_scene(kind: Kind, n: usize, rounds: usize) -> Times {
             mine_refs.fill(0);
             mine.fill(0.0);
             let s = &scene;
-            let mut told = [0; 4];
+            let [mut stage, mut item, mut lines, mut made] = [0; 4];
             timed(|| {
-                let no = ours::frame(&s.path_nos, &s.coords, &s.paths, &mut backs, &mut stored, &mut tally, &mut mine_refs, &mut mine, &mut told);
+                let (told, counted) = ((&mut stage, &mut item), (&mut lines, &mut made));
+                let (b, y, r) = (&mut backs, &mut tally, &mut mine_refs);
+                let no = ours::frame(&s.path_nos, &s.coords, &s.paths, b, &mut stored, y, r, &mut mine, told.0, told.1, counted.0, counted.1);
                 assert_eq!(no, 0);
             })
         },

@@ -69,6 +69,35 @@ impl Lent {
     }
 }
 
+/// A slice of bytes between guard bytes, made of words that hold one byte each.
+pub struct LentBytes {
+    bytes: Vec<u8>,
+    len: usize,
+}
+
+impl LentBytes {
+    pub fn of(words: &[u32]) -> LentBytes {
+        let guards = [GUARD as u8; GUARDS];
+        let content: Vec<u8> = words.iter().map(|&w| w as u8).collect();
+        LentBytes { bytes: [&guards[..], &content, &guards].concat(), len: words.len() }
+    }
+
+    pub fn u8s(&self) -> &[u8] {
+        &self.bytes[GUARDS..GUARDS + self.len]
+    }
+
+    pub fn u8s_mut(&mut self) -> &mut [u8] {
+        &mut self.bytes[GUARDS..GUARDS + self.len]
+    }
+
+    /// Puts the bytes back into words of their own; a guard byte changed ends the run.
+    pub fn give_back(&self, words: &mut [u32]) {
+        let ends = self.bytes[..GUARDS].iter().chain(&self.bytes[GUARDS + self.len..]);
+        assert!(ends.copied().all(|b| b == GUARD as u8), "guard bytes were changed");
+        words.iter_mut().zip(self.u8s()).for_each(|(w, b)| *w = *b as u32);
+    }
+}
+
 pub fn as_f32(words: &[u32]) -> &[f32] {
     // SAFETY: same size and alignment, and every bit pattern is an f32.
     unsafe { std::slice::from_raw_parts(words.as_ptr().cast(), words.len()) }

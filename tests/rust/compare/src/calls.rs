@@ -1,9 +1,9 @@
 //! A call of any stage as plain words, as the lists of the gate have it (gen/src/list.rs says the order).
 
+pub use crate::dispatch::{by_ours, by_rules, BYTES, NAMES};
+use crate::dispatch::{CHANGED, LINKED, SHAPES};
 use crate::stage::{same, same_words};
 use cases::memory::{one_nan, Lent};
-
-pub const NAMES: [&str; 9] = ["", "count", "backdrop", "hand_out", "tile", "fill", "fine", "frame", "write_lists"];
 
 #[derive(Clone, Debug)]
 pub struct Call {
@@ -12,7 +12,7 @@ pub struct Call {
     pub slices: Vec<Vec<u32>>,
 }
 
-/// The refusal number, the item, the running numbers if any, a frame's stage; and every slice afterwards.
+/// The refusal number, the item (0 where there is none), all else that is told; and every slice afterwards.
 pub struct Outcome {
     pub answer: Vec<u32>,
     pub slices: Vec<Lent>,
@@ -20,102 +20,17 @@ pub struct Outcome {
 
 /// The slices that a call of this kind may change.
 pub fn changed(kind: u32) -> &'static [usize] {
-    match kind {
-        1 => &[3, 4, 5],
-        2 => &[1],
-        3 => &[0, 1],
-        4 => &[5],
-        5 => &[1],
-        6 => &[2],
-        7 => &[3, 4, 5, 6, 7],
-        _ => &[5],
-    }
+    CHANGED[kind as usize]
 }
 
 /// How many slices and numbers a call of this kind takes.
 pub fn shape(kind: u32) -> (usize, usize) {
-    [(0, 0), (6, 3), (2, 0), (2, 1), (6, 2), (2, 6), (3, 5), (8, 0), (6, 3)][kind as usize]
+    SHAPES[kind as usize]
 }
 
 pub fn linked(kind: u32) -> bool {
-    use ours::has::*;
-    [false, COUNT, BACKDROP, HAND_OUT, TILE, FILL, FINE, FRAME, LISTS][kind as usize]
+    LINKED[kind as usize]
 }
-
-macro_rules! answered_by {
-    ($name:ident, $side:ident) => {
-        pub fn $name(call: &Call) -> Outcome {
-            let mut slices: Vec<Lent> = call.slices.iter().map(|w| Lent::new(w)).collect();
-            let n = &call.numbers;
-            let mut item = 0xabcd;
-            let answer = match (call.kind, slices.as_mut_slice()) {
-                (1, [p, c, b, back, counts, refs]) => {
-                    let (mut lines, mut made) = (n[1], n[2]);
-                    let no = $side::count(
-                        p.u32s(),
-                        c.f32s(),
-                        b.u32s(),
-                        back.i32s_mut(),
-                        counts.u32s_mut(),
-                        refs.u32s_mut(),
-                        n[0],
-                        &mut lines,
-                        &mut made,
-                        &mut item,
-                    );
-                    vec![no, item, lines, made]
-                }
-                (2, [paths, back]) => vec![$side::backdrop(paths.u32s(), back.i32s_mut(), &mut item), item],
-                (3, [counts, tally]) => vec![$side::hand_out(counts.u32s_mut(), tally.u32s_mut(), n[0]), 0],
-                (4, [p, c, b, i, r, s]) => {
-                    vec![$side::tile(p.u32s(), c.f32s(), b.u32s(), i.u32s(), r.u32s(), n[0], n[1], s.f32s_mut(), &mut item), item]
-                }
-                (5, [s, area]) => {
-                    let (x, y) = (f32::from_bits(n[4]), f32::from_bits(n[5]));
-                    vec![$side::fill(s.f32s(), n[0], n[1], n[2], n[3] as i32, x, y, area.f32s_mut()), 0]
-                }
-                (6, [w, s, px]) => {
-                    vec![$side::fine(w.u32s(), s.f32s(), n[0], n[1], n[2], n[3], n[4], px.u32s_mut(), &mut item), item]
-                }
-                (7, [p, c, b, back, t, tally, r, s]) => {
-                    let mut told = [item; 4];
-                    let no = $side::frame(
-                        p.u32s(),
-                        c.f32s(),
-                        b.u32s(),
-                        back.i32s_mut(),
-                        t.u32s_mut(),
-                        tally.u32s_mut(),
-                        r.u32s_mut(),
-                        s.f32s_mut(),
-                        &mut told,
-                    );
-                    vec![no, told[1], told[2], told[3], told[0]]
-                }
-                (8, [b, paints, back, stored, tally, w]) => {
-                    let no = $side::write_lists(
-                        b.u32s(),
-                        paints.u32s(),
-                        back.i32s(),
-                        stored.u32s(),
-                        tally.u32s(),
-                        n[0],
-                        n[1],
-                        n[2],
-                        w.u32s_mut(),
-                        &mut item,
-                    );
-                    vec![no, item]
-                }
-                _ => panic!("no call of kind {}", call.kind),
-            };
-            Outcome { answer, slices }
-        }
-    };
-}
-
-answered_by!(by_rules, rules);
-answered_by!(by_ours, ours);
 
 /// Holds one side's outcome against the other's, and both against what was lent.
 pub fn same_outcome(call: &Call, got: &Outcome, wanted: &Outcome) -> Result<(), String> {

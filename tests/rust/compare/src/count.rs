@@ -206,10 +206,10 @@ impl Stage for Count {
         let (path_nos, coords, paths) = (Lent::new(&case.path_nos), Lent::new(&case.coords), Lent::new(&case.paths));
         let mut by_rules = Memory::of(case);
         let mut by_ours = Memory::of(case);
-        let mut number = 0;
+        let (mut number, mut item) = (0, 0);
         let mut seen = rules::Seen::default();
         for &end in &case.ends {
-            let mut item = 0xabcd;
+            item = 0xabcd;
             number = by_rules.lend(|b, c, r, lines, made| {
                 rules::count_seen(path_nos.u32s(), coords.f32s(), paths.u32s(), b, c, r, end, lines, made, &mut item, &mut seen)
             });
@@ -232,7 +232,7 @@ impl Stage for Count {
         table.add("lines accepted, more steps", seen.many);
         table.add("row marks", seen.rows);
         if sides.ours && case.ends.len() > 1 {
-            uncut(case, &path_nos, &coords, &paths, &by_rules, number)?;
+            uncut(case, &path_nos, &coords, &paths, &by_rules, (number, item))?;
         }
         same_words("path numbers lent", path_nos.u32s(), &case.path_nos)?;
         same_words("coordinates lent", coords.u32s(), &case.coords)?;
@@ -326,16 +326,16 @@ impl Memory {
 }
 
 /// One batch for all of them, where no batch is refused for its own range.
-fn uncut(case: &Case, path_nos: &Lent, coords: &Lent, paths: &Lent, wanted: &Memory, number: u32) -> Result<(), String> {
+fn uncut(case: &Case, path_nos: &Lent, coords: &Lent, paths: &Lent, wanted: &Memory, answer: (u32, u32)) -> Result<(), String> {
     let end = *case.ends.last().unwrap();
     let in_order = case.ends.iter().all(|&e| e <= end) && end as usize <= case.path_nos.len();
-    if number == 1 || !in_order {
+    if answer.0 == 1 || !in_order {
         return Ok(());
     }
     let mut all = Memory::of(case);
-    let mut item = 0;
+    let mut item = 0xabcd;
     let got = all.lend(|b, c, r, lines, made| ours::count(path_nos.u32s(), coords.f32s(), paths.u32s(), b, c, r, end, lines, made, &mut item));
-    same("answer of one batch", got, number)?;
+    same("answer and item of one batch", (got, item), answer)?;
     all.same_as(wanted).map_err(|e| format!("one batch: {e}"))
 }
 

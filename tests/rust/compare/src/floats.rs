@@ -11,7 +11,7 @@ fn f(bits: u32) -> f32 {
 }
 
 /// A helper: its number in the list of floats, its name, whether it gives a float, what Rust's std answers over bits.
-struct Helper {
+pub struct Helper {
     number: u32,
     name: &'static str,
     float: bool,
@@ -32,7 +32,7 @@ fn quiet(bits: u32) -> f32 {
 }
 
 /// min and max give the first of two zeros, and clamp with bad ends the value, by our rules.
-const HELPERS: [Helper; 15] = [
+pub const HELPERS: [Helper; 15] = [
     helper(0x01, "floor", true, |x, _, _| f(x).floor().to_bits()),
     helper(0x02, "ceil", true, |x, _, _| f(x).ceil().to_bits()),
     helper(0x03, "round", true, |x, _, _| f(x).round().to_bits()),
@@ -69,6 +69,16 @@ fn check(h: &Helper, xs: [&[u32]; 3], out: &mut [u32]) -> Result<(), String> {
         }
     }
     Ok(())
+}
+
+/// A helper's name, by its place among them.
+pub fn name(place: u32) -> &'static str {
+    HELPERS[place as usize].name
+}
+
+/// Our answers held against std's, for one helper by its place.
+pub fn held(place: u32, xs: [&[u32]; 3]) -> Result<(), String> {
+    check(&HELPERS[place as usize], xs, &mut vec![0; xs[0].len()])
 }
 
 pub struct Floats;

@@ -105,7 +105,10 @@ impl Stage for Frame {
         let (path_nos, coords, paths) = (Lent::new(&case.path_nos), Lent::new(&case.coords), Lent::new(&case.paths));
         let mut by_rules = Memory::of(case);
         let mut told = [0xabcd; 4];
-        let number = by_rules.lend(|b, t, y, r, s| rules::frame(path_nos.u32s(), coords.f32s(), paths.u32s(), b, t, y, r, s, &mut told));
+        let number = by_rules.lend(|b, t, y, r, s| {
+            let [stage, item, lines, made] = &mut told;
+            rules::frame(path_nos.u32s(), coords.f32s(), paths.u32s(), b, t, y, r, s, stage, item, lines, made)
+        });
         table.answer(number);
         table.add(
             ["done", "refused by the checks", "refused in counting", "refused in the sums", "refused in hand-out", "refused in tiling"]
@@ -115,7 +118,10 @@ impl Stage for Frame {
         if sides.ours {
             let mut by_ours = Memory::of(case);
             let mut ours_told = [0xabcd; 4];
-            let ours_number = by_ours.lend(|b, t, y, r, s| ours::frame(path_nos.u32s(), coords.f32s(), paths.u32s(), b, t, y, r, s, &mut ours_told));
+            let ours_number = by_ours.lend(|b, t, y, r, s| {
+                let [stage, item, lines, made] = &mut ours_told;
+                ours::frame(path_nos.u32s(), coords.f32s(), paths.u32s(), b, t, y, r, s, stage, item, lines, made)
+            });
             same("answer", ours_number, number)?;
             same("stage, item, lines, references", ours_told, told)?;
             by_ours.same_as(&by_rules)?;

@@ -1,12 +1,20 @@
-//! Hostile input: any words and floats in slices of any length, good calls with a few words altered.
+//! Hostile input to every exported function: any words and floats in slices of any length, good calls with a few words
+//! altered, and now and then a call that leads to a rare answer (`borders`).
 
-use crate::calls::{by_ours, by_rules, linked, same_outcome, shape, Call, NAMES};
+use crate::borders;
+use crate::calls::{by_ours, by_rules, linked, same_outcome, shape, Call, BYTES, NAMES};
 use crate::stage::{hex, Sides, Stage};
 use crate::table::Table;
 use cases::{boxes, floats, lines, segments, Rng};
 
 /// The number of the screen's call.
 const FINE: u32 = 6;
+
+/// The kind of a call of a float helper: its number is the helper's place, its slices the operands.
+const HELPER: u32 = 0;
+
+/// How often each answer of each call is wanted, and each helper.
+const LEAST: u64 = if ours::BRIDGED { 1 } else { 50 };
 
 /// The calls whose stage is linked; all of them where only the rules are run.
 pub struct Hostile {
@@ -15,8 +23,23 @@ pub struct Hostile {
 
 impl Hostile {
     pub fn new(all: bool) -> Hostile {
-        Hostile { kinds: (1..NAMES.len() as u32).filter(|&k| all || linked(k)).collect() }
+        let helpers = (!all && ours::has::FLOATS).then_some(HELPER);
+        Hostile { kinds: (1..NAMES.len() as u32).filter(|&k| all || linked(k)).chain(helpers).collect() }
     }
+}
+
+fn row(kind: u32, answer: u32) -> String {
+    format!("{:<11} answer {answer:2}", NAMES[kind as usize])
+}
+
+fn helper_row(place: u32) -> String {
+    format!("helper {}", crate::floats::name(place))
+}
+
+fn any_helper(rng: &mut Rng) -> Call {
+    let numbers = vec![rng.below(crate::floats::HELPERS.len() as u64) as u32];
+    let n = rng.below(4);
+    Call { kind: HELPER, numbers, slices: (0..3).map(|_| (0..n).map(|_| floats::any_bits(rng)).collect()).collect() }
 }
 
 fn any_word(rng: &mut Rng) -> u32 {
@@ -69,12 +92,27 @@ fn good(rng: &mut Rng, kind: u32) -> Call {
             let slices = vec![paths, words(rng, 2 * n_paths), words(rng, tiles), stored, words(rng, tiles), words(rng, regions)];
             (vec![cols, rows, room], slices)
         }
-        _ => {
+        9 => {
+            let (width, height) = (rng.range(1, 6) as u32, rng.range(1, 4) as u32);
+            let room = (3 * width * height) as usize + rng.range(9, 14) as usize;
+            (vec![width, height], vec![words(rng, (width * height) as usize), words(rng, room)])
+        }
+        10 => {
+            let (width, height) = (rng.range(1, 6) as u32, rng.range(1, 4) as u32);
+            let comment = if rng.one_in(4) { "# 9 9\n" } else { "" };
+            let head = format!("P6{comment}\n{width} {height}\n255\n");
+            let raster = (3 * width * height) as usize;
+            let file = head.bytes().map(u32::from).chain(words(rng, raster)).collect();
+            let room = raster.saturating_add_signed(rng.range(-2, 3) as isize);
+            (vec![], vec![file, words(rng, room)])
+        }
+        FINE => {
             let (cols, rows) = (rng.below(3) as u32, rng.below(2) as u32);
             let list_words = (0..64 * cols * rows).map(|k| if k % 64 == 0 { 0 } else { rng.below(6) as u32 }).collect();
             let pixels = words(rng, (256 * cols * rows) as usize);
             (vec![16 * cols, cols, rows, 0, cols * rows], vec![list_words, list, pixels])
         }
+        _ => panic!("no good call of kind {kind}, {}: write one", NAMES[kind as usize]),
     };
     Call { kind, numbers, slices }
 }
@@ -109,12 +147,20 @@ impl Stage for Hostile {
     type Case = Call;
     const NAME: &'static str = "hostile";
     const REACHED: &'static [u32] = &[];
-    const LEAST: u64 = 20_000;
+    const LEAST: u64 = if ours::BRIDGED { 40_000 } else { 800_000 };
 
     fn make(&self, rng: &mut Rng) -> Call {
         let mut kind = rng.pick(&self.kinds);
         if kind == FINE && !rng.one_in(5) {
             kind = rng.pick(&self.kinds); // its endless lists take the most time by far
+        }
+        if kind == HELPER {
+            return any_helper(rng);
+        }
+        if rng.one_in(64) {
+            if let Some(call) = borders::toward(rng, kind) {
+                return call;
+            }
         }
         let mut call = good(rng, kind);
         if rng.one_in(8) {
@@ -130,12 +176,19 @@ impl Stage for Hostile {
         if !rng.one_in(6) {
             spoil(rng, &mut call);
         }
+        for &k in BYTES[kind as usize] {
+            call.slices[k].iter_mut().for_each(|w| *w &= 0xff);
+        }
         call
     }
 
     fn check(&self, call: &Call, sides: Sides, table: &mut Table) -> Result<(), String> {
+        if call.kind == HELPER {
+            table.add(&helper_row(call.numbers[0]), 1);
+            return crate::floats::held(call.numbers[0], [&call.slices[0], &call.slices[1], &call.slices[2]]);
+        }
         let wanted = by_rules(call);
-        table.add(&format!("{:<11} answer {:2}", NAMES[call.kind as usize], wanted.answer[0]), 1);
+        table.add(&row(call.kind, wanted.answer[0]), 1);
         if sides.ours {
             same_outcome(call, &by_ours(call), &wanted)?;
         }
@@ -159,5 +212,18 @@ impl Stage for Hostile {
     fn show(&self, call: &Call) -> String {
         let slices: Vec<String> = call.slices.iter().map(|w| format!("  {} words: {}", w.len(), hex(w))).collect();
         format!("  {} with numbers {}\n{}", NAMES[call.kind as usize], hex(&call.numbers), slices.join("\n"))
+    }
+
+    /// Every answer that a call can give, and every helper.
+    fn rows_wanted(&self) -> Vec<(String, u64)> {
+        let mut rows = vec![];
+        for &kind in &self.kinds {
+            if kind == HELPER {
+                rows.extend((0..crate::floats::HELPERS.len() as u32).map(helper_row));
+            } else {
+                rows.extend(borders::answers(kind).iter().map(|&answer| row(kind, answer)));
+            }
+        }
+        rows.into_iter().map(|row| (row, LEAST)).collect()
     }
 }

@@ -56,11 +56,12 @@ pub fn run() -> bool {
     for name in ["count", "backdrop", "hand_out", "tiling", "fill", "fine"] {
         let file = PathBuf::from(env!("CARGO_MANIFEST_DIR")).join(format!("../../../crates/replay_{name}/stdin"));
         let Ok(text) = std::fs::read_to_string(&file) else {
-            println!("{name}: no list");
+            println!("MISSING: crates/replay_{name}/stdin, the list of {name}");
+            well = false;
             continue;
         };
         let mut words = Words::of(&text);
-        let (mut cases, mut equal, mut ours) = (0, 0, 0);
+        let (mut cases, mut well_done, mut ours) = (0, 0, 0);
         while let Some((call, answer, after)) = next(&mut words) {
             cases += 1;
             let mut said = holds(&call, &by_rules(&call), &answer, &after);
@@ -69,12 +70,12 @@ pub fn run() -> bool {
                 ours += 1;
             }
             match said {
-                Ok(()) => equal += 1,
+                Ok(()) => well_done += 1,
                 Err(said) => println!("DIFFERENT: case {cases} of {name} ({}): {said}", NAMES[call.kind as usize]),
             }
         }
-        println!("{name}: {cases} cases read, {ours} called, {equal} equal");
-        well &= cases == equal;
+        println!("{name}: {cases} cases by the rules, {ours} of them by ours; {well_done} as the list has them");
+        well &= cases == well_done && cases > 0;
     }
     well
 }

@@ -1,17 +1,22 @@
 //! The comparison at scale.
 //!
-//!     cargo run --profile checked -p compare -- [MODE] [--stage NAME] [--seconds N] [--cases N] [--seed N] [--threads N] [--by-hand]
+//!     cargo run --profile checked -p compare -- [MODE] [--stage NAME] [--seconds N] [--cases N] [--seed N] [--threads N] [--by-hand] [--as-found]
 //!
 //! Modes: `all` (the default: the archive beside the rules and the unchanged Rust, about two minutes in all),
 //! `rules-vs-oracle` (no archive needed: build with --no-default-features), `findings` (what was found in the Rust,
 //! with the smallest inputs), `lists` (the gate's lists replayed),
 //! `limits` (those that need long slices, some hundreds of megabytes), `all-floats` (every bit pattern of the
 //! one-argument helpers).
-//! Ends with a status other than 0 where anything differed or an answer was met too seldom.
+//! `--as-found` leaves a difference as it was found, and doesn't make it smaller.
+//! Ends with a status other than 0 where anything differed or an answer was met too seldom: 1; 3 where nothing differed, but
+//! the Rust's source isn't at hand.
 
 mod backdrop;
+mod borders;
 mod calls;
 mod count;
+#[rustfmt::skip]
+mod dispatch;
 mod fill;
 mod findings;
 mod fine;
@@ -39,6 +44,7 @@ struct Args {
     cases: Option<u64>,
     seed: u64,
     threads: u64,
+    as_found: bool,
 }
 
 fn args() -> Args {
@@ -50,6 +56,7 @@ fn args() -> Args {
         cases: None,
         seed: 1,
         threads: std::thread::available_parallelism().map_or(1, |n| n.get() as u64),
+        as_found: false,
     };
     let mut words = std::env::args().skip(1);
     while let Some(word) = words.next() {
@@ -61,6 +68,7 @@ fn args() -> Args {
             "--seed" => out.seed = number(&value()),
             "--threads" => out.threads = number(&value()),
             "--by-hand" => out.longer = 20.0,
+            "--as-found" => out.as_found = true,
             w if w.starts_with("--") => out.mode = w[2..].into(),
             w => out.mode = w.into(),
         }
@@ -83,15 +91,22 @@ fn run<S: Stage>(stage: &S, args: &Args, linked: bool, seconds: f64) -> bool {
     }
     let ours = linked && args.mode != "rules-vs-oracle";
     if !ours && args.mode != "rules-vs-oracle" {
-        println!("{}: not linked, left out", S::NAME);
+        println!("{}: NOT LINKED, LEFT OUT", S::NAME.to_uppercase());
         return true;
     }
     let seconds = args.seconds.unwrap_or(seconds * args.longer);
-    let budget = Budget { seed: args.seed, time: Duration::from_secs_f64(seconds), cases: args.cases, threads: args.threads };
+    let budget =
+        Budget { seed: args.seed, time: Duration::from_secs_f64(seconds), cases: args.cases, threads: args.threads, as_found: args.as_found };
     stage::run(stage, Sides { ours, rust: oracle::AT_HAND }, budget)
 }
 
+const STAGES: [&str; 11] =
+    ["floats", "backdrop", "hand_out", "count", "tile", "fill", "fine", "frame", "write_lists", "order", hostile::Hostile::NAME];
+
 fn stages(args: &Args) -> bool {
+    if let Some(only) = args.only.as_deref().filter(|only| !STAGES.contains(only)) {
+        fail(&format!("no stage is named {only}: {}", STAGES.join(", ")));
+    }
     let mut well = args.mode == "rules-vs-oracle" || run(&floats::Floats, args, ours::has::FLOATS, 5.0);
     well &= run(&backdrop::Backdrop, args, ours::has::BACKDROP, 3.0);
     well &= run(&hand_out::HandOut, args, ours::has::HAND_OUT, 2.0);
@@ -135,8 +150,11 @@ fn keep_memory() {
 fn main() {
     keep_memory();
     let args = args();
-    if !oracle::AT_HAND {
-        println!("The ported Rust isn't at hand: held against the restated rules alone.");
+    if oracle::ALTERED {
+        println!("THE RUST IS AN ALTERED COPY: nothing that is shown here counts");
+    }
+    if args.mode == "rules-vs-oracle" && !oracle::AT_HAND {
+        not_at_hand("nothing to hold the rules against");
     }
     let well = match args.mode.as_str() {
         "all" | "rules-vs-oracle" => stages(&args),
@@ -150,5 +168,16 @@ fn main() {
         println!("compare: something differed");
         std::process::exit(1);
     }
-    println!("compare: all equal");
+    match args.mode.as_str() {
+        "all" if !oracle::AT_HAND => not_at_hand("ours and the restated rules agree in all that was run; NOTHING WAS HELD AGAINST THE RUST"),
+        "all" => println!("compare: ours, the restated rules and the Rust agree in all that was run"),
+        "rules-vs-oracle" => println!("compare: the restated rules and the Rust agree in all that was run; ours was not"),
+        "findings" => println!("compare: the findings are made"),
+        _ => println!("compare: {}: no difference", args.mode),
+    }
+}
+
+fn not_at_hand(said: &str) -> ! {
+    println!("compare: the ported Rust isn't at hand: {said}");
+    std::process::exit(oracle::NOT_AT_HAND)
 }

@@ -28,6 +28,11 @@ pub trait Stage: Sync {
     /// Cases that are a little smaller.
     fn smaller(&self, case: &Self::Case) -> Vec<Self::Case>;
     fn show(&self, case: &Self::Case) -> String;
+
+    /// Further rows of the table that are wanted, each at least so many times.
+    fn rows_wanted(&self) -> Vec<(String, u64)> {
+        vec![]
+    }
 }
 
 #[derive(Clone, Copy)]
@@ -37,6 +42,8 @@ pub struct Budget {
     /// Where given, exactly so many cases.
     pub cases: Option<u64>,
     pub threads: u64,
+    /// A difference isn't made smaller.
+    pub as_found: bool,
 }
 
 /// How often each answer that can be met is wanted. Through an emulator a call takes many times as long.
@@ -106,7 +113,7 @@ pub fn run<S: Stage>(stage: &S, sides: Sides, budget: Budget) -> bool {
     println!("{}: {} cases in {:.1} s", S::NAME, spaced(all.get("cases")), began.elapsed().as_secs_f64());
     all.print();
     if let Some((n, case, said)) = failed.into_inner().unwrap() {
-        let (case, said) = shrink(stage, case, said, sides);
+        let (case, said) = if budget.as_found { (case, said) } else { shrink(stage, case, said, sides) };
         println!("DIFFERENT: {} case {n} of seed {}: {said}\n{}", S::NAME, budget.seed, stage.show(&case));
         return false;
     }
@@ -114,6 +121,12 @@ pub fn run<S: Stage>(stage: &S, sides: Sides, budget: Budget) -> bool {
     for &number in S::REACHED {
         if budget.cases.is_none() && all.answers(number) < LEAST {
             println!("TOO FEW: {} answer {number} was met {} times", S::NAME, all.answers(number));
+            well = false;
+        }
+    }
+    for (row, least) in stage.rows_wanted() {
+        if budget.cases.is_none() && all.get(&row) < least {
+            println!("TOO FEW: {}, {row} was met {} times, not {least}", S::NAME, all.get(&row));
             well = false;
         }
     }

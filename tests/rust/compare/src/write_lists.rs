@@ -58,7 +58,7 @@ fn drawn(rng: &mut Rng) -> Option<Case> {
 /// The tables as the rules' stages leave them, where those draw the frame whole.
 fn left_by(f: frame::Case, paints: Vec<u32>) -> Option<Case> {
     let mut memory = frame::Memory::of(&f);
-    let number = memory.lend(|b, t, y, r, s| rules::frame(&f.path_nos, as_f32(&f.coords), &f.paths, b, t, y, r, s, &mut [0; 4]));
+    let number = memory.lend(|b, t, y, r, s| rules::frame(&f.path_nos, as_f32(&f.coords), &f.paths, b, t, y, r, s, &mut 0, &mut 0, &mut 0, &mut 0));
     let [backdrops, stored, tally, _, segments] = memory.0.map(|l| l.u32s().to_vec());
     (number == 0).then(|| Case {
         paints,
@@ -197,7 +197,7 @@ impl Memory {
     /// Our stages over the frame's lines, and what they leave in the tables' place.
     fn make_anew(&mut self, f: &frame::Case) -> Result<(), String> {
         let mut left = frame::Memory::of(f);
-        let number = left.lend(|b, t, y, r, s| ours::frame(&f.path_nos, as_f32(&f.coords), &f.paths, b, t, y, r, s, &mut [0; 4]));
+        let number = left.lend(|b, t, y, r, s| ours::frame(&f.path_nos, as_f32(&f.coords), &f.paths, b, t, y, r, s, &mut 0, &mut 0, &mut 0, &mut 0));
         same("our stages' answer", number, 0)?;
         let [backdrops, stored, tally, _, segments] = left.0;
         [self.tables[2], self.tables[3], self.tables[4]] = [backdrops, stored, tally];

@@ -1,8 +1,9 @@
 //! Writes the fixed lists of the Rust's answers that the gate replays.
 //!
-//!     cargo run --profile checked -p gen -- [floats|count|backdrop|hand_out|tiling|fill|fine|all|check]
+//!     cargo run --profile checked -p gen -- [floats|count|backdrop|hand_out|tiling|fill|fine|all|check|where]
 //!
-//! `check` writes nothing and ends with status 1 where a list isn't what would be written.
+//! `check` writes nothing and ends with status 1 where a list is missing or isn't what would be written.
+//! `where` prints the folder of the Rust's source.
 //! Each list goes to `crates/replay_NAME/stdin` of the project. Everything is seeded: two runs write the same
 //! bytes. The format of `floats` is a line for each entry; the others share the format of a case (`list.rs`).
 //! Accepted answers are the unchanged Rust's; refused ones come from the restated rules and are marked so.
@@ -39,8 +40,8 @@ fn write(name: &str, text: String) {
 fn main() {
     let asked = env::args().nth(1).unwrap_or_else(|| "all".into());
     if !oracle::AT_HAND {
-        eprintln!("the ported Rust isn't at hand: no list can be written");
-        std::process::exit(1);
+        eprintln!("the ported Rust isn't at hand: no list can be written or checked");
+        std::process::exit(oracle::NOT_AT_HAND);
     }
     let lists: [(&str, fn() -> String); 7] = [
         ("floats", floats::list),
@@ -51,6 +52,9 @@ fn main() {
         ("fill", lists::fill_list),
         ("fine", lists::fine),
     ];
+    if asked == "where" {
+        return println!("{}", oracle::FOLDER);
+    }
     if asked == "check" {
         let well = lists.iter().filter(|(name, list)| !is_written(name, &list())).count() == 0;
         std::process::exit(!well as i32);

@@ -16,3 +16,12 @@ pub use records::*;
 
 /// Whether the ported source was found when this was built.
 pub const AT_HAND: bool = cfg!(at_hand);
+
+/// The folder where it was found; none where it wasn't.
+pub const FOLDER: &str = env!("ORACLE_FOLDER");
+
+/// The status with which a program ends that needs the source and hasn't it.
+pub const NOT_AT_HAND: i32 = 3;
+
+/// Whether it is an altered copy, of the self-test: nothing that it shows counts.
+pub const ALTERED: bool = cfg!(altered);

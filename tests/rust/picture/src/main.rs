@@ -6,10 +6,9 @@
 //!     picture writes SEED N          N calls of the writer, of any size: each gets what the rules give, and is read back
 
 mod files;
-mod ours;
-mod rules;
 
 use cases::Rng;
+use rules::picture as rules;
 use std::collections::BTreeMap;
 use std::io::Write;
 use std::{env, fs, process};
@@ -33,7 +32,8 @@ fn print(bytes: &[u8]) {
 /// Reads a file with so much room, and holds the answer and all the bytes lent against the rules.
 fn read_as_ruled(file: &[u8], room: usize) -> Result<(u32, u32, Vec<u8>), u32> {
     let mut out = vec![BEFORE; room];
-    let found = ours::read(file, &mut out);
+    let (mut width, mut height) = (u32::MAX, u32::MAX);
+    let found = (ours::ppm_read(file, &mut out, &mut width, &mut height), width, height);
     let (answer, lent) = match rules::read(file, room) {
         Ok((width, height, raster)) => ((rules::DONE, width, height), [raster, &vec![BEFORE; room - raster.len()]].concat()),
         Err(number) => ((number, 0, 0), vec![BEFORE; room]),
@@ -49,7 +49,8 @@ fn read_as_ruled(file: &[u8], room: usize) -> Result<(u32, u32, Vec<u8>), u32> {
 
 fn write_as_ruled(pixels: &[u32], width: u32, height: u32, room: usize) -> Result<Vec<u8>, u32> {
     let mut out = vec![BEFORE; room];
-    let found = ours::write(pixels, width, height, &mut out);
+    let mut size = usize::MAX;
+    let found = (ours::ppm_write(pixels, width, height, &mut out, &mut size), size);
     let ruled = rules::write(pixels, width, height, room);
     let (answer, lent) = match &ruled {
         Ok(file) => ((rules::DONE, file.len()), [file, &vec![BEFORE; room - file.len()][..]].concat()),

@@ -11,7 +11,7 @@ pub const SUMS: u32 = 3;
 pub const HAND_OUT: u32 = 4;
 pub const TILING: u32 = 5;
 
-/// `told` is the stage, the item, and the lines and references counted; all 0 but the last two where it is done.
+/// The stage and the item are 0 where it is done; `lines` and `made` are what was counted.
 pub fn frame(
     path_nos: &[u32],
     coords: &[f32],
@@ -21,33 +21,38 @@ pub fn frame(
     tally: &mut [u32],
     refs: &mut [u32],
     segments: &mut [f32],
-    told: &mut [u32; 4],
+    stage: &mut u32,
+    item: &mut u32,
+    lines: &mut u32,
+    made: &mut u32,
 ) -> u32 {
-    let (mut lines, mut made, mut item) = (0, 0, 0);
+    (*lines, *made, *item) = (0, 0, 0);
     let checked = lent(path_nos, coords, paths, backdrops, tiles, tally, refs, segments);
-    let mut number = answer(checked, &mut item);
-    let mut stage = LENT;
+    let mut number = answer(checked, item);
+    *stage = LENT;
     if number == DONE {
         backdrops.fill(0);
         tiles.fill(0);
-        stage = COUNTING;
+        *stage = COUNTING;
         let all = path_nos.len() as u32;
-        number = count(path_nos, coords, paths, backdrops, tiles, refs, all, &mut lines, &mut made, &mut item);
+        number = count(path_nos, coords, paths, backdrops, tiles, refs, all, lines, made, item);
     }
     if number == DONE {
-        stage = SUMS;
-        number = backdrop(paths, backdrops, &mut item);
+        *stage = SUMS;
+        number = backdrop(paths, backdrops, item);
     }
     if number == DONE {
-        stage = HAND_OUT;
+        *stage = HAND_OUT;
         let room = (segments.len() / SEGMENT).min(ROOM_MOST as usize) as u32;
         number = hand_out(tiles, tally, room);
     }
     if number == DONE {
-        stage = TILING;
-        number = tile(path_nos, coords, paths, tiles, refs, 0, made, segments, &mut item);
+        *stage = TILING;
+        number = tile(path_nos, coords, paths, tiles, refs, 0, *made, segments, item);
     }
-    *told = if number == DONE { [0, 0, lines, made] } else { [stage, item, lines, made] };
+    if number == DONE {
+        (*stage, *item) = (0, 0);
+    }
     number
 }
 

@@ -13,6 +13,7 @@ pub mod frame;
 pub mod hand_out;
 pub mod limits;
 pub mod lists;
+pub mod picture;
 pub mod tile;
 pub mod walk;
 
@@ -23,4 +24,5 @@ pub use fine::fine;
 pub use frame::frame;
 pub use hand_out::hand_out;
 pub use lists::write_lists;
+pub use picture::{ppm_read, ppm_write};
 pub use tile::tile;

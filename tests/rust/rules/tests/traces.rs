@@ -131,7 +131,8 @@ fn frames() {
     let framed = |tally: usize, slots: usize| {
         let (mut b, mut t, mut y) = (vec![9; 4], vec![9; 4], vec![9; tally]);
         let (mut refs, mut segments, mut told) = (vec![0; 4], vec![0.0; 5 * slots], [7; 4]);
-        let number = frame(&[0], &line, &paths, &mut b, &mut t, &mut y, &mut refs, &mut segments, &mut told);
+        let [stage, item, lines, made] = &mut told;
+        let number = frame(&[0], &line, &paths, &mut b, &mut t, &mut y, &mut refs, &mut segments, stage, item, lines, made);
         (number, told, b, t, y)
     };
     let stored = vec![4_294_967_295, 0, 4_294_967_294, 0];

@@ -1,6 +1,6 @@
 //! The picture that the program `scene` must write, by the unchanged Rust: `cargo run --profile checked -p gen --bin scene`
 //! writes it to crates/scene/stdout; with the word `check` it writes nothing and ends with status 1 where that file differs
-//! (where the Rust source isn't at hand, it says so and ends well).
+//! (with another where the Rust source isn't at hand).
 //!
 //! The scene is read from the program's own files, which are Rust as well. Counting, the sums and tiling are the Rust's;
 //! hand-out isn't in it and is done plainly here. The paths are painted one after another with no command list: `fill_path`
@@ -136,8 +136,8 @@ fn picture() -> Vec<u8> {
 fn main() {
     let check = env::args().nth(1).as_deref() == Some("check");
     if !oracle::AT_HAND {
-        println!("the ported Rust isn't at hand: no picture can be made");
-        std::process::exit(!check as i32);
+        eprintln!("the ported Rust isn't at hand: no picture can be made or checked");
+        std::process::exit(oracle::NOT_AT_HAND);
     }
     let place = PathBuf::from(env!("CARGO_MANIFEST_DIR")).join("../../../crates/scene/stdout");
     let file = picture();

@@ -1,5 +1,8 @@
 //! What the program `traces` must print, by the unchanged Rust: `cargo run --profile checked -p gen --bin traces`
-//! writes it to standard output, and crates/traces/stdout holds it. Hand-out isn't in the Rust: it is the rules'.
+//! writes it to standard output, and crates/traces/stdout holds it; with the word `check` it ends with status 1 where that file
+//! differs. Hand-out isn't in the Rust: it is the rules'.
+
+use std::fmt::Write;
 
 fn words<T: std::fmt::Display>(words: &[T]) -> String {
     words.iter().map(|w| format!(" {w}")).collect()
@@ -9,36 +12,53 @@ fn bits(segment: &[f32]) -> String {
     segment.iter().map(|x| format!(" {:x}", x.to_bits())).collect()
 }
 
-fn trace(name: &str, coords: [f32; 4], x0: u32) {
+fn trace(out: &mut String, name: &str, coords: [f32; 4], x0: u32) -> std::fmt::Result {
     let (path_nos, paths) = ([0], [x0, 0, x0 + 2, 2, 0]);
     let (mut backdrops, mut counts, mut refs) = ([0i32; 4], [0u32; 4], [0u32; 8]);
     let made = oracle::count(&path_nos, &coords, &paths, &mut backdrops, &mut counts, &mut refs, 0, 1, 0).unwrap();
-    println!("{name}: count 0, references {made}");
-    println!("  counts{}", words(&counts));
-    println!("  backdrops{}", words(&backdrops));
+    writeln!(out, "{name}: count 0, references {made}")?;
+    writeln!(out, "  counts{}", words(&counts))?;
+    writeln!(out, "  backdrops{}", words(&backdrops))?;
     oracle::backdrop(&paths, &mut backdrops).unwrap();
-    println!("  sums 0:{}", words(&backdrops));
+    writeln!(out, "  sums 0:{}", words(&backdrops))?;
     let mut next = 0;
     for count in &mut counts {
         let n = *count;
         *count = if n == 0 { 0 } else { !next };
         next += n;
     }
-    println!("  hand-out 0:{}", words(&counts));
+    writeln!(out, "  hand-out 0:{}", words(&counts))?;
     let mut segments = [0.0f32; 10];
     oracle::tile(&path_nos, &coords, &paths, &counts, &refs, 0, made as usize, &mut segments).unwrap();
-    println!("  tile 0");
-    println!("  slot 0:{}", bits(&segments[..5]));
-    println!("  slot 1:{}", bits(&segments[5..]));
+    writeln!(out, "  tile 0")?;
+    writeln!(out, "  slot 0:{}", bits(&segments[..5]))?;
+    writeln!(out, "  slot 1:{}", bits(&segments[5..]))
+}
+
+fn all() -> Result<String, std::fmt::Error> {
+    let mut text = String::new();
+    let out = &mut text;
+    trace(out, "(8,8)-(8,24)", [8.0, 8.0, 8.0, 24.0], 0)?;
+    trace(out, "(0,16)-(32,16)", [0.0, 16.0, 32.0, 16.0], 0)?;
+    trace(out, "(0,8)-(32,8)", [0.0, 8.0, 32.0, 8.0], 0)?;
+    trace(out, "(8,8)-(8,24), box from column 1", [8.0, 8.0, 8.0, 24.0], 1)?;
+    trace(out, "(8,24)-(8,8), box from column 1", [8.0, 24.0, 8.0, 8.0], 1)?;
+    trace(out, "(16,0)-(16,16)", [16.0, 0.0, 16.0, 16.0], 0)?;
+    trace(out, "(0,4)-(8,8)", [0.0, 4.0, 8.0, 8.0], 0)?;
+    Ok(text)
 }
 
 fn main() {
-    assert!(oracle::AT_HAND, "the Rust source is not at hand");
-    trace("(8,8)-(8,24)", [8.0, 8.0, 8.0, 24.0], 0);
-    trace("(0,16)-(32,16)", [0.0, 16.0, 32.0, 16.0], 0);
-    trace("(0,8)-(32,8)", [0.0, 8.0, 32.0, 8.0], 0);
-    trace("(8,8)-(8,24), box from column 1", [8.0, 8.0, 8.0, 24.0], 1);
-    trace("(8,24)-(8,8), box from column 1", [8.0, 24.0, 8.0, 8.0], 1);
-    trace("(16,0)-(16,16)", [16.0, 0.0, 16.0, 16.0], 0);
-    trace("(0,4)-(8,8)", [0.0, 4.0, 8.0, 8.0], 0);
+    if !oracle::AT_HAND {
+        eprintln!("the ported Rust isn't at hand: no trace can be made or checked");
+        std::process::exit(oracle::NOT_AT_HAND);
+    }
+    let text = all().expect("a string takes any text");
+    if std::env::args().nth(1).as_deref() != Some("check") {
+        return print!("{text}");
+    }
+    let place = concat!(env!("CARGO_MANIFEST_DIR"), "/../../../crates/traces/stdout");
+    let same = std::fs::read_to_string(place).is_ok_and(|stands| stands == text);
+    println!("traces: what the program prints {} what the Rust gives", if same { "is" } else { "ISN'T" });
+    std::process::exit(!same as i32);
 }

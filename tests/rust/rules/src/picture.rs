@@ -86,3 +86,29 @@ pub fn write(pixels: &[u32], width: u32, height: u32, room: usize) -> Result<Vec
     }
     Ok(file)
 }
+
+/// Writing, with the exported call's parameters: all that isn't written stays.
+pub fn ppm_write(pixels: &[u32], width: u32, height: u32, out: &mut [u8], size: &mut usize) -> u32 {
+    let file = write(pixels, width, height, out.len());
+    *size = file.as_ref().map_or(0, |f| f.len());
+    file.map_or_else(
+        |number| number,
+        |f| {
+            out[..f.len()].copy_from_slice(&f);
+            DONE
+        },
+    )
+}
+
+/// Reading, with the exported call's parameters.
+pub fn ppm_read(file: &[u8], out: &mut [u8], width: &mut u32, height: &mut u32) -> u32 {
+    let found = read(file, out.len());
+    (*width, *height) = found.map_or((0, 0), |(w, h, _)| (w, h));
+    found.map_or_else(
+        |number| number,
+        |(_, _, raster)| {
+            out[..raster.len()].copy_from_slice(raster);
+            DONE
+        },
+    )
+}

@@ -1,0 +1,125 @@
+//! Calls that lead to the answers which altered words seldom meet, and the answers that each call can give.
+
+use crate::calls::{Call, NAMES};
+use cases::Rng;
+
+/// The answers that a call of a kind can give, all of which the hostile runs want to meet. A frame counts into cleared
+/// tiles, at most 65,536 lines: no tile's count and no sum gets over its limit, so it gives neither 8 nor 11.
+pub fn answers(kind: u32) -> &'static [u32] {
+    match NAMES[kind as usize] {
+        "count" => &[0, 1, 2, 3, 4, 5, 6, 7, 8, 9, 10, 11],
+        "backdrop" => &[0, 1, 2, 3, 4, 11],
+        "hand_out" => &[0, 1, 2, 9],
+        "tile" => &[0, 1, 2, 3, 4, 6, 7, 9, 10, 12],
+        "fill" => &[0, 1, 13],
+        "fine" => &[0, 1, 2, 13, 14, 15, 16],
+        "frame" => &[0, 1, 2, 3, 4, 5, 6, 7, 9, 10, 12],
+        "write_lists" => &[0, 1, 2, 3, 4, 9, 15],
+        "ppm_write" => &[0, 1, 9, 17],
+        "ppm_read" => &[0, 9, 17, 18],
+        name => panic!("which answers can {name} give?"),
+    }
+}
+
+fn bits(line: [f32; 4]) -> Vec<u32> {
+    line.map(f32::to_bits).to_vec()
+}
+
+/// Paths, one more than are allowed or a few.
+fn many_paths(rng: &mut Rng) -> Vec<u32> {
+    vec![0; 5 * (rules::limits::PATHS_MOST as usize + rng.range(0, 2) as usize)]
+}
+
+/// Line numbers at the end of those allowed: the path numbers, the coordinates, the lines so far.
+fn many_lines(rng: &mut Rng) -> (Vec<u32>, Vec<u32>, u32) {
+    let most = rules::limits::LINES_MOST as usize;
+    let n = most + rng.range(0, 2) as usize;
+    (vec![0; n], vec![0; 4 * n], most as u32)
+}
+
+/// A count of one line down the first column of two by two tiles, over tiles that hold these words.
+fn one_line(line: [f32; 4], paths: &[u32], backdrop: u32, count: u32, refs: usize) -> Call {
+    let tiles = 12;
+    let slices = vec![vec![0], bits(line), paths.to_vec(), vec![backdrop; tiles], vec![count; tiles], vec![9; refs]];
+    Call { kind: 1, numbers: vec![1, 0, 0], slices }
+}
+
+fn count(rng: &mut Rng) -> Call {
+    let (down, square) = ([8.0, 8.0, 8.0, 24.0], [0, 0, 2, 2, 0]);
+    match rng.below(12) {
+        0 => one_line(down, &many_paths(rng), 0, 0, 8),
+        1 => {
+            let (path_nos, coords, lines) = many_lines(rng);
+            let numbers = vec![path_nos.len() as u32, lines, 0];
+            Call { kind: 1, numbers, slices: vec![path_nos, coords, square.to_vec(), vec![0; 4], vec![0; 4], vec![9; 8]] }
+        }
+        2..=4 => one_line(down, &square, 0, rng.pick(&[65_535, 65_536, u32::MAX]), 8),
+        5 | 6 => one_line(down, &square, rng.pick(&[i32::MIN as u32, i32::MIN as u32 + 1, i32::MAX as u32]), 0, 8),
+        7 | 8 => one_line([8.0, 24.0, 8.0, 8.0], &square, i32::MAX as u32, 0, 8),
+        _ => one_line([80.0, 0.0, 80.0, f32::from_bits(rng.range(1, 2_000) as u32)], &[0, 0, 6, 1, 0], 0, 0, 8),
+    }
+}
+
+/// A line from a coordinate a few denormals below 0: its piece ends off the tile.
+fn off_its_tile(rng: &mut Rng) -> [f32; 4] {
+    [0.0, f32::from_bits(0x8000_0000 + rng.range(1, 9) as u32), 0.0, 16.0]
+}
+
+fn tile(rng: &mut Rng) -> Call {
+    let slices = match rng.below(3) {
+        0 => vec![vec![0], bits([8.0, 8.0, 8.0, 24.0]), many_paths(rng), vec![u32::MAX; 4], vec![0, 0], vec![0; 10]],
+        1 => {
+            vec![vec![0], bits(off_its_tile(rng)), vec![0, 0, 1, 1, 0], vec![u32::MAX], vec![0, 0], vec![0; 5]]
+        }
+        _ => vec![vec![0], bits([8.0, 8.0, 8.0, 24.0]), vec![0, 0, 2, 2, 0], vec![!rng.range(0, 2) as u32; 4], vec![0, 0], vec![0; 5]],
+    };
+    Call { kind: 4, numbers: vec![0, 1], slices }
+}
+
+fn frame(rng: &mut Rng) -> Call {
+    let (path_nos, coords, paths, tiles) = match rng.below(12) {
+        0 => (vec![0], bits([8.0, 8.0, 8.0, 24.0]), many_paths(rng), 4),
+        2..=6 => (vec![0], bits(off_its_tile(rng)), vec![0, 0, 1, 1, 0], 1),
+        1 => {
+            let (path_nos, coords, _) = many_lines(rng);
+            (path_nos, coords, vec![0, 0, 2, 2, 0], 4)
+        }
+        _ => (vec![0], bits([80.0, 0.0, 80.0, f32::from_bits(rng.range(1, 2_000) as u32)]), vec![0, 0, 6, 1, 0], 6),
+    };
+    let slices = vec![path_nos, coords, paths, vec![7; tiles], vec![7; tiles], vec![7; tiles], vec![9; 8], vec![0; 20]];
+    Call { kind: 7, numbers: vec![], slices }
+}
+
+/// Paths over the one screen tile, all of which its backdrop covers, about as many as its commands allow.
+fn write_lists(rng: &mut Rng) -> Call {
+    let n = rules::limits::COMMANDS_MOST / 2 - rng.below(160) as u32;
+    let paths = (0..n).flat_map(|k| [0, 0, 1, 1, k]).collect();
+    let words = 64 * (n as usize / 10 + 1);
+    let slices = vec![paths, vec![0; 2 * n as usize], vec![1; n as usize], vec![0; n as usize], vec![0; n as usize], vec![7; words]];
+    Call { kind: 8, numbers: vec![1, 1, 0], slices }
+}
+
+/// A call that leads to a rare answer of the kind, where it has one.
+pub fn toward(rng: &mut Rng, kind: u32) -> Option<Call> {
+    Some(match NAMES[kind as usize] {
+        "count" => count(rng),
+        "backdrop" => {
+            let paths = if rng.coin() { many_paths(rng) } else { vec![0, 0, 2, 2, 0] };
+            let ends = rng.pick(&[[i32::MAX as u32, 1], [i32::MIN as u32, u32::MAX], [i32::MAX as u32, 0]]);
+            Call { kind, numbers: vec![], slices: vec![paths, [ends, ends].concat()] }
+        }
+        "hand_out" if rng.one_in(10) => {
+            let tiles = rules::limits::TILES_MOST as usize + rng.range(0, 1) as usize;
+            Call { kind, numbers: vec![u32::MAX], slices: vec![vec![0; tiles], vec![1; tiles]] }
+        }
+        "tile" => tile(rng),
+        "frame" => frame(rng),
+        "write_lists" if rng.one_in(4) => write_lists(rng),
+        "ppm_read" => {
+            let (width, height) = (rng.pick(&[0, 1, 16_384, 16_385, 99_999]), rng.pick(&[0, 1, 16_385]));
+            let file = format!("P6\n{width} {height}\n255\nabc").bytes().map(u32::from).collect();
+            Call { kind, numbers: vec![], slices: vec![file, vec![7; 9]] }
+        }
+        _ => return None,
+    })
+}

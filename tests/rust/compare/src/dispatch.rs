@@ -1,0 +1,242 @@
+//! A call of any kind as plain words (calls.rs), by the rules and by ours.
+//! Made from include/groatpocket.h by tests/rust/signatures (`-- write`), which `./test` holds it against: edit there.
+
+use crate::calls::{Call, Outcome};
+use cases::memory::{Lent, LentBytes};
+
+/// What stands in a number that is only written, before the call.
+const UNTOLD: u32 = 0xabcd;
+
+/// The calls' names, by kind; none has the kind 0.
+pub const NAMES: &[&str] = &[
+    "",
+    "count",
+    "backdrop",
+    "hand_out",
+    "tile",
+    "fill",
+    "fine",
+    "frame",
+    "write_lists",
+    "ppm_write",
+    "ppm_read",
+];
+
+/// The slices that a call of a kind may change.
+pub const CHANGED: &[&[usize]] = &[
+    &[],
+    &[3, 4, 5],
+    &[1],
+    &[0, 1],
+    &[5],
+    &[1],
+    &[2],
+    &[3, 4, 5, 6, 7],
+    &[5],
+    &[1],
+    &[1],
+];
+
+/// The slices that are bytes, a word for each.
+pub const BYTES: &[&[usize]] = &[
+    &[],
+    &[],
+    &[],
+    &[],
+    &[],
+    &[],
+    &[],
+    &[],
+    &[],
+    &[1],
+    &[0, 1],
+];
+
+/// How many slices and numbers a call of a kind takes.
+pub const SHAPES: &[(usize, usize)] = &[
+    (0, 0),
+    (6, 3),
+    (2, 0),
+    (2, 1),
+    (6, 2),
+    (2, 6),
+    (3, 5),
+    (8, 0),
+    (6, 3),
+    (2, 2),
+    (2, 0),
+];
+
+/// Whether a call of a kind is linked.
+pub const LINKED: &[bool] = &[
+    false,
+    ours::has::COUNT,
+    ours::has::BACKDROP,
+    ours::has::HAND_OUT,
+    ours::has::TILE,
+    ours::has::FILL,
+    ours::has::FINE,
+    ours::has::FRAME,
+    ours::has::LISTS,
+    ours::has::PICTURE,
+    ours::has::PICTURE,
+];
+
+macro_rules! answered_by {
+    ($name:ident, $side:ident) => {
+        pub fn $name(call: &Call) -> Outcome {
+            let mut slices: Vec<Lent> = call.slices.iter().map(|w| Lent::new(w)).collect();
+            let n = &call.numbers;
+            let answer = match (call.kind, slices.as_mut_slice()) {
+                (1, [path_nos, coords, paths, backdrops, counts, refs]) => {
+                    let mut lines = n[1];
+                    let mut made = n[2];
+                    let mut item = UNTOLD;
+                    let no = $side::count(
+                        path_nos.u32s(),
+                        coords.f32s(),
+                        paths.u32s(),
+                        backdrops.i32s_mut(),
+                        counts.u32s_mut(),
+                        refs.u32s_mut(),
+                        n[0],
+                        &mut lines,
+                        &mut made,
+                        &mut item,
+                    );
+                    vec![no, item, lines, made]
+                }
+                (2, [paths, backdrops]) => {
+                    let mut item = UNTOLD;
+                    let no = $side::backdrop(
+                        paths.u32s(),
+                        backdrops.i32s_mut(),
+                        &mut item,
+                    );
+                    vec![no, item]
+                }
+                (3, [counts, tally]) => {
+                    let no = $side::hand_out(
+                        counts.u32s_mut(),
+                        tally.u32s_mut(),
+                        n[0],
+                    );
+                    vec![no, 0]
+                }
+                (4, [path_nos, coords, paths, indices, refs, segments]) => {
+                    let mut item = UNTOLD;
+                    let no = $side::tile(
+                        path_nos.u32s(),
+                        coords.f32s(),
+                        paths.u32s(),
+                        indices.u32s(),
+                        refs.u32s(),
+                        n[0],
+                        n[1],
+                        segments.f32s_mut(),
+                        &mut item,
+                    );
+                    vec![no, item]
+                }
+                (5, [segments, area]) => {
+                    let no = $side::fill(
+                        segments.f32s(),
+                        n[0],
+                        n[1],
+                        n[2],
+                        n[3] as i32,
+                        f32::from_bits(n[4]),
+                        f32::from_bits(n[5]),
+                        area.f32s_mut(),
+                    );
+                    vec![no, 0]
+                }
+                (6, [words, segments, pixels]) => {
+                    let mut item = UNTOLD;
+                    let no = $side::fine(
+                        words.u32s(),
+                        segments.f32s(),
+                        n[0],
+                        n[1],
+                        n[2],
+                        n[3],
+                        n[4],
+                        pixels.u32s_mut(),
+                        &mut item,
+                    );
+                    vec![no, item]
+                }
+                (7, [path_nos, coords, paths, backdrops, tiles, tally, refs, segments]) => {
+                    let mut stage = UNTOLD;
+                    let mut item = UNTOLD;
+                    let mut lines = UNTOLD;
+                    let mut made = UNTOLD;
+                    let no = $side::frame(
+                        path_nos.u32s(),
+                        coords.f32s(),
+                        paths.u32s(),
+                        backdrops.i32s_mut(),
+                        tiles.u32s_mut(),
+                        tally.u32s_mut(),
+                        refs.u32s_mut(),
+                        segments.f32s_mut(),
+                        &mut stage,
+                        &mut item,
+                        &mut lines,
+                        &mut made,
+                    );
+                    vec![no, item, stage, lines, made]
+                }
+                (8, [paths, paints, backdrops, stored, tally, words]) => {
+                    let mut item = UNTOLD;
+                    let no = $side::write_lists(
+                        paths.u32s(),
+                        paints.u32s(),
+                        backdrops.i32s(),
+                        stored.u32s(),
+                        tally.u32s(),
+                        n[0],
+                        n[1],
+                        n[2],
+                        words.u32s_mut(),
+                        &mut item,
+                    );
+                    vec![no, item]
+                }
+                (9, [pixels, out]) => {
+                    let mut size = UNTOLD as usize;
+                    let mut out_bytes = LentBytes::of(out.u32s());
+                    let no = $side::ppm_write(
+                        pixels.u32s(),
+                        n[0],
+                        n[1],
+                        out_bytes.u8s_mut(),
+                        &mut size,
+                    );
+                    out_bytes.give_back(out.u32s_mut());
+                    vec![no, 0, size as u32]
+                }
+                (10, [file, out]) => {
+                    let mut width = UNTOLD;
+                    let mut height = UNTOLD;
+                    let file_bytes = LentBytes::of(file.u32s());
+                    let mut out_bytes = LentBytes::of(out.u32s());
+                    let no = $side::ppm_read(
+                        file_bytes.u8s(),
+                        out_bytes.u8s_mut(),
+                        &mut width,
+                        &mut height,
+                    );
+                    file_bytes.give_back(file.u32s_mut());
+                    out_bytes.give_back(out.u32s_mut());
+                    vec![no, 0, width, height]
+                }
+                _ => panic!("no call of kind {}", call.kind),
+            };
+            Outcome { answer, slices }
+        }
+    };
+}
+
+answered_by!(by_rules, rules);
+answered_by!(by_ours, ours);

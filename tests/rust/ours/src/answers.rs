@@ -1,0 +1,53 @@
+//! What the crate `groatpocket` answers, as the number and what stands behind the pointers: a function for each way of
+//! telling, named by what is told.
+
+use groatpocket::{Refused, Running, Stopped};
+
+/// The refusal's number; 0 where the call is done.
+pub fn nothing(answer: Result<(), Refused>) -> u32 {
+    answer.err().map_or(0, |r| r.refusal.number())
+}
+
+/// Its item besides; 0 where the call is done.
+pub fn item(answer: Result<(), Refused>, item: &mut u32) -> u32 {
+    *item = answer.err().map_or(0, |r| r.item);
+    nothing(answer)
+}
+
+pub fn lines_made_item(answer: Result<Running, Stopped>, lines: &mut u32, made: &mut u32, item: &mut u32) -> u32 {
+    let (number, of, running) = match answer {
+        Ok(running) => (0, 0, running),
+        Err(stopped) => (stopped.refused.refusal.number(), stopped.refused.item, stopped.running),
+    };
+    (*lines, *made, *item) = (running.lines, running.references, of);
+    number
+}
+
+#[cfg(feature = "frame")]
+pub fn stage_item_lines_made(
+    answer: Result<Running, groatpocket::FrameStopped>,
+    stage: &mut u32,
+    item: &mut u32,
+    lines: &mut u32,
+    made: &mut u32,
+) -> u32 {
+    let (at, running) = match &answer {
+        Ok(running) => (0, *running),
+        Err(stopped) => (stopped.stage as u32, stopped.running),
+    };
+    (*stage, *lines, *made) = (at, running.lines, running.references);
+    self::item(answer.map(|_| ()).map_err(|stopped| stopped.refused), item)
+}
+
+/// The crate asserts that a refusal leaves 0 in what is told, in builds with debug assertions.
+#[cfg(feature = "picture")]
+pub fn size(answer: Result<usize, Refused>, size: &mut usize) -> u32 {
+    *size = answer.unwrap_or(0);
+    nothing(answer.map(|_| ()))
+}
+
+#[cfg(feature = "picture")]
+pub fn width_height(answer: Result<(u32, u32), Refused>, width: &mut u32, height: &mut u32) -> u32 {
+    (*width, *height) = answer.unwrap_or((0, 0));
+    nothing(answer.map(|_| ()))
+}

@@ -1,0 +1,250 @@
+//! The exported functions through the bridge, each by its number in `server_calls.h`.
+//! Made from include/groatpocket.h by tests/rust/signatures (`-- write`), which `./test` holds it against: edit there.
+
+use super::bridge::{call, changed, read_only};
+
+#[cfg(feature = "count")]
+#[no_mangle]
+unsafe extern "C" fn gp_count(
+    path_nos: *const u32, path_nos_len: usize,
+    coords: *const f32, coords_len: usize,
+    paths: *const u32, paths_len: usize,
+    backdrops: *mut i32, backdrops_len: usize,
+    counts: *mut u32, counts_len: usize,
+    refs: *mut u32, refs_len: usize,
+    end: u32, lines: &mut u32, made: &mut u32, item: &mut u32,
+) -> u32 {
+    let mut n = [end, *lines, *made, *item];
+    let answer = call(
+        1,
+        &mut n,
+        vec![
+            read_only(path_nos, path_nos_len),
+            read_only(coords, coords_len),
+            read_only(paths, paths_len),
+            changed(backdrops, backdrops_len),
+            changed(counts, counts_len),
+            changed(refs, refs_len),
+        ],
+    );
+    *lines = n[1];
+    *made = n[2];
+    *item = n[3];
+    answer
+}
+
+#[cfg(feature = "backdrop")]
+#[no_mangle]
+unsafe extern "C" fn gp_backdrop(
+    paths: *const u32, paths_len: usize,
+    backdrops: *mut i32, backdrops_len: usize,
+    item: &mut u32,
+) -> u32 {
+    let mut n = [*item];
+    let answer = call(
+        2,
+        &mut n,
+        vec![
+            read_only(paths, paths_len),
+            changed(backdrops, backdrops_len),
+        ],
+    );
+    *item = n[0];
+    answer
+}
+
+#[cfg(feature = "hand_out")]
+#[no_mangle]
+unsafe extern "C" fn gp_hand_out(
+    counts: *mut u32, counts_len: usize,
+    tally: *mut u32, tally_len: usize,
+    room: u32,
+) -> u32 {
+    let mut n = [room];
+    let answer = call(
+        3,
+        &mut n,
+        vec![
+            changed(counts, counts_len),
+            changed(tally, tally_len),
+        ],
+    );
+    answer
+}
+
+#[cfg(feature = "tile")]
+#[no_mangle]
+unsafe extern "C" fn gp_tile(
+    path_nos: *const u32, path_nos_len: usize,
+    coords: *const f32, coords_len: usize,
+    paths: *const u32, paths_len: usize,
+    indices: *const u32, indices_len: usize,
+    refs: *const u32, refs_len: usize,
+    from: u32, to: u32,
+    segments: *mut f32, segments_len: usize,
+    item: &mut u32,
+) -> u32 {
+    let mut n = [from, to, *item];
+    let answer = call(
+        4,
+        &mut n,
+        vec![
+            read_only(path_nos, path_nos_len),
+            read_only(coords, coords_len),
+            read_only(paths, paths_len),
+            read_only(indices, indices_len),
+            read_only(refs, refs_len),
+            changed(segments, segments_len),
+        ],
+    );
+    *item = n[2];
+    answer
+}
+
+#[cfg(feature = "fill")]
+#[no_mangle]
+unsafe extern "C" fn gp_fill(
+    segments: *const f32, segments_len: usize,
+    first: u32, number: u32, even_odd: u32, backdrop: i32, x_tile: f32, y_tile: f32,
+    area: *mut f32, area_len: usize,
+) -> u32 {
+    let mut n = [first, number, even_odd, backdrop as u32, x_tile.to_bits(), y_tile.to_bits()];
+    let answer = call(
+        5,
+        &mut n,
+        vec![
+            read_only(segments, segments_len),
+            changed(area, area_len),
+        ],
+    );
+    answer
+}
+
+#[cfg(feature = "fine")]
+#[no_mangle]
+unsafe extern "C" fn gp_fine(
+    words: *const u32, words_len: usize,
+    segments: *const f32, segments_len: usize,
+    width: u32, cols: u32, rows: u32, from: u32, to: u32,
+    pixels: *mut u32, pixels_len: usize,
+    item: &mut u32,
+) -> u32 {
+    let mut n = [width, cols, rows, from, to, *item];
+    let answer = call(
+        6,
+        &mut n,
+        vec![
+            read_only(words, words_len),
+            read_only(segments, segments_len),
+            changed(pixels, pixels_len),
+        ],
+    );
+    *item = n[5];
+    answer
+}
+
+#[cfg(feature = "frame")]
+#[no_mangle]
+unsafe extern "C" fn gp_frame(
+    path_nos: *const u32, path_nos_len: usize,
+    coords: *const f32, coords_len: usize,
+    paths: *const u32, paths_len: usize,
+    backdrops: *mut i32, backdrops_len: usize,
+    tiles: *mut u32, tiles_len: usize,
+    tally: *mut u32, tally_len: usize,
+    refs: *mut u32, refs_len: usize,
+    segments: *mut f32, segments_len: usize,
+    stage: &mut u32, item: &mut u32, lines: &mut u32, made: &mut u32,
+) -> u32 {
+    let mut n = [*stage, *item, *lines, *made];
+    let answer = call(
+        7,
+        &mut n,
+        vec![
+            read_only(path_nos, path_nos_len),
+            read_only(coords, coords_len),
+            read_only(paths, paths_len),
+            changed(backdrops, backdrops_len),
+            changed(tiles, tiles_len),
+            changed(tally, tally_len),
+            changed(refs, refs_len),
+            changed(segments, segments_len),
+        ],
+    );
+    *stage = n[0];
+    *item = n[1];
+    *lines = n[2];
+    *made = n[3];
+    answer
+}
+
+#[cfg(feature = "lists")]
+#[no_mangle]
+unsafe extern "C" fn gp_write_lists(
+    paths: *const u32, paths_len: usize,
+    paints: *const u32, paints_len: usize,
+    backdrops: *const i32, backdrops_len: usize,
+    stored: *const u32, stored_len: usize,
+    tally: *const u32, tally_len: usize,
+    cols: u32, rows: u32, room: u32,
+    words: *mut u32, words_len: usize,
+    item: &mut u32,
+) -> u32 {
+    let mut n = [cols, rows, room, *item];
+    let answer = call(
+        8,
+        &mut n,
+        vec![
+            read_only(paths, paths_len),
+            read_only(paints, paints_len),
+            read_only(backdrops, backdrops_len),
+            read_only(stored, stored_len),
+            read_only(tally, tally_len),
+            changed(words, words_len),
+        ],
+    );
+    *item = n[3];
+    answer
+}
+
+#[cfg(feature = "picture")]
+#[no_mangle]
+unsafe extern "C" fn gp_ppm_write(
+    pixels: *const u32, pixels_len: usize,
+    width: u32, height: u32,
+    out: *mut u8, out_len: usize,
+    size: &mut usize,
+) -> u32 {
+    let mut n = [width, height, *size as u32];
+    let answer = call(
+        9,
+        &mut n,
+        vec![
+            read_only(pixels, pixels_len),
+            changed(out, out_len),
+        ],
+    );
+    *size = n[2] as usize;
+    answer
+}
+
+#[cfg(feature = "picture")]
+#[no_mangle]
+unsafe extern "C" fn gp_ppm_read(
+    file: *const u8, file_len: usize,
+    out: *mut u8, out_len: usize,
+    width: &mut u32, height: &mut u32,
+) -> u32 {
+    let mut n = [*width, *height];
+    let answer = call(
+        10,
+        &mut n,
+        vec![
+            read_only(file, file_len),
+            changed(out, out_len),
+        ],
+    );
+    *width = n[0];
+    *height = n[1];
+    answer
+}

@@ -1,0 +1,167 @@
+//! The calls of the crate `groatpocket` with the header's parameters, and their numbers for answers.
+//! Made from include/groatpocket.h by tests/rust/signatures (`-- write`), which `./test` holds it against: edit there.
+
+/// A call whose feature is off.
+#[allow(dead_code)]
+fn not_linked<T>(_: T) -> u32 {
+    panic!("a call that isn't linked")
+}
+
+pub fn count(
+    path_nos: &[u32],
+    coords: &[f32],
+    paths: &[u32],
+    backdrops: &mut [i32],
+    counts: &mut [u32],
+    refs: &mut [u32],
+    end: u32,
+    lines: &mut u32,
+    made: &mut u32,
+    item: &mut u32,
+) -> u32 {
+    #[cfg(feature = "count")]
+    return crate::answers::lines_made_item(groatpocket::count(groatpocket::Running { lines: *lines, references: *made }, end, path_nos, coords, paths, backdrops, counts, refs), lines, made, item);
+    #[cfg(not(feature = "count"))]
+    not_linked(("count", path_nos, coords, paths, backdrops, counts, refs, end, lines, made, item))
+}
+
+pub fn backdrop(
+    paths: &[u32],
+    backdrops: &mut [i32],
+    item: &mut u32,
+) -> u32 {
+    #[cfg(feature = "backdrop")]
+    return crate::answers::item(groatpocket::backdrop(paths, backdrops), item);
+    #[cfg(not(feature = "backdrop"))]
+    not_linked(("backdrop", paths, backdrops, item))
+}
+
+pub fn hand_out(
+    counts: &mut [u32],
+    tally: &mut [u32],
+    room: u32,
+) -> u32 {
+    #[cfg(feature = "hand_out")]
+    return crate::answers::nothing(groatpocket::hand_out(counts, tally, room));
+    #[cfg(not(feature = "hand_out"))]
+    not_linked(("hand_out", counts, tally, room))
+}
+
+pub fn tile(
+    path_nos: &[u32],
+    coords: &[f32],
+    paths: &[u32],
+    indices: &[u32],
+    refs: &[u32],
+    from: u32,
+    to: u32,
+    segments: &mut [f32],
+    item: &mut u32,
+) -> u32 {
+    #[cfg(feature = "tile")]
+    return crate::answers::item(groatpocket::tile(from, to, path_nos, coords, paths, indices, refs, segments), item);
+    #[cfg(not(feature = "tile"))]
+    not_linked(("tile", path_nos, coords, paths, indices, refs, from, to, segments, item))
+}
+
+pub fn fill(
+    segments: &[f32],
+    first: u32,
+    number: u32,
+    even_odd: u32,
+    backdrop: i32,
+    x_tile: f32,
+    y_tile: f32,
+    area: &mut [f32],
+) -> u32 {
+    #[cfg(feature = "fill")]
+    if even_odd > 1 {
+        // the safe call has a bool there
+        // SAFETY: every pointer and length is a slice's, lent for the call alone.
+        return unsafe { groatpocket::raw::gp_fill(segments.as_ptr(), segments.len(), first, number, even_odd, backdrop, x_tile, y_tile, area.as_mut_ptr(), area.len()) };
+    }
+    #[cfg(feature = "fill")]
+    return crate::answers::nothing(groatpocket::fill(segments, groatpocket::Fill { first, number, even_odd: even_odd != 0, backdrop, x_tile, y_tile }, area));
+    #[cfg(not(feature = "fill"))]
+    not_linked(("fill", segments, first, number, even_odd, backdrop, x_tile, y_tile, area))
+}
+
+pub fn fine(
+    words: &[u32],
+    segments: &[f32],
+    width: u32,
+    cols: u32,
+    rows: u32,
+    from: u32,
+    to: u32,
+    pixels: &mut [u32],
+    item: &mut u32,
+) -> u32 {
+    #[cfg(feature = "fine")]
+    return crate::answers::item(groatpocket::fine(words, segments, groatpocket::Screen { width, cols, rows }, from, to, pixels), item);
+    #[cfg(not(feature = "fine"))]
+    not_linked(("fine", words, segments, width, cols, rows, from, to, pixels, item))
+}
+
+pub fn frame(
+    path_nos: &[u32],
+    coords: &[f32],
+    paths: &[u32],
+    backdrops: &mut [i32],
+    tiles: &mut [u32],
+    tally: &mut [u32],
+    refs: &mut [u32],
+    segments: &mut [f32],
+    stage: &mut u32,
+    item: &mut u32,
+    lines: &mut u32,
+    made: &mut u32,
+) -> u32 {
+    #[cfg(feature = "frame")]
+    return crate::answers::stage_item_lines_made(groatpocket::frame(path_nos, coords, paths, backdrops, tiles, tally, refs, segments), stage, item, lines, made);
+    #[cfg(not(feature = "frame"))]
+    not_linked(("frame", path_nos, coords, paths, backdrops, tiles, tally, refs, segments, stage, item, lines, made))
+}
+
+pub fn write_lists(
+    paths: &[u32],
+    paints: &[u32],
+    backdrops: &[i32],
+    stored: &[u32],
+    tally: &[u32],
+    cols: u32,
+    rows: u32,
+    room: u32,
+    words: &mut [u32],
+    item: &mut u32,
+) -> u32 {
+    #[cfg(feature = "lists")]
+    return crate::answers::item(groatpocket::write_lists(paths, paints, backdrops, stored, tally, cols, rows, room, words), item);
+    #[cfg(not(feature = "lists"))]
+    not_linked(("write_lists", paths, paints, backdrops, stored, tally, cols, rows, room, words, item))
+}
+
+pub fn ppm_write(
+    pixels: &[u32],
+    width: u32,
+    height: u32,
+    out: &mut [u8],
+    size: &mut usize,
+) -> u32 {
+    #[cfg(feature = "picture")]
+    return crate::answers::size(groatpocket::ppm_write(pixels, width, height, out), size);
+    #[cfg(not(feature = "picture"))]
+    not_linked(("ppm_write", pixels, width, height, out, size))
+}
+
+pub fn ppm_read(
+    file: &[u8],
+    out: &mut [u8],
+    width: &mut u32,
+    height: &mut u32,
+) -> u32 {
+    #[cfg(feature = "picture")]
+    return crate::answers::width_height(groatpocket::ppm_read(file, out), width, height);
+    #[cfg(not(feature = "picture"))]
+    not_linked(("ppm_read", file, out, width, height))
+}

@@ -1,0 +1,233 @@
+//! The header, the exports and the helpers' numbers, read.
+
+use crate::fail;
+
+/// An element of a slice, or a number.
+#[derive(Clone, Copy, Debug, PartialEq, Eq)]
+pub enum Of {
+    U8,
+    U32,
+    I32,
+    F32,
+    Usize,
+    Bool,
+}
+
+impl Of {
+    fn of_c(word: &str) -> Option<Of> {
+        Some(match word {
+            "uint8_t" => Of::U8,
+            "uint32_t" => Of::U32,
+            "int32_t" => Of::I32,
+            "float" => Of::F32,
+            "size_t" => Of::Usize,
+            _ => return None,
+        })
+    }
+
+    fn of_rust(word: &str) -> Option<Of> {
+        [Of::U8, Of::U32, Of::I32, Of::F32, Of::Usize, Of::Bool].into_iter().find(|of| of.rust() == word)
+    }
+
+    pub fn rust(self) -> &'static str {
+        match self {
+            Of::U8 => "u8",
+            Of::U32 => "u32",
+            Of::I32 => "i32",
+            Of::F32 => "f32",
+            Of::Usize => "usize",
+            Of::Bool => "bool",
+        }
+    }
+
+    pub fn c(self) -> &'static str {
+        match self {
+            Of::U8 | Of::Bool => "uint8_t",
+            Of::U32 => "uint32_t",
+            Of::I32 => "int32_t",
+            Of::F32 => "float",
+            Of::Usize => "size_t",
+        }
+    }
+}
+
+/// How a parameter is lent.
+#[derive(Clone, Copy, Debug, PartialEq, Eq)]
+pub enum How {
+    /// A slice to be read.
+    Read,
+    /// A slice to be changed.
+    Changed,
+    /// A number that is written.
+    Told,
+    /// A number that is read and written.
+    GoesOn,
+    /// A number by value.
+    Value,
+}
+
+#[derive(Clone, Debug)]
+pub struct Param {
+    pub name: String,
+    pub how: How,
+    pub of: Of,
+}
+
+impl Param {
+    pub fn is_slice(&self) -> bool {
+        matches!(self.how, How::Read | How::Changed)
+    }
+
+    pub fn is_told(&self) -> bool {
+        matches!(self.how, How::Told | How::GoesOn)
+    }
+}
+
+#[derive(Clone, Debug)]
+pub struct Call {
+    /// Without the `gp_`.
+    pub name: String,
+    pub params: Vec<Param>,
+}
+
+impl Call {
+    pub fn slices(&self) -> impl Iterator<Item = &Param> {
+        self.params.iter().filter(|p| p.is_slice())
+    }
+
+    /// The numbers that a caller gives: those by value, and those that go on.
+    pub fn given(&self) -> impl Iterator<Item = &Param> {
+        self.params.iter().filter(|p| matches!(p.how, How::Value | How::GoesOn))
+    }
+
+    pub fn told(&self) -> impl Iterator<Item = &Param> {
+        self.params.iter().filter(|p| p.is_told())
+    }
+
+    /// The feature of tests/rust/ours that links it.
+    pub fn feature(&self) -> &str {
+        match self.name.as_str() {
+            "write_lists" => "lists",
+            "ppm_write" | "ppm_read" => "picture",
+            name => name,
+        }
+    }
+}
+
+/// A function of the export.
+pub struct Export {
+    pub name: String,
+    params: Vec<Param>,
+    answer: Of,
+    /// What it promises, as it is written.
+    ensures: String,
+}
+
+/// A float helper: its number in the list of floats.
+pub struct Helper {
+    pub name: String,
+    pub number: u32,
+    pub params: Vec<Param>,
+    pub answer: Of,
+}
+
+fn without_comments(text: &str) -> String {
+    let mut out = String::new();
+    for (k, part) in text.split("/*").enumerate() {
+        out += if k == 0 { part } else { part.split_once("*/").unwrap_or_else(|| fail("a comment of the header has no end")).1 };
+    }
+    out.lines().filter(|l| !l.starts_with('#')).map(|l| format!("{l}\n")).collect()
+}
+
+/// The calls that the header declares, in its order.
+pub fn header(text: &str) -> Vec<Call> {
+    let text = without_comments(text);
+    let declared = text.split("uint32_t gp_").skip(1).map(|d| {
+        let (name, rest) = d.split_once('(').unwrap_or_else(|| fail("a declaration without parameters"));
+        let (list, _) = rest.split_once(");").unwrap_or_else(|| fail(&format!("gp_{name} has no end")));
+        let words: Vec<Vec<String>> = list.split(',').map(|p| p.replace('*', " * ").split_whitespace().map(str::to_string).collect()).collect();
+        let mut params: Vec<Param> = vec![];
+        for word in &words {
+            let bad = || -> ! { fail(&format!("gp_{name}: `{}` isn't read", word.join(" "))) };
+            let word: Vec<&str> = word.iter().map(String::as_str).collect();
+            let (how, of, name) = match word[..] {
+                ["size_t", length] if params.last().is_some_and(|p| length == format!("{}_len", p.name)) => {
+                    let slice = params.last_mut().unwrap();
+                    slice.how = if slice.how == How::Read { How::Read } else { How::Changed };
+                    continue;
+                }
+                ["const", of, "*", name] => (How::Read, of, name),
+                [of, "*", name] => (How::Told, of, name),
+                [of, name] => (How::Value, of, name),
+                _ => bad(),
+            };
+            let Some(of) = Of::of_c(of) else { bad() };
+            params.push(Param { name: name.into(), how, of });
+        }
+        Call { name: name.into(), params }
+    });
+    let calls: Vec<Call> = declared.collect();
+    if calls.is_empty() {
+        fail("the header declares no call");
+    }
+    calls
+}
+
+/// The functions that the crate groatpocket exports.
+pub fn exports(text: &str) -> Vec<Export> {
+    let found = text.split("pub extern \"C\" fn gp_").skip(1).map(|e| {
+        let (name, rest) = e.split_once('(').unwrap();
+        let bad = |what: &str| -> ! { fail(&format!("the export gp_{name}: {what} isn't read")) };
+        let Some((list, rest)) = rest.split_once(") -> ") else { bad("its parameters") };
+        let (answer, rest) = rest.split_once(char::is_whitespace).unwrap_or_else(|| bad("its answer"));
+        let ensures = rest.split_once("\n{").unwrap_or_else(|| bad("its promise")).0;
+        let params = list.split(',').map(str::trim).filter(|p| !p.is_empty()).map(|p| {
+            let Some((name, of)) = p.split_once(": ") else { bad(p) };
+            let (how, of) = match (of.strip_prefix("&mut "), of.strip_prefix('&')) {
+                (Some(of), _) if of.starts_with('[') => (How::Changed, of),
+                (Some(of), _) => (How::Told, of),
+                (_, Some(of)) => (How::Read, of),
+                _ => (How::Value, of),
+            };
+            let Some(of) = Of::of_rust(of.trim_matches(['[', ']'])) else { bad(p) };
+            Param { name: name.into(), how, of }
+        });
+        let Some(answer) = Of::of_rust(answer) else { bad("its answer") };
+        Export { name: name.into(), params: params.collect(), answer, ensures: ensures.into() }
+    });
+    found.collect()
+}
+
+/// The header's parameters are the export's: as many, in one order, of the same types.
+pub fn agree(call: &Call, export: &Export) {
+    let types = |params: &[Param]| params.iter().map(|p| format!("{:?} {}", p.how, p.of.rust())).collect::<Vec<_>>();
+    let (said, stands) = (types(&call.params), types(&export.params));
+    if said != stands || export.answer != Of::U32 {
+        fail(&format!("gp_{}: the header has\n  {}\nand the export\n  {}", call.name, said.join(", "), stands.join(", ")));
+    }
+}
+
+/// A number behind a pointer goes on from what it held where the promise speaks of it at the call's entry.
+pub fn goes_on(call: &mut Call, export: &Export) {
+    for (param, exported) in call.params.iter_mut().zip(&export.params) {
+        let (plain, quoted) = (format!("({} .entry)", exported.name), format!("(«{}» .entry)", exported.name));
+        if param.how == How::Told && (export.ensures.contains(&plain) || export.ensures.contains(&quoted)) {
+            param.how = How::GoesOn;
+        }
+    }
+}
+
+/// An export that the header doesn't declare is a float helper, with a number in tests/rust/README.md, "The lists".
+pub fn helper(export: &Export, format: &str) -> Helper {
+    let after =
+        format.split("**`floats`**").nth(1).and_then(|t| t.split("\n\n").next()).unwrap_or_else(|| fail("the list of floats isn't described"));
+    let words: Vec<&str> = after.split(|c: char| !c.is_ascii_alphanumeric() && c != '_').filter(|w| !w.is_empty()).collect();
+    let number = words.windows(2).find(|w| w[1] == export.name && w[0].len() == 2).and_then(|w| u32::from_str_radix(w[0], 16).ok());
+    let Some(number) = number else {
+        fail(&format!("gp_{} is exported, but isn't in the header nor among the helpers of tests/rust/README.md", export.name))
+    };
+    if export.params.iter().any(|p| p.how != How::Value) {
+        fail(&format!("gp_{} is lent memory, but isn't in the header", export.name));
+    }
+    Helper { name: export.name.clone(), number, params: export.params.clone(), answer: export.answer }
+}

@@ -1,0 +1,226 @@
+/* The archive's functions, told wrongly where tests/rust/can_fail asks for it (`--wrap` of the linker).
+ * Made from include/groatpocket.h by tests/rust/signatures (`-- write`), which `./test` holds it against: edit there. */
+#include "wrong.h"
+
+uint32_t __real_gp_count(const uint32_t *path_nos, size_t path_nos_len, const float *coords, size_t coords_len, const uint32_t *paths, size_t paths_len, int32_t *backdrops, size_t backdrops_len, uint32_t *counts, size_t counts_len, uint32_t *refs, size_t refs_len, uint32_t end, uint32_t *lines, uint32_t *made, uint32_t *item);
+uint32_t __wrap_gp_count(const uint32_t *path_nos, size_t path_nos_len, const float *coords, size_t coords_len, const uint32_t *paths, size_t paths_len, int32_t *backdrops, size_t backdrops_len, uint32_t *counts, size_t counts_len, uint32_t *refs, size_t refs_len, uint32_t end, uint32_t *lines, uint32_t *made, uint32_t *item) {
+    uint32_t answer = __real_gp_count(path_nos, path_nos_len, coords, coords_len, paths, paths_len, backdrops, backdrops_len, counts, counts_len, refs, refs_len, end, lines, made, item);
+    if (strikes("count backdrops", answer == 0 && backdrops_len > 0)) flip(backdrops + backdrops_len / 2);
+    if (strikes("count backdrops refused", answer != 0 && backdrops_len > 0)) flip(backdrops + backdrops_len / 2);
+    if (strikes("count counts", answer == 0 && counts_len > 0)) flip(counts + counts_len / 2);
+    if (strikes("count counts refused", answer != 0 && counts_len > 0)) flip(counts + counts_len / 2);
+    if (strikes("count refs", answer == 0 && refs_len > 0)) flip(refs + refs_len / 2);
+    if (strikes("count refs refused", answer != 0 && refs_len > 0)) flip(refs + refs_len / 2);
+    if (strikes("count lines", 1)) *lines += 1;
+    if (strikes("count made", 1)) *made += 1;
+    if (strikes("count item", answer != 0)) *item += 1;
+    if (strikes("count answer", 1)) answer ^= 1;
+    return answer;
+}
+
+uint32_t __real_gp_backdrop(const uint32_t *paths, size_t paths_len, int32_t *backdrops, size_t backdrops_len, uint32_t *item);
+uint32_t __wrap_gp_backdrop(const uint32_t *paths, size_t paths_len, int32_t *backdrops, size_t backdrops_len, uint32_t *item) {
+    uint32_t answer = __real_gp_backdrop(paths, paths_len, backdrops, backdrops_len, item);
+    if (strikes("backdrop backdrops", answer == 0 && backdrops_len > 0)) flip(backdrops + backdrops_len / 2);
+    if (strikes("backdrop backdrops refused", answer != 0 && backdrops_len > 0)) flip(backdrops + backdrops_len / 2);
+    if (strikes("backdrop item", answer != 0)) *item += 1;
+    if (strikes("backdrop answer", 1)) answer ^= 1;
+    return answer;
+}
+
+uint32_t __real_gp_hand_out(uint32_t *counts, size_t counts_len, uint32_t *tally, size_t tally_len, uint32_t room);
+uint32_t __wrap_gp_hand_out(uint32_t *counts, size_t counts_len, uint32_t *tally, size_t tally_len, uint32_t room) {
+    uint32_t answer = __real_gp_hand_out(counts, counts_len, tally, tally_len, room);
+    if (strikes("hand_out counts", answer == 0 && counts_len > 0)) flip(counts + counts_len / 2);
+    if (strikes("hand_out counts refused", answer != 0 && counts_len > 0)) flip(counts + counts_len / 2);
+    if (strikes("hand_out tally", answer == 0 && tally_len > 0)) flip(tally + tally_len / 2);
+    if (strikes("hand_out tally refused", answer != 0 && tally_len > 0)) flip(tally + tally_len / 2);
+    if (strikes("hand_out answer", 1)) answer ^= 1;
+    return answer;
+}
+
+uint32_t __real_gp_tile(const uint32_t *path_nos, size_t path_nos_len, const float *coords, size_t coords_len, const uint32_t *paths, size_t paths_len, const uint32_t *indices, size_t indices_len, const uint32_t *refs, size_t refs_len, uint32_t from, uint32_t to, float *segments, size_t segments_len, uint32_t *item);
+uint32_t __wrap_gp_tile(const uint32_t *path_nos, size_t path_nos_len, const float *coords, size_t coords_len, const uint32_t *paths, size_t paths_len, const uint32_t *indices, size_t indices_len, const uint32_t *refs, size_t refs_len, uint32_t from, uint32_t to, float *segments, size_t segments_len, uint32_t *item) {
+    uint32_t answer = __real_gp_tile(path_nos, path_nos_len, coords, coords_len, paths, paths_len, indices, indices_len, refs, refs_len, from, to, segments, segments_len, item);
+    if (strikes("tile segments", answer == 0 && segments_len > 0)) flip(segments + segments_len / 2);
+    if (strikes("tile segments refused", answer != 0 && segments_len > 0)) flip(segments + segments_len / 2);
+    if (strikes("tile item", answer != 0)) *item += 1;
+    if (strikes("tile answer", 1)) answer ^= 1;
+    return answer;
+}
+
+uint32_t __real_gp_fill(const float *segments, size_t segments_len, uint32_t first, uint32_t number, uint32_t even_odd, int32_t backdrop, float x_tile, float y_tile, float *area, size_t area_len);
+uint32_t __wrap_gp_fill(const float *segments, size_t segments_len, uint32_t first, uint32_t number, uint32_t even_odd, int32_t backdrop, float x_tile, float y_tile, float *area, size_t area_len) {
+    uint32_t answer = __real_gp_fill(segments, segments_len, first, number, even_odd, backdrop, x_tile, y_tile, area, area_len);
+    if (strikes("fill area", answer == 0 && area_len > 0)) flip(area + area_len / 2);
+    if (strikes("fill area refused", answer != 0 && area_len > 0)) flip(area + area_len / 2);
+    if (strikes("fill answer", 1)) answer ^= 1;
+    return answer;
+}
+
+uint32_t __real_gp_fine(const uint32_t *words, size_t words_len, const float *segments, size_t segments_len, uint32_t width, uint32_t cols, uint32_t rows, uint32_t from, uint32_t to, uint32_t *pixels, size_t pixels_len, uint32_t *item);
+uint32_t __wrap_gp_fine(const uint32_t *words, size_t words_len, const float *segments, size_t segments_len, uint32_t width, uint32_t cols, uint32_t rows, uint32_t from, uint32_t to, uint32_t *pixels, size_t pixels_len, uint32_t *item) {
+    uint32_t answer = __real_gp_fine(words, words_len, segments, segments_len, width, cols, rows, from, to, pixels, pixels_len, item);
+    if (strikes("fine pixels", answer == 0 && pixels_len > 0)) flip(pixels + pixels_len / 2);
+    if (strikes("fine pixels refused", answer != 0 && pixels_len > 0)) flip(pixels + pixels_len / 2);
+    if (strikes("fine item", answer != 0)) *item += 1;
+    if (strikes("fine answer", 1)) answer ^= 1;
+    return answer;
+}
+
+uint32_t __real_gp_frame(const uint32_t *path_nos, size_t path_nos_len, const float *coords, size_t coords_len, const uint32_t *paths, size_t paths_len, int32_t *backdrops, size_t backdrops_len, uint32_t *tiles, size_t tiles_len, uint32_t *tally, size_t tally_len, uint32_t *refs, size_t refs_len, float *segments, size_t segments_len, uint32_t *stage, uint32_t *item, uint32_t *lines, uint32_t *made);
+uint32_t __wrap_gp_frame(const uint32_t *path_nos, size_t path_nos_len, const float *coords, size_t coords_len, const uint32_t *paths, size_t paths_len, int32_t *backdrops, size_t backdrops_len, uint32_t *tiles, size_t tiles_len, uint32_t *tally, size_t tally_len, uint32_t *refs, size_t refs_len, float *segments, size_t segments_len, uint32_t *stage, uint32_t *item, uint32_t *lines, uint32_t *made) {
+    uint32_t answer = __real_gp_frame(path_nos, path_nos_len, coords, coords_len, paths, paths_len, backdrops, backdrops_len, tiles, tiles_len, tally, tally_len, refs, refs_len, segments, segments_len, stage, item, lines, made);
+    if (strikes("frame backdrops", answer == 0 && backdrops_len > 0)) flip(backdrops + backdrops_len / 2);
+    if (strikes("frame backdrops refused", answer != 0 && backdrops_len > 0)) flip(backdrops + backdrops_len / 2);
+    if (strikes("frame tiles", answer == 0 && tiles_len > 0)) flip(tiles + tiles_len / 2);
+    if (strikes("frame tiles refused", answer != 0 && tiles_len > 0)) flip(tiles + tiles_len / 2);
+    if (strikes("frame tally", answer == 0 && tally_len > 0)) flip(tally + tally_len / 2);
+    if (strikes("frame tally refused", answer != 0 && tally_len > 0)) flip(tally + tally_len / 2);
+    if (strikes("frame refs", answer == 0 && refs_len > 0)) flip(refs + refs_len / 2);
+    if (strikes("frame refs refused", answer != 0 && refs_len > 0)) flip(refs + refs_len / 2);
+    if (strikes("frame segments", answer == 0 && segments_len > 0)) flip(segments + segments_len / 2);
+    if (strikes("frame segments refused", answer != 0 && segments_len > 0)) flip(segments + segments_len / 2);
+    if (strikes("frame stage", answer != 0)) *stage += 1;
+    if (strikes("frame item", answer != 0)) *item += 1;
+    if (strikes("frame lines", 1)) *lines += 1;
+    if (strikes("frame made", 1)) *made += 1;
+    if (strikes("frame answer", 1)) answer ^= 1;
+    return answer;
+}
+
+uint32_t __real_gp_write_lists(const uint32_t *paths, size_t paths_len, const uint32_t *paints, size_t paints_len, const int32_t *backdrops, size_t backdrops_len, const uint32_t *stored, size_t stored_len, const uint32_t *tally, size_t tally_len, uint32_t cols, uint32_t rows, uint32_t room, uint32_t *words, size_t words_len, uint32_t *item);
+uint32_t __wrap_gp_write_lists(const uint32_t *paths, size_t paths_len, const uint32_t *paints, size_t paints_len, const int32_t *backdrops, size_t backdrops_len, const uint32_t *stored, size_t stored_len, const uint32_t *tally, size_t tally_len, uint32_t cols, uint32_t rows, uint32_t room, uint32_t *words, size_t words_len, uint32_t *item) {
+    uint32_t answer = __real_gp_write_lists(paths, paths_len, paints, paints_len, backdrops, backdrops_len, stored, stored_len, tally, tally_len, cols, rows, room, words, words_len, item);
+    if (strikes("write_lists words", answer == 0 && words_len > 0)) flip(words + words_len / 2);
+    if (strikes("write_lists words refused", answer != 0 && words_len > 0)) flip(words + words_len / 2);
+    if (strikes("write_lists item", answer != 0)) *item += 1;
+    if (strikes("write_lists answer", 1)) answer ^= 1;
+    return answer;
+}
+
+uint32_t __real_gp_ppm_write(const uint32_t *pixels, size_t pixels_len, uint32_t width, uint32_t height, uint8_t *out, size_t out_len, size_t *size);
+uint32_t __wrap_gp_ppm_write(const uint32_t *pixels, size_t pixels_len, uint32_t width, uint32_t height, uint8_t *out, size_t out_len, size_t *size) {
+    uint32_t answer = __real_gp_ppm_write(pixels, pixels_len, width, height, out, out_len, size);
+    if (strikes("ppm_write out", answer == 0 && out_len > 0)) flip(out + out_len / 2);
+    if (strikes("ppm_write out refused", answer != 0 && out_len > 0)) flip(out + out_len / 2);
+    if (strikes("ppm_write size", 1)) *size += 1;
+    if (strikes("ppm_write answer", 1)) answer ^= 1;
+    return answer;
+}
+
+uint32_t __real_gp_ppm_read(const uint8_t *file, size_t file_len, uint8_t *out, size_t out_len, uint32_t *width, uint32_t *height);
+uint32_t __wrap_gp_ppm_read(const uint8_t *file, size_t file_len, uint8_t *out, size_t out_len, uint32_t *width, uint32_t *height) {
+    uint32_t answer = __real_gp_ppm_read(file, file_len, out, out_len, width, height);
+    if (strikes("ppm_read out", answer == 0 && out_len > 0)) flip(out + out_len / 2);
+    if (strikes("ppm_read out refused", answer != 0 && out_len > 0)) flip(out + out_len / 2);
+    if (strikes("ppm_read width", 1)) *width += 1;
+    if (strikes("ppm_read height", 1)) *height += 1;
+    if (strikes("ppm_read answer", 1)) answer ^= 1;
+    return answer;
+}
+
+float __real_gp_floor(float x);
+float __wrap_gp_floor(float x) {
+    float answer = __real_gp_floor(x);
+    if (strikes("floor answer", 1)) flip(&answer);
+    return answer;
+}
+
+float __real_gp_ceil(float x);
+float __wrap_gp_ceil(float x) {
+    float answer = __real_gp_ceil(x);
+    if (strikes("ceil answer", 1)) flip(&answer);
+    return answer;
+}
+
+float __real_gp_round(float x);
+float __wrap_gp_round(float x) {
+    float answer = __real_gp_round(x);
+    if (strikes("round answer", 1)) flip(&answer);
+    return answer;
+}
+
+float __real_gp_trunc(float x);
+float __wrap_gp_trunc(float x) {
+    float answer = __real_gp_trunc(x);
+    if (strikes("trunc answer", 1)) flip(&answer);
+    return answer;
+}
+
+float __real_gp_abs(float x);
+float __wrap_gp_abs(float x) {
+    float answer = __real_gp_abs(x);
+    if (strikes("abs answer", 1)) flip(&answer);
+    return answer;
+}
+
+float __real_gp_signum(float x);
+float __wrap_gp_signum(float x) {
+    float answer = __real_gp_signum(x);
+    if (strikes("signum answer", 1)) flip(&answer);
+    return answer;
+}
+
+float __real_gp_min(float a, float b);
+float __wrap_gp_min(float a, float b) {
+    float answer = __real_gp_min(a, b);
+    if (strikes("min answer", 1)) flip(&answer);
+    return answer;
+}
+
+float __real_gp_max(float a, float b);
+float __wrap_gp_max(float a, float b) {
+    float answer = __real_gp_max(a, b);
+    if (strikes("max answer", 1)) flip(&answer);
+    return answer;
+}
+
+float __real_gp_copysign(float magnitude, float sign);
+float __wrap_gp_copysign(float magnitude, float sign) {
+    float answer = __real_gp_copysign(magnitude, sign);
+    if (strikes("copysign answer", 1)) flip(&answer);
+    return answer;
+}
+
+float __real_gp_clamp(float x, float lo, float hi);
+float __wrap_gp_clamp(float x, float lo, float hi) {
+    float answer = __real_gp_clamp(x, lo, hi);
+    if (strikes("clamp answer", 1)) flip(&answer);
+    return answer;
+}
+
+uint32_t __real_gp_to_u32(float x);
+uint32_t __wrap_gp_to_u32(float x) {
+    uint32_t answer = __real_gp_to_u32(x);
+    if (strikes("to_u32 answer", 1)) flip(&answer);
+    return answer;
+}
+
+int32_t __real_gp_to_i32(float x);
+int32_t __wrap_gp_to_i32(float x) {
+    int32_t answer = __real_gp_to_i32(x);
+    if (strikes("to_i32 answer", 1)) flip(&answer);
+    return answer;
+}
+
+float __real_gp_of_u32(uint32_t n);
+float __wrap_gp_of_u32(uint32_t n) {
+    float answer = __real_gp_of_u32(n);
+    if (strikes("of_u32 answer", 1)) flip(&answer);
+    return answer;
+}
+
+float __real_gp_of_i32(int32_t n);
+float __wrap_gp_of_i32(int32_t n) {
+    float answer = __real_gp_of_i32(n);
+    if (strikes("of_i32 answer", 1)) flip(&answer);
+    return answer;
+}
+
+uint8_t __real_gp_is_finite(float x);
+uint8_t __wrap_gp_is_finite(float x) {
+    uint8_t answer = __real_gp_is_finite(x);
+    if (strikes("is_finite answer", 1)) flip(&answer);
+    return answer;
+}
