@@ -68,7 +68,8 @@ pub fn clamp(x: f32, lo: f32, hi: f32) -> f32
 pub fn signum(x: f32) -> f32
     ensures { λ r. ⌜ r ≡ signumOf x ⌝ }
 {
-    if x != x {
+    let no_number = x != x;
+    if no_number {
         x
     } else if f32::to_bits(x) < 0x8000_0000 {
         1.0

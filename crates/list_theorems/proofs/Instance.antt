@@ -44,21 +44,21 @@ an-instance a b c d e = like-painted two 2 1 1 (replicate 128 9) two-words two-w
 -- ---- a list that jumps
 
 -- n paths over one screen tile, the first of them with tile i
-boxes : ℕ → ℕ → List ℕ
+unfoldable pub boxes : ℕ → ℕ → List ℕ
 boxes zero i = []
 boxes (suc n) i = 0 ∷ 0 ∷ 1 ∷ 1 ∷ i ∷ boxes n (suc i)
 
-times : ℕ → List ℕ → List ℕ
+unfoldable pub times : ℕ → List ℕ → List ℕ
 times zero l = []
 times (suc n) l = l ++ times n l
 
-pub sixteen : Tables
+unfoldable pub sixteen : Tables
 sixteen = tables (boxes 16 0) (times 16 (0x2040_60ff ∷ 0 ∷ [])) (replicate 16 (pos 1)) (replicate 16 0) (replicate 16 0)
 
-pub sixteen-words : List ℕ
+unfoldable pub sixteen-words : List ℕ
 sixteen-words = 9 ∷ times 15 (solidNo ∷ 0 ∷ colorNo ∷ 0x2040_60ff ∷ []) ++ jumpNo ∷ 64 ∷ 9 ∷ solidNo ∷ 0 ∷ colorNo ∷ 0x2040_60ff ∷ endNo ∷ replicate 59 9
 
-sixteen-wrote : Wrote sixteen 1 1 0 (replicate 128 9) sixteen-words
+pub sixteen-wrote : Wrote sixteen 1 1 0 (replicate 128 9) sixteen-words
 unfolding boxes times sixteen sixteen-words pathAt pathsFrom pathsAnswer onTile onPath tilePairs callAnswer regionsOf answerOf listsOf writeListsOf
 sixteen-wrote = refl
 

@@ -10,6 +10,7 @@
 --     Exact       refusals are exact
 --     Handed      tables as hand-out leaves them
 --     Instance    the premises can be met
+--     Refuted     statements near the theorems' that are false, refuted by instances
 pub mod Writes
 pub mod Steps
 pub mod Regions
@@ -21,3 +22,4 @@ pub mod Written
 pub mod Exact
 pub mod Handed
 pub mod Instance
+pub mod Refuted

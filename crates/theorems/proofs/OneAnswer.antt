@@ -28,7 +28,7 @@ use Rattle.fine.specs.Fine.{Shown}
 use Rattle.theorems.specs.Promises.{CountMet, BackdropMet, HandMet, TileMet, FillMet, FineMet}
 use Rattle.theorems.specs.Starred.{floatsOf}
 use Rattle.theorems.proofs.SumLaws.{startOf, through, sums}
-use Rattle.theorems.proofs.StarredTable.{starred, computing}
+use Rattle.theorems.proofs.StarredTable.{computing}
 
 -- ---- counting's answer is fixed by its paper
 
@@ -82,7 +82,7 @@ one-fine words segs width cols rows from to pixels a b pixels₁ pixels₂ p q =
     let e = p ∙ sym q in
     (paper-once a b (ap (λ (t : Shown). t .answer) e), ap (λ (t : Shown). t .pixels) e)
 
--- ---- the cheats, tried on counting's promise
+-- ---- the cheats of batches, tried on counting's promise; those that any call could try are in `call_theorems`
 
 abbrev none : List ℕ
 none = 0 ∷ 0 ∷ 0 ∷ 0 ∷ []
@@ -93,34 +93,6 @@ flat = pos 0 ∷ pos 0 ∷ pos 0 ∷ pos 0 ∷ []
 -- the first of these lines counted over the box 0,0,2,2, from zeroed tiles
 abbrev First : (nos ends : List ℕ) → Counted → (bs : List ℤ) (cs rs : List ℕ) → Type 0
 First nos ends r bs cs rs = CountMet (runningOf 0 0) 1 nos (floatsOf ends) (0 ∷ 0 ∷ 2 ∷ 2 ∷ 0 ∷ []) flat none none r bs cs rs
-
--- (8,8)-(8,24), which has two references; (5,5)-(5,5), which has none
-abbrev Down : Counted → (bs : List ℤ) (cs rs : List ℕ) → Type 0
-Down r bs cs rs = First (0 ∷ []) (8 ∷ 8 ∷ 8 ∷ 24 ∷ []) r bs cs rs
-
-abbrev Point : Counted → (bs : List ℤ) (cs rs : List ℕ) → Type 0
-Point r bs cs rs = First (0 ∷ []) (5 ∷ 5 ∷ 5 ∷ 5 ∷ []) r bs cs rs
-
-down-paper : (r : Counted) (bs : List ℤ) (cs rs : List ℕ) → Down r bs cs rs → paperOf r ≡ 0 ∷ 1 ∷ 2 ∷ []
-down-paper r bs cs rs p = ap (λ (t : Told). t .paper) (p ∙ starred .0)
-
--- refusing all
-pub cheat-refusing : (n item : ℕ) (s : Running) (bs : List ℤ) (cs rs : List ℕ) → Down (Refused n item s) bs cs rs → ⊥
-cheat-refusing n item s bs cs rs p =
-    let e : n ∷ item ∷ s .lines ∷ s .refs ∷ [] ≡ 0 ∷ 1 ∷ 2 ∷ [] = down-paper (Refused n item s) bs cs rs p in
-    let z : _≡_ {A = ℕ} 0 1 = cc in omega arith
-
--- one constant answer, whatever it is and whatever it leaves
-pub cheat-constant : (r : Counted) (bs bs′ : List ℤ) (cs cs′ rs rs′ : List ℕ) → Down r bs cs rs → Point r bs′ cs′ rs′ → ⊥
-cheat-constant r bs bs′ cs cs′ rs rs′ p q =
-    let e : _≡_ {A = List ℕ} (0 ∷ 1 ∷ 2 ∷ []) (0 ∷ 1 ∷ 0 ∷ []) = sym (down-paper r bs cs rs p) ∙ ap (λ (t : Told). t .paper) (q ∙ starred .1 .1 .1 .1 .0) in
-    let z : _≡_ {A = ℕ} 2 0 = cc in omega arith
-
--- doing nothing: the memory as it was
-pub cheat-nothing : (r : Counted) → Down r flat none none → ⊥
-cheat-nothing r p =
-    let e : none ≡ 1 ∷ 0 ∷ 1 ∷ 0 ∷ [] = ap (λ (t : Told). t .counts) (p ∙ starred .0) in
-    let z : _≡_ {A = ℕ} 0 1 = cc in omega arith
 
 -- saving all work for the first or the last batch: (8,8)-(8,24) twice, and a batch of one line. What it leaves is the first line's
 abbrev Twice : Counted → (bs : List ℤ) (cs rs : List ℕ) → Type 0

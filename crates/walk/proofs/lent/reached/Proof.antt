@@ -16,7 +16,7 @@ abs-requires-4 : tie.Need-abs-requires-4
 abs-requires-4 c κs = search needs
 
 returns : tie.Need-returns
-returns c = cc
+returns c = rw (c .abs4 .ensures, c .before .abs3 .ensures, c .before .before .abs2 .ensures, c .before .before .before .abs .ensures)
 
 pub reached-spec : {M : Type 1} → statement M
 reached-spec =

@@ -1,0 +1,111 @@
+-- One answer only: what meets the promise of the picture's writer or reader, or of an exported call, is fixed by it, answer and contents alike. The stages'
+-- own calls have theirs in `theorems` and `list_theorems`. Assumes nothing.
+use mathlib.Core.Path.{_≡_, sym, ap, _∙_}
+use mathlib.Core.List.{List}
+use Prim.Native.Nat.{ℕ}
+use lib.IntN.{ℤ}
+use lib.Ieee.{Float}
+use Rattle.path_tiling.specs.Look.{Lent}
+use Rattle.write_lists.specs.Pairs.{Tables}
+use Rattle.ppm_write.specs.Write.{Left, WriteMet}
+use Rattle.ppm_write.specs.declared.Written.{Written}
+use Rattle.ppm_write.proofs.Answers as Wrote
+use Rattle.ppm_read.specs.Read.{ReadMet}
+use Rattle.ppm_read.specs.declared.Answer.{Answer}
+use Rattle.ppm_read.proofs.Answers as Read
+use Rattle.groatpocket.specs.Seen.{Seen, seen, SeenAt, seenAt}
+use Rattle.groatpocket.specs.Calls.{CountSeen, GpFillMet, GpBackdropMet, GpHandMet, GpTileMet, GpFineMet, GpCountMet}
+use Rattle.groatpocket.specs.CallFrame.{FrameSeen, GpFrameMet}
+use Rattle.groatpocket.specs.CallLists.{GpListsMet}
+use Rattle.groatpocket.specs.CallPpm.{ReadSeen, GpWriteMet, GpReadMet}
+
+-- ---- the picture's writer and reader, whole
+
+pub one-write : (pixels : List ℕ) (w h : ℕ) (out : List ℕ) (a b : Written) (out₁ out₂ : List ℕ) → WriteMet pixels w h out a out₁ → WriteMet pixels w h out b out₂
+    → (a ≡ b) × (out₁ ≡ out₂)
+one-write pixels w h out a b out₁ out₂ p q =
+    let e = p ∙ sym q in
+    (Wrote.one-answer a b (ap (λ (l : Left). l .answer) e), ap (λ (l : Left). l .bytes) e)
+
+pub one-read : (file out : List ℕ) (a b : Answer) (out₁ out₂ : List ℕ) → ReadMet file out a out₁ → ReadMet file out b out₂ → (a ≡ b) × (out₁ ≡ out₂)
+one-read file out a b out₁ out₂ p q =
+    let e = p ∙ sym q in
+    (Read.one-answer a b (ap (λ (l : Left). l .answer) e), ap (λ (l : Left). l .bytes) e)
+
+-- ---- the exported calls: two things seen that are one are alike in each part
+
+same-seen : {L : Type 0} (r s : ℕ) (l m : L) (o : Seen L) → seen r l ≡ o → seen s m ≡ o → (r ≡ s) × (l ≡ m)
+same-seen {L} r s l m o p q = let e : seen r l ≡ seen s m = p ∙ sym q in (ap (λ (x : Seen L). x .number) e, ap (λ (x : Seen L). x .lent) e)
+
+same-seen-at : {L : Type 0} (r s i j : ℕ) (l m : L) (o : SeenAt L) → seenAt r i l ≡ o → seenAt s j m ≡ o → (r ≡ s) × (i ≡ j) × (l ≡ m)
+same-seen-at {L} r s i j l m o p q =
+    let e : seenAt r i l ≡ seenAt s j m = p ∙ sym q in
+    (ap (λ (x : SeenAt L). x .number) e, ap (λ (x : SeenAt L). x .at) e, ap (λ (x : SeenAt L). x .lent) e)
+
+pub one-gp-fill : (segs : List Float) (first n flag : ℕ) (backdrop : ℤ) (x y : Float) (area : List Float) (r s : ℕ) (area₁ area₂ : List Float)
+    → GpFillMet segs first n flag backdrop x y area r area₁ → GpFillMet segs first n flag backdrop x y area s area₂ → (r ≡ s) × (area₁ ≡ area₂)
+one-gp-fill segs first n flag backdrop x y area r s area₁ area₂ p q = same-seen r s area₁ area₂ _ p q
+
+pub one-gp-backdrop : (paths : List ℕ) (bs : List ℤ) (r s i j : ℕ) (bs₁ bs₂ : List ℤ) → GpBackdropMet paths bs r i bs₁ → GpBackdropMet paths bs s j bs₂
+    → (r ≡ s) × (i ≡ j) × (bs₁ ≡ bs₂)
+one-gp-backdrop paths bs r s i j bs₁ bs₂ p q = same-seen-at r s i j bs₁ bs₂ _ p q
+
+pub one-gp-hand : (room : ℕ) (ns kept : List ℕ) (r s : ℕ) (ns₁ ns₂ kept₁ kept₂ : List ℕ) → GpHandMet room ns kept r ns₁ kept₁ → GpHandMet room ns kept s ns₂ kept₂
+    → (r ≡ s) × (ns₁ ≡ ns₂) × (kept₁ ≡ kept₂)
+one-gp-hand room ns kept r s ns₁ ns₂ kept₁ kept₂ p q =
+    let e = p ∙ sym q in
+    (ap (λ (x : Seen (List ℕ × List ℕ)). x .number) e, ap (λ (x : Seen (List ℕ × List ℕ)). x .lent .0) e, ap (λ (x : Seen (List ℕ × List ℕ)). x .lent .1) e)
+
+pub one-gp-tile : (from to : ℕ) (L : Lent) (segs : List Float) (r s i j : ℕ) (segs₁ segs₂ : List Float) → GpTileMet from to L segs r i segs₁ → GpTileMet from to L segs s j segs₂
+    → (r ≡ s) × (i ≡ j) × (segs₁ ≡ segs₂)
+one-gp-tile from to L segs r s i j segs₁ segs₂ p q = same-seen-at r s i j segs₁ segs₂ _ p q
+
+pub one-gp-fine : (words : List ℕ) (segs : List Float) (width cols rows from to : ℕ) (pixels : List ℕ) (r s i j : ℕ) (pixels₁ pixels₂ : List ℕ)
+    → GpFineMet words segs width cols rows from to pixels r i pixels₁ → GpFineMet words segs width cols rows from to pixels s j pixels₂
+    → (r ≡ s) × (i ≡ j) × (pixels₁ ≡ pixels₂)
+one-gp-fine words segs width cols rows from to pixels r s i j pixels₁ pixels₂ p q = same-seen-at r s i j pixels₁ pixels₂ _ p q
+
+pub one-gp-count : (l m end : ℕ) (nos : List ℕ) (coords : List Float) (paths : List ℕ) (bs : List ℤ) (cs rs : List ℕ) (r s i j l₁ l₂ m₁ m₂ : ℕ) (bs₁ bs₂ : List ℤ) (cs₁ cs₂ rs₁ rs₂ : List ℕ)
+    → GpCountMet l m end nos coords paths bs cs rs r i l₁ m₁ bs₁ cs₁ rs₁ → GpCountMet l m end nos coords paths bs cs rs s j l₂ m₂ bs₂ cs₂ rs₂
+    → (r ≡ s) × (i ≡ j) × (l₁ ≡ l₂) × (m₁ ≡ m₂) × (bs₁ ≡ bs₂) × (cs₁ ≡ cs₂) × (rs₁ ≡ rs₂)
+one-gp-count l m end nos coords paths bs cs rs r s i j l₁ l₂ m₁ m₂ bs₁ bs₂ cs₁ cs₂ rs₁ rs₂ p q =
+    let e = p ∙ sym q in (
+      ap (λ (x : CountSeen). x .number) e,
+      ap (λ (x : CountSeen). x .at) e,
+      ap (λ (x : CountSeen). x .lines) e,
+      ap (λ (x : CountSeen). x .made) e,
+      ap (λ (x : CountSeen). x .backs) e,
+      ap (λ (x : CountSeen). x .counts) e,
+      ap (λ (x : CountSeen). x .refs) e,
+    )
+
+pub one-gp-frame : (nos : List ℕ) (coords : List Float) (paths : List ℕ) (bs : List ℤ) (ts ks rs : List ℕ) (sg : List Float) (r s at₁ at₂ i j l₁ l₂ m₁ m₂ : ℕ)
+    (bs₁ bs₂ : List ℤ) (ts₁ ts₂ ks₁ ks₂ rs₁ rs₂ : List ℕ) (sg₁ sg₂ : List Float)
+    → GpFrameMet nos coords paths bs ts ks rs sg r at₁ i l₁ m₁ bs₁ ts₁ ks₁ rs₁ sg₁ → GpFrameMet nos coords paths bs ts ks rs sg s at₂ j l₂ m₂ bs₂ ts₂ ks₂ rs₂ sg₂
+    → (r ≡ s) × (at₁ ≡ at₂) × (i ≡ j) × (l₁ ≡ l₂) × (m₁ ≡ m₂) × (bs₁ ≡ bs₂) × (ts₁ ≡ ts₂) × (ks₁ ≡ ks₂) × (rs₁ ≡ rs₂) × (sg₁ ≡ sg₂)
+one-gp-frame nos coords paths bs ts ks rs sg r s at₁ at₂ i j l₁ l₂ m₁ m₂ bs₁ bs₂ ts₁ ts₂ ks₁ ks₂ rs₁ rs₂ sg₁ sg₂ p q =
+    let e = p ∙ sym q in (
+      ap (λ (x : FrameSeen). x .told .number) e,
+      ap (λ (x : FrameSeen). x .told .stage) e,
+      ap (λ (x : FrameSeen). x .told .item) e,
+      ap (λ (x : FrameSeen). x .told .lines) e,
+      ap (λ (x : FrameSeen). x .told .made) e,
+      ap (λ (x : FrameSeen). x .backs) e,
+      ap (λ (x : FrameSeen). x .tiles) e,
+      ap (λ (x : FrameSeen). x .tally) e,
+      ap (λ (x : FrameSeen). x .refs) e,
+      ap (λ (x : FrameSeen). x .segments) e,
+    )
+
+pub one-gp-lists : (t : Tables) (cols rows room : ℕ) (ws : List ℕ) (r s i j : ℕ) (ws₁ ws₂ : List ℕ) → GpListsMet t cols rows room ws r i ws₁ → GpListsMet t cols rows room ws s j ws₂
+    → (r ≡ s) × (i ≡ j) × (ws₁ ≡ ws₂)
+one-gp-lists t cols rows room ws r s i j ws₁ ws₂ p q = same-seen-at r s i j ws₁ ws₂ _ p q
+
+pub one-gp-write : (pixels : List ℕ) (w h : ℕ) (out : List ℕ) (r s i j : ℕ) (out₁ out₂ : List ℕ) → GpWriteMet pixels w h out r i out₁ → GpWriteMet pixels w h out s j out₂
+    → (r ≡ s) × (i ≡ j) × (out₁ ≡ out₂)
+one-gp-write pixels w h out r s i j out₁ out₂ p q = same-seen-at r s i j out₁ out₂ _ p q
+
+pub one-gp-read : (file out : List ℕ) (r s w₁ w₂ h₁ h₂ : ℕ) (out₁ out₂ : List ℕ) → GpReadMet file out r w₁ h₁ out₁ → GpReadMet file out s w₂ h₂ out₂
+    → (r ≡ s) × (w₁ ≡ w₂) × (h₁ ≡ h₂) × (out₁ ≡ out₂)
+one-gp-read file out r s w₁ w₂ h₁ h₂ out₁ out₂ p q =
+    let e = p ∙ sym q in (ap (λ (x : ReadSeen). x .number) e, ap (λ (x : ReadSeen). x .width) e, ap (λ (x : ReadSeen). x .height) e, ap (λ (x : ReadSeen). x .bytes) e)

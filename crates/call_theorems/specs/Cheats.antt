@@ -1,0 +1,48 @@
+-- The cheats that a promise must shut out, of any call: refusing all, one constant answer, doing nothing. A promise at one input is P : it asks P a m of an
+-- answer a and of what was lent, m, as it is afterwards. Definitions only.
+use mathlib.Core.Path.{_≡_}
+use Rattle.panel.specs.declared.kinds.Answer.{Answer}
+use Rattle.panel.specs.declared.kinds.Answer.the-variants as Answer
+use Rattle.path_count.specs.declared.kinds.Counted.{Counted}
+use Rattle.path_count.specs.declared.kinds.Counted.the-variants as Counted
+use Rattle.frame.specs.declared.kinds.Framed.{Framed}
+use Rattle.frame.specs.declared.kinds.Framed.the-variants as Framed
+use Rattle.ppm_write.specs.declared.Written.{Written}
+use Rattle.ppm_write.specs.declared.Written.the-variants as Written
+use Rattle.ppm_read.specs.declared.Answer as Read
+use Rattle.ppm_read.specs.declared.Answer.the-variants as Reading
+
+-- it admits one answer, and one content of what was lent
+abbrev pub Once : (A M : Type 0) → (A → M → Type 0) → Type 0
+Once A M P = (a b : A) (m n : M) → P a m → P b n → (a ≡ b) × (m ≡ n)
+
+-- P is the promise at an input that is not refused, before which `before` was lent; Q at one that is refused. None of these meets both
+pub record Shut (A M : Type 0) (Refuses : A → Type 0) (P Q : A → M → Type 0) (before : M) : Type 0 where
+  -- refusing all, with whatever number, and whatever it leaves
+  pub refusing : (a : A) (m : M) → Refuses a → P a m → ⊥
+  -- one constant answer, whatever it is and whatever it leaves
+  pub constant : (a : A) (m n : M) → P a m → Q a n → ⊥
+  -- doing nothing, whatever it answers
+  pub nothing : (a : A) → P a before → ⊥
+
+-- ---- an answer that refuses, of each kind
+
+abbrev pub Refuses : Answer → Type 0
+Refuses Answer.Done = ⊥
+Refuses (Answer.Refused n item) = Unit {0}
+
+abbrev pub RefusesCount : Counted → Type 0
+RefusesCount (Counted.Done s) = ⊥
+RefusesCount (Counted.Refused n item s) = Unit {0}
+
+abbrev pub RefusesFrame : Framed → Type 0
+RefusesFrame (Framed.Done s) = ⊥
+RefusesFrame (Framed.Refused at n item s) = Unit {0}
+
+abbrev pub RefusesWrite : Written → Type 0
+RefusesWrite (Written.Done n) = ⊥
+RefusesWrite (Written.Refused n) = Unit {0}
+
+abbrev pub RefusesRead : Read.Answer → Type 0
+RefusesRead (Reading.Done w h) = ⊥
+RefusesRead (Reading.Refused n) = Unit {0}
