@@ -1,2 +1,3 @@
 pub mod Acts
 pub mod Traced
+pub mod Encoded

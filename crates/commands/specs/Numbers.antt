@@ -1,7 +1,11 @@
--- The commands' numbers and sizes, and where a tile's list starts, each named once for the contracts. Definitions only.
+-- The commands' numbers, words and sizes, and where a tile's list starts, each named once for the contracts. Definitions only.
+use mathlib.Core.List.{List, [], _∷_}
 use Prim.Native.Nat.{ℕ, _+_, _*_}
+use lib.ListN.{length}
 use Rattle.commands.specs.declared.steps.Op.{Op}
 use Rattle.commands.specs.declared.steps.Op.the-variants.{Fill, Solid, Color, Jump, Unknown}
+use Rattle.commands.specs.declared.steps.Act.{Act}
+use Rattle.commands.specs.declared.steps.Act.the-variants as Does
 
 abbrev pub endNo : ℕ
 endNo = 0
@@ -18,17 +22,29 @@ colorNo = 3
 abbrev pub jumpNo : ℕ
 jumpNo = 4
 
+-- a command's words. A JUMP's second word is the place `to` where the next command stands; no other command says where
+abbrev pub encodeTo : ℕ → Act → List ℕ
+encodeTo to (Does.Fill rule first backdrop) = fillNo ∷ rule ∷ first ∷ backdrop ∷ []
+encodeTo to Does.Solid = solidNo ∷ 0 ∷ []
+encodeTo to (Does.Color word) = colorNo ∷ word ∷ []
+encodeTo to Does.Jump = jumpNo ∷ to ∷ []
+
+-- those of a command that has the next one after it
+abbrev pub encode : Act → List ℕ
+encode a = encodeTo 0 a
+
+-- a size is the length of a command's words, whatever they say
 abbrev pub fillWords : ℕ
-fillWords = 4
+fillWords = length (encode (Does.Fill 0 0 0))
 
 abbrev pub solidWords : ℕ
-solidWords = 2
+solidWords = length (encode Does.Solid)
 
 abbrev pub colorWords : ℕ
-colorWords = 2
+colorWords = length (encode (Does.Color 0))
 
 abbrev pub jumpWords : ℕ
-jumpWords = 2
+jumpWords = length (encode Does.Jump)
 
 -- a command's size in words: of an unknown one there is only the first
 abbrev pub wordsOf : Op → ℕ

@@ -2,5 +2,6 @@
 // does to the tile's areas and colours (run). docs/RULES.md, "Coverage and colour" and refusals 13 to
 // 15; fine.rs, lines 117 to 166.
 pub mod numbers;
+pub mod put;
 pub mod run;
 pub mod steps;

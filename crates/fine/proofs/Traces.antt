@@ -1,20 +1,21 @@
 -- Worked cases of docs/RULES.md, computed. Assumes nothing.
 use mathlib.Core.Path.{_≡_, refl}
-use mathlib.Core.List.{List, [], _∷_}
+use mathlib.Core.List.{List, [], _∷_, _++_}
 use Prim.Native.Nat.{ℕ}
 use lib.Ieee.{ofBits, ofInt, add, sub, mul, div, lt, le, round, toUnsigned}
 use Rattle.float32.specs.Meaning.{clampOf, roundOf}
 use Rattle.panel.specs.declared.kinds.Verdict.the-variants.{Fine, Against}
 use Rattle.panel.specs.Refusals.{pastEnd, unknown}
 use Rattle.colours.specs.Colour.{channelOf, colourOf, overOf, byteOf, packOf}
-use Rattle.commands.specs.Numbers.{solidNo, colorNo, endNo}
+use Rattle.commands.specs.Numbers.{colorNo, endNo, encode}
 use Rattle.commands.specs.Steps.{opOf, moveOf, wholeMove, traceOf}
 use Rattle.commands.specs.Pixel.{cover, paint, pointOf}
+use Rattle.commands.specs.declared.steps.Act.the-variants.{Solid, Color}
 use Rattle.fine.specs.Screen.{tileTrace, endsAt, colourAt}
 
 -- SOLID, then COLOR 0x204060FF, in tile 0's region
 unfoldable pub solid-list : List ℕ
-solid-list = 0 ∷ solidNo ∷ 0 ∷ colorNo ∷ 0x2040_60ff ∷ endNo ∷ []
+solid-list = 0 ∷ encode Solid ++ encode (Color 0x2040_60ff) ++ (endNo ∷ [])
 
 pub solid-done : endsAt solid-list [] 0 ≡ Fine
 unfolding solid-list tileTrace traceOf opOf moveOf wholeMove

@@ -10,7 +10,8 @@ use lib.ListN.{length}
 use borrow.Author.Tests.{leb-true}
 use Rattle.lists.specs.Run.{All, all-append}
 use Rattle.lists.specs.Sums.{from}
-use Rattle.commands.specs.Numbers.{jumpNo, jumpWords, tileWords, startOf}
+use Rattle.commands.specs.Numbers.{encodeTo, jumpWords, tileWords, startOf}
+use Rattle.commands.specs.declared.steps.Act.the-variants.{Jump}
 use Rattle.write_lists.specs.Pairs.{Tables, tilePairs}
 use Rattle.write_lists.specs.Layout.{pairWords, pairSize, Chunk, chunk, penAt, fits, jumpIf, turned, past, laid, jumpCount, leftAt, jumpsOf, ownWords, penOf}
 use Rattle.write_lists.specs.Lists.{freshOf, listsFrom}
@@ -41,10 +42,6 @@ apart-append (x ∷ xs) ys a b c = (all-append (Apart x) xs ys (a .0) (c .0), ap
 abbrev In : ℕ → ℕ → ℕ → ℕ → Chunk → Type 0
 In a b f g c = ((a ≤ c .place) × (c .place + length (c .words) ≤ b)) ⊎ ((f ≤ c .place) × (c .place + length (c .words) ≤ g))
 
-pair-length : (p : Pair) → length (pairWords p) ≡ pairSize p
-pair-length (Fill count rule first backdrop colour) = refl
-pair-length (Solid colour) = refl
-
 pair-most : (p : Pair) → pairSize p + jumpWords ≤ tileWords
 pair-most (Fill count rule first backdrop colour) = omega arith
 pair-most (Solid colour) = omega arith
@@ -59,13 +56,11 @@ laid-in (p ∷ ps) at left fresh h = go (fits p left) refl (laid-in ps)
         → All (In at (at + left) fresh (fresh + tileWords * (jumpCount b + jumpsOf (leftAt b left - pairSize p) ps)))
         ((jumpIf b (penAt at left fresh) ++ (chunk (turned b (penAt at left fresh) .at) (pairWords p) ∷ [])) ++ laid (past p (turned b (penAt at left fresh))) ps)
     go true e ih =
-        let n : length (pairWords p) ≡ pairSize p = pair-length p in
         let f : pairSize p + jumpWords ≤ left = leb-true (pairSize p + jumpWords) left e in (
           inl (omega arith, omega arith),
           all-map _ _ (λ c. ⊎-elim (λ q. inl (omega arith, omega arith)) (λ q. inr (omega arith, omega arith))) (laid (penAt (at + pairSize p) (left - pairSize p) fresh) ps) (ih (at + pairSize p) (left - pairSize p) fresh (omega arith)),
         )
     go false e ih =
-        let n : length (pairWords p) ≡ pairSize p = pair-length p in
         let f : pairSize p + jumpWords ≤ tileWords = pair-most p in (
           inl (omega arith, omega arith),
           (
@@ -82,18 +77,16 @@ laid-apart (p ∷ ps) at left fresh h k = go (fits p left) refl (laid-apart ps)
     go : (b : Bool) → fits p left ≡ b → ((at left fresh : ℕ) → jumpWords ≤ left → at + left ≤ fresh → AllApart (laid (penAt at left fresh) ps))
         → AllApart ((jumpIf b (penAt at left fresh) ++ (chunk (turned b (penAt at left fresh) .at) (pairWords p) ∷ [])) ++ laid (past p (turned b (penAt at left fresh))) ps)
     go true e ih =
-        let n : length (pairWords p) ≡ pairSize p = pair-length p in
         let f : pairSize p + jumpWords ≤ left = leb-true (pairSize p + jumpWords) left e in
         let rest = laid-in ps (at + pairSize p) (left - pairSize p) fresh (omega arith) in (
           all-map _ (Apart (chunk at (pairWords p))) (λ c. ⊎-elim (λ q. inl (omega arith)) (λ q. inl (omega arith))) (laid (penAt (at + pairSize p) (left - pairSize p) fresh) ps) rest,
           ih (at + pairSize p) (left - pairSize p) fresh (omega arith) (omega arith),
         )
     go false e ih =
-        let n : length (pairWords p) ≡ pairSize p = pair-length p in
         let f : pairSize p + jumpWords ≤ tileWords = pair-most p in
         let cs = laid (penAt (fresh + pairSize p) (tileWords - pairSize p) (fresh + tileWords)) ps in
         let rest = laid-in ps (fresh + pairSize p) (tileWords - pairSize p) (fresh + tileWords) (omega arith) in (
-          (inl (omega arith), all-map _ (Apart (chunk at (jumpNo ∷ fresh ∷ []))) (λ c. ⊎-elim (λ q. inl (omega arith)) (λ q. inl (omega arith))) cs rest),
+          (inl (omega arith), all-map _ (Apart (chunk at (encodeTo fresh Jump))) (λ c. ⊎-elim (λ q. inl (omega arith)) (λ q. inl (omega arith))) cs rest),
           (
             all-map _ (Apart (chunk fresh (pairWords p))) (λ c. ⊎-elim (λ q. inl (omega arith)) (λ q. inl (omega arith))) cs rest,
             ih (fresh + pairSize p) (tileWords - pairSize p) (fresh + tileWords) (omega arith) (omega arith),

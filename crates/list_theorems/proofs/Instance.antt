@@ -1,17 +1,23 @@
 -- The premises can be met: two screen tiles under one even-odd path, from hand-out on. The first tile has a segment, the second none and the
--- backdrop -1. And a list that jumps: sixteen paths over one tile. Computed. Assumes nothing.
+-- backdrop -1. And a list that jumps: as many paths over one tile as its region has room for, and one. Computed. Assumes nothing.
 use mathlib.Core.Path.{_≡_, refl}
+use mathlib.Core.Bool.{true}
 use mathlib.Core.List.{List, [], _∷_, _++_}
-use Prim.Native.Nat.{ℕ, zero, suc}
+use Prim.Native.Nat.{ℕ, zero, suc, _-_, _*_, _/_}
 use native.Mathlib.Omega.{arith}
-use lib.IntN.{pos, negsuc}
-use lib.ListN.{replicate}
+use lib.IntN.{ℤ, pos, negsuc}
+use lib.ListN.{length, replicate}
 use lib.Ieee.{Float}
 use Rattle.panel.specs.Paths.{pathAt, pathsFrom, pathsAnswer}
 use Rattle.panel.specs.declared.kinds.Answer.the-variants.{Done}
 use Rattle.hand_out.specs.HandOut.{outOf, handOutOf}
-use Rattle.commands.specs.Numbers.{endNo, fillNo, solidNo, colorNo, jumpNo}
+use Rattle.panel.specs.Signed.{inI32}
+use Rattle.commands.specs.Numbers.{endNo, encodeTo, jumpWords, tileWords}
+use Rattle.commands.specs.declared.steps.Act.the-variants.{Jump}
 use Rattle.write_lists.specs.Pairs.{Tables, tables, onTile, onPath, tilePairs}
+use Rattle.write_lists.specs.Layout.{pairWords, pairSize, ownWords}
+use Rattle.write_lists.specs.declared.pairs.Pair.{Pair}
+use Rattle.write_lists.specs.declared.pairs.Pair.the-variants.{Fill, Solid}
 use Rattle.write_lists.specs.Lists.{callAnswer, regionsOf, answerOf, listsOf, writeListsOf}
 use Rattle.list_theorems.specs.Written.{Wrote, AllI32, LikePainted}
 use Rattle.list_theorems.proofs.Written.{like-painted}
@@ -29,9 +35,12 @@ two = tables (0 ∷ 0 ∷ 2 ∷ 1 ∷ 0 ∷ []) (0x2040_60ff ∷ 1 ∷ []) (pos 
 pub two-handed : Handed 1 (two .stored) (two .tally)
 two-handed = handed 1 (1 ∷ 0 ∷ []) (7 ∷ 7 ∷ []) (two .stored) (two .tally) handed-out
 
+-- these words of a region, then 9 in all that are left of it
+abbrev pub region : List ℕ → List ℕ
+region ws = ws ++ replicate (tileWords - length ws) 9
+
 pub two-words : List ℕ
-two-words =
-    (9 ∷ fillNo ∷ 3 ∷ 0 ∷ 0 ∷ colorNo ∷ 0x2040_60ff ∷ endNo ∷ replicate 56 9) ++ 9 ∷ solidNo ∷ 0 ∷ colorNo ∷ 0x2040_60ff ∷ endNo ∷ replicate 58 9
+two-words = region (9 ∷ pairWords (Fill 1 1 0 0 0x2040_60ff) ++ (endNo ∷ [])) ++ region (9 ∷ pairWords (Solid 0x2040_60ff) ++ (endNo ∷ []))
 
 two-wrote : Wrote two 2 1 1 (replicate 128 9) two-words
 unfolding two-words pathAt pathsFrom pathsAnswer onTile onPath tilePairs callAnswer regionsOf answerOf listsOf writeListsOf
@@ -52,19 +61,30 @@ unfoldable pub times : ℕ → List ℕ → List ℕ
 times zero l = []
 times (suc n) l = l ++ times n l
 
-unfoldable pub sixteen : Tables
-sixteen = tables (boxes 16 0) (times 16 (0x2040_60ff ∷ 0 ∷ [])) (replicate 16 (pos 1)) (replicate 16 0) (replicate 16 0)
+abbrev solid : Pair
+solid = Solid 0x2040_60ff
 
-unfoldable pub sixteen-words : List ℕ
-sixteen-words = 9 ∷ times 15 (solidNo ∷ 0 ∷ colorNo ∷ 0x2040_60ff ∷ []) ++ jumpNo ∷ 64 ∷ 9 ∷ solidNo ∷ 0 ∷ colorNo ∷ 0x2040_60ff ∷ endNo ∷ replicate 59 9
+-- so many pairs fill a tile's own region, a JUMP's words left over
+abbrev pub full : ℕ
+full = (ownWords - jumpWords) / pairSize solid
 
-pub sixteen-wrote : Wrote sixteen 1 1 0 (replicate 128 9) sixteen-words
-unfolding boxes times sixteen sixteen-words pathAt pathsFrom pathsAnswer onTile onPath tilePairs callAnswer regionsOf answerOf listsOf writeListsOf
-sixteen-wrote = refl
+unfoldable pub over : Tables
+over = tables (boxes (suc full) 0) (times (suc full) (0x2040_60ff ∷ 0 ∷ [])) (replicate (suc full) (pos 1)) (replicate (suc full) 0) (replicate (suc full) 0)
 
-sixteen-fit : AllI32 (sixteen .backdrops)
-unfolding sixteen
-sixteen-fit = (refl, (refl, (refl, (refl, (refl, (refl, (refl, (refl, (refl, (refl, (refl, (refl, (refl, (refl, (refl, (refl, tt))))))))))))))))
+unfoldable pub over-words : List ℕ
+over-words = region (9 ∷ times full (pairWords solid) ++ encodeTo tileWords Jump) ++ region (pairWords solid ++ (endNo ∷ []))
 
-pub a-jumping-instance : LikePainted sixteen 1 1 sixteen-words []
-a-jumping-instance = like-painted sixteen 1 1 0 (replicate 128 9) sixteen-words sixteen-wrote [] (record { whole = refl; enough = omega arith }) sixteen-fit
+pub over-wrote : Wrote over 1 1 0 (replicate (2 * tileWords) 9) over-words
+unfolding boxes times over over-words pathAt pathsFrom pathsAnswer onTile onPath tilePairs callAnswer regionsOf answerOf listsOf writeListsOf
+over-wrote = refl
+
+all-fit : (n : ℕ) (b : ℤ) → inI32 b ≡ true → AllI32 (replicate n b)
+all-fit zero b e = tt
+all-fit (suc n) b e = (e, all-fit n b e)
+
+over-fit : AllI32 (over .backdrops)
+unfolding over
+over-fit = all-fit (suc full) (pos 1) refl
+
+pub a-jumping-instance : LikePainted over 1 1 over-words []
+a-jumping-instance = like-painted over 1 1 0 (replicate (2 * tileWords) 9) over-words over-wrote [] (record { whole = refl; enough = omega arith }) over-fit

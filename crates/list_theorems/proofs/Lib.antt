@@ -1,6 +1,5 @@
 -- Proofs of the theorems; docs/THEOREMS.md says which is which.
---     Writes      words written at a place stand there, and words apart from it stay
---     Steps       a command that stands at a place is the trace's next step
+--     Writes      words that stand at a place stay where others are written apart from them
 --     Regions     a list laid out in regions: its chunks stand once written, and its commands are its pairs'
 --     Apart       the chunks of all lists lie in the regions that are theirs
 --     Passed      what a call that is done has been checked for
@@ -12,7 +11,6 @@
 --     Instance    the premises can be met
 --     Refuted     statements near the theorems' that are false, refuted by instances
 pub mod Writes
-pub mod Steps
 pub mod Regions
 pub mod Apart
 pub mod Passed

@@ -3,7 +3,7 @@ use mathlib.Core.Path.{_≡_, refl, sym, ap, _∙_}
 use mathlib.Core.Logic.{_≢_}
 use mathlib.Core.Bool.{cond}
 use mathlib.Core.List.{List, [], _∷_, _++_, reverse}
-use Prim.Native.Nat.{ℕ, suc, _*_, _%_, _≤_, _<_}
+use Prim.Native.Nat.{ℕ, suc, _+_, _*_, _%_, _≤_, _<_}
 use native.Mathlib.Omega.{arith}
 use lib.Dec.{ltb}
 use lib.IntN.{ℤ, pos, negsuc}
@@ -25,21 +25,21 @@ use Rattle.panel.specs.declared.kinds.Verdict.the-variants.{Fine, Against}
 use Rattle.coverage.specs.Tile.{tileWidth, tileSize}
 use Rattle.coverage.specs.Coverage.{areaAfter, finishOf, sumOf, pixelOf}
 use Rattle.colours.specs.Colour.{channelOf, colourOf, overOf, byteOf, packOf}
-use Rattle.commands.specs.Numbers.{endNo, fillNo, solidNo, colorNo}
+use Rattle.commands.specs.Numbers.{endNo, tileWords}
 use Rattle.commands.specs.Pixel.{evenOddOf, cover, paint, pointOf}
 use Rattle.commands.specs.Steps.{Trace, ends, does, opOf, fillMove, wholeMove, moveOf, traceOf}
 use Rattle.fine.specs.Screen.{clear, putTile, tileTrace, endsAt, colourAt as shownAt, tilePixels}
 use Rattle.fine.specs.Fine.{Shown, shown, tileStep, tilesOf, fineOf}
 use Rattle.write_lists.specs.Pairs.{Tables, tables, colourAt, ruleAt, inBox, covers, onTile, onPath, tilePairs}
-use Rattle.write_lists.specs.Layout.{commandsOf}
+use Rattle.write_lists.specs.Layout.{pairWords, commandsOf}
 use Rattle.write_lists.specs.Lists.{callAnswer, regionsOf, answerOf, listsOf, writeListsOf}
 use Rattle.write_lists.specs.declared.pairs.Pair.{Pair}
-use Rattle.write_lists.specs.declared.pairs.Pair.the-variants.{Solid}
+use Rattle.write_lists.specs.declared.pairs.Pair.the-variants.{Fill, Solid}
 use Rattle.list_theorems.specs.Painted.{paintTile, paintPath, screenOf}
 use Rattle.list_theorems.specs.Traced.{pairThen}
 use Rattle.list_theorems.specs.Refusing.{FirstLong}
 use Rattle.list_theorems.specs.Written.{Wrote, Fills, AllI32, Holds}
-use Rattle.list_theorems.proofs.Instance.{boxes, times, sixteen, sixteen-words, sixteen-wrote}
+use Rattle.list_theorems.proofs.Instance.{region, boxes, times, full, over, over-words, over-wrote}
 use Rattle.list_theorems.proofs.Exact.{lists-exact}
 
 -- names all that an instance computes with
@@ -62,18 +62,18 @@ NoJumps =
     (s : Tables) (cols rows room : ℕ) (ws words : List ℕ) (segs : List Float) → Wrote s cols rows room ws words → Fills room segs
     → (t : ℕ) → t < cols * rows → tileTrace words segs t ≡ noJumps (tilePairs s cols t)
 
-with-jump : commandsIn (tileTrace sixteen-words [] 0) ≡ 33
-unfolding computing boxes times sixteen sixteen-words
+with-jump : commandsIn (tileTrace over-words [] 0) ≡ 2 * suc full + 1
+unfolding computing boxes times over over-words
 with-jump = refl
 
-without-jump : commandsIn (noJumps (tilePairs sixteen 1 0)) ≡ 32
-unfolding computing boxes times sixteen sixteen-words
+without-jump : commandsIn (noJumps (tilePairs over 1 0)) ≡ 2 * suc full
+unfolding computing boxes times over over-words
 without-jump = refl
 
 pub jumps-are-there : NoJumps → ⊥
 jumps-are-there f =
-    let e = f sixteen 1 1 0 (replicate 128 9) sixteen-words [] sixteen-wrote (record { whole = refl; enough = omega arith }) 0 (omega arith) in
-    let z : _≡_ {A = ℕ} 33 32 = sym with-jump ∙ ap commandsIn e ∙ without-jump in
+    let e = f over 1 1 0 (replicate (2 * tileWords) 9) over-words [] over-wrote (record { whole = refl; enough = omega arith }) 0 (omega arith) in
+    let z : _≡_ {A = ℕ} (2 * suc full + 1) (2 * suc full) = sym with-jump ∙ ap commandsIn e ∙ without-jump in
     omega arith
 
 -- ---- painting that takes any backdrop but 0 to cover, under even-odd too; and the paths in reverse order
@@ -131,7 +131,7 @@ abbrev pair : Tables
 pair = tables (0 ∷ 0 ∷ 1 ∷ 1 ∷ 0 ∷ 0 ∷ 0 ∷ 1 ∷ 1 ∷ 1 ∷ []) (0x2040_60ff ∷ 0 ∷ 0x6040_20ff ∷ 0 ∷ []) (pos 1 ∷ pos 1 ∷ []) (0 ∷ 0 ∷ []) (0 ∷ 0 ∷ [])
 
 abbrev pair-words : List ℕ
-pair-words = 9 ∷ solidNo ∷ 0 ∷ colorNo ∷ 0x2040_60ff ∷ solidNo ∷ 0 ∷ colorNo ∷ 0x6040_20ff ∷ endNo ∷ replicate 54 9
+pair-words = region (9 ∷ pairWords (Solid 0x2040_60ff) ++ pairWords (Solid 0x6040_20ff) ++ (endNo ∷ []))
 
 pair-wrote : Wrote pair 1 1 0 (replicate 64 9) pair-words
 unfolding computing
@@ -164,7 +164,7 @@ abbrev filled : Tables
 filled = tables (0 ∷ 0 ∷ 1 ∷ 1 ∷ 0 ∷ []) (0x2040_60ff ∷ 0 ∷ []) (pos 0 ∷ []) (0xffff_ffff ∷ []) (2 ∷ [])
 
 abbrev filled-words : List ℕ
-filled-words = 9 ∷ fillNo ∷ 4 ∷ 0 ∷ 0 ∷ colorNo ∷ 0x2040_60ff ∷ endNo ∷ replicate 56 9
+filled-words = region (9 ∷ pairWords (Fill 2 0 0 0 0x2040_60ff) ++ (endNo ∷ []))
 
 filled-wrote : Wrote filled 1 1 2 (replicate 64 9) filled-words
 unfolding computing

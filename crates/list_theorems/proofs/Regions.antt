@@ -5,20 +5,20 @@ use mathlib.Core.Logic.{_⊎_, inl, inr}
 use mathlib.Core.List.{List, [], _∷_, _++_}
 use Prim.Native.Nat.{ℕ, suc, _+_, _-_, _*_, _≤_, _<_}
 use native.Mathlib.Omega.{arith}
-use lib.ListN.{length, getD}
+use lib.ListN.{length, getD, length-append}
 use lib.Seq.{sets, length-sets}
 use Rattle.lists.specs.Cells.{getD-sets-before, getD-sets-after}
 use Rattle.lists.specs.Run.{All}
-use Rattle.commands.specs.Numbers.{fillNo, solidNo, colorNo, fillWords, solidWords, colorWords, tileWords}
+use Rattle.commands.specs.Numbers.{encode, tileWords}
 use Rattle.commands.specs.Steps.{does, traceOf}
 use Rattle.commands.specs.declared.steps.Act.the-variants as Act
-use Rattle.write_lists.specs.Pairs.{fillRule}
+use Rattle.commands.proofs.Encoded.{Stands, written-stands, act-goes, end-goes}
+use Rattle.write_lists.specs.Pairs.{coverOf, colourOf}
 use Rattle.write_lists.specs.Layout.{pairWords, pairSize, Chunk, chunk, penAt, fits, jumpIf, turned, past, laid, jumpCount, leftAt, jumpsOf, written}
 use Rattle.write_lists.specs.declared.pairs.Pair.{Pair}
 use Rattle.write_lists.specs.declared.pairs.Pair.the-variants.{Fill, Solid}
 use Rattle.list_theorems.specs.Traced.{jumpThen, pairThen, listTrace}
-use Rattle.list_theorems.proofs.Writes.{Stands, written-stands, other-stands, first-stands, then-stands}
-use Rattle.list_theorems.proofs.Steps.{at-end, at-jump, at-fill, at-solid, at-color}
+use Rattle.list_theorems.proofs.Writes.{other-stands, first-stands, then-stands}
 
 -- ---- chunks in memory
 
@@ -67,25 +67,26 @@ Filled room (Fill count rule first backdrop colour) = first + count ≤ room
 Filled room (Solid colour) = Unit {0}
 
 module _ (ws : List ℕ) (room : ℕ) where
+  cover-goes : (n at : ℕ) (p : Pair) → Filled room p → Stands ws at (encode (coverOf p))
+      → traceOf (suc n) ws room at ≡ does (coverOf p) (traceOf n ws room (at + length (encode (coverOf p))))
+  cover-goes n at (Fill count rule first backdrop colour) h s = act-goes ws room at 0 n _ (omega arith) s
+  cover-goes n at (Solid colour) h s = act-goes ws room at 0 n Act.Solid tt s
+
   pair-goes : (n at : ℕ) (p : Pair) → Filled room p → Stands ws at (pairWords p) → traceOf (suc (suc n)) ws room at ≡ pairThen p (traceOf n ws room (at + pairSize p))
-  pair-goes n at (Fill count rule first backdrop colour) h s =
-      let vs = fillNo ∷ fillRule count rule ∷ first ∷ backdrop ∷ [] in
-      let us = colorNo ∷ colour ∷ [] in
-      let e : at + length vs + colorWords ≡ at + (fillWords + colorWords) = omega arith in
-      at-fill ws room at (suc n) (fillRule count rule) first backdrop (omega arith) (first-stands ws at vs us s)
-      ∙ ap (does (Act.Fill (fillRule count rule) first backdrop)) (at-color ws room (at + length vs) n colour (then-stands ws at vs us s) ∙ ap (λ (k : ℕ). does (Act.Color colour) (traceOf n ws room k)) e)
-  pair-goes n at (Solid colour) h s =
-      let vs = solidNo ∷ 0 ∷ [] in
-      let us = colorNo ∷ colour ∷ [] in
-      let e : at + length vs + colorWords ≡ at + (solidWords + colorWords) = omega arith in
-      at-solid ws room at (suc n) 0 (first-stands ws at vs us s)
-      ∙ ap (does Act.Solid) (at-color ws room (at + length vs) n colour (then-stands ws at vs us s) ∙ ap (λ (k : ℕ). does (Act.Color colour) (traceOf n ws room k)) e)
+  pair-goes n at p h s =
+      let vs = encode (coverOf p) in
+      let us = encode (Act.Color (colourOf p)) in
+      let e : at + length vs + length us ≡ at + pairSize p = omega (arith, length-append vs us) in
+      cover-goes (suc n) at p h (first-stands ws at vs us s)
+      ∙ ap (does (coverOf p))
+      (act-goes ws room (at + length vs) 0 n (Act.Color (colourOf p)) tt (then-stands ws at vs us s)
+      ∙ ap (λ (k : ℕ). does (Act.Color (colourOf p)) (traceOf n ws room k)) e)
 
   -- the whole list, where so many commands are allowed
   pub list-goes : (ps : List Pair) (n at left fresh : ℕ) → All (Filled room) ps → 2 * length ps + jumpsOf left ps ≤ n → All (ChunkStands ws) (laid (penAt at left fresh) ps)
       → traceOf n ws room at ≡ listTrace left ps
   unfolding listTrace
-  list-goes [] n at left fresh h m s = at-end ws room at n (s .0)
+  list-goes [] n at left fresh h m s = end-goes ws room at 0 n (s .0)
   list-goes (p ∷ ps) n at left fresh h m s = go (fits p left) (λ k at left fresh. list-goes ps k at left fresh (h .1)) m s
     where
       go : (b : Bool) → ((k at left fresh : ℕ) → 2 * length ps + jumpsOf left ps ≤ k → All (ChunkStands ws) (laid (penAt at left fresh) ps) → traceOf k ws room at ≡ listTrace left ps)
@@ -102,7 +103,7 @@ module _ (ws : List ℕ) (room : ℕ) where
           let k = n - 3 in
           let e : n ≡ suc (suc (suc k)) = omega arith in
           ap (λ (i : ℕ). traceOf i ws room at) e
-          ∙ at-jump ws room at (suc (suc k)) fresh (s .0)
+          ∙ act-goes ws room at fresh (suc (suc k)) Act.Jump tt (s .0)
           ∙ ap (does Act.Jump)
           (pair-goes k fresh p (h .0) (s .1 .0)
           ∙ ap (pairThen p) (ih k (fresh + pairSize p) (tileWords - pairSize p) (fresh + tileWords) (omega arith) (s .1 .1)))

@@ -1,4 +1,4 @@
--- Words written at a place stand there, and words apart from it stay. Assumes nothing.
+-- Words that stand at a place stay where others are written apart from them. Assumes nothing.
 use mathlib.Core.Path.{_≡_, ap, _∙_}
 use mathlib.Core.Logic.{_⊎_, inl, inr}
 use mathlib.Core.List.{List, _++_}
@@ -7,19 +7,8 @@ use native.Mathlib.Omega.{arith}
 use native.Mathlib.Nat.{add-assoc}
 use lib.ListN.{length, getD, length-append, List·getD-append}
 use lib.Seq.{sets, length-sets, getD-append-add}
-use Rattle.lists.specs.Cells.{getD-sets-after, getD-sets-before, getD-sets-in}
-
--- the words vs stand in ws from the word `at` on
-pub record Stands (ws : List ℕ) (at : ℕ) (vs : List ℕ) : Type 0 where
-  pub room : at + length vs ≤ length ws
-  pub each : (j : ℕ) → j < length vs → getD ws (at + j) 0 ≡ getD vs j 0
-
-pub written-stands : (ws : List ℕ) (at : ℕ) (vs : List ℕ) → at + length vs ≤ length ws → Stands (sets ws at vs) at vs
-written-stands ws at vs h =
-    record {
-      room = omega (arith, length-sets ws at vs);
-      each = λ j b. getD-sets-in vs ws at j 0 b h;
-    }
+use Rattle.lists.specs.Cells.{getD-sets-after, getD-sets-before}
+use Rattle.commands.proofs.Encoded.{Stands}
 
 -- other words written apart from them
 pub other-stands : (ws : List ℕ) (at : ℕ) (vs : List ℕ) (i : ℕ) (us : List ℕ) → (at + length vs ≤ i) ⊎ (i + length us ≤ at) → Stands ws at vs → Stands (sets ws i us) at vs

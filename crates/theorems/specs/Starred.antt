@@ -2,7 +2,7 @@
 -- comes to. Definitions only.
 use mathlib.Core.Path.{_≡_}
 use mathlib.Core.Bool.{Bool, true, false}
-use mathlib.Core.List.{List, [], _∷_, map}
+use mathlib.Core.List.{List, [], _∷_, _++_, map}
 use Prim.Native.Nat.{ℕ}
 use lib.IntN.{ℤ, pos, negsuc}
 use lib.ListN.{replicate}
@@ -21,7 +21,8 @@ use Rattle.path_tiling.specs.Tiling.{Tiled, tiled, tiledOf}
 use Rattle.coverage.specs.Tile.{tileWidth, tileSize}
 use Rattle.coverage.specs.Coverage.{pixelOf}
 use Rattle.colours.specs.Colour.{byteOf}
-use Rattle.commands.specs.Numbers.{solidNo, colorNo, endNo}
+use Rattle.commands.specs.Numbers.{endNo, encode}
+use Rattle.commands.specs.declared.steps.Act.the-variants.{Solid, Color}
 use Rattle.fine.specs.Fine.{Shown, shown, fineOf}
 
 -- a row of the table
@@ -107,5 +108,5 @@ table =
     -- round(2.5) is 3; 0.5 packs as 128. SOLID, then COLOR 0x204060FF: 0xFF604020
     ∷ rounds (ofBits binary32 0x4020_0000) (ofBits binary32 0x4040_0000)
     ∷ packs Number.half 128
-    ∷ shows (0 ∷ solidNo ∷ 0 ∷ colorNo ∷ 0x2040_60ff ∷ endNo ∷ []) (shown Done (replicate tileSize 0xff60_4020))
+    ∷ shows (0 ∷ encode Solid ++ encode (Color 0x2040_60ff) ++ (endNo ∷ [])) (shown Done (replicate tileSize 0xff60_4020))
     ∷ []

@@ -2,16 +2,19 @@
 use mathlib.Core.Path.{_≡_, refl, sym, ap, _∙_}
 use mathlib.Core.Bool.{Bool, true, false}
 use mathlib.Core.List.{List, [], _∷_, _++_, append-assoc}
-use Prim.Native.Nat.{ℕ, suc, _+_, _-_, _*_, _≤_}
+use Prim.Native.Nat.{ℕ, _+_, _-_, _*_, _≤_}
 use native.Mathlib.Omega.{arith}
 use borrow.Author.Tests.{leb-true}
 use lib.Dec.{leb}
-use lib.ListN.{length, set}
+use lib.ListN.{length}
 use lib.Seq.{sets, length-sets}
+use Rattle.lists.specs.Cells.{sets-append}
 use Rattle.lists.specs.Run.{actAll-append}
 use Rattle.panel.specs.Limits.{mostSlots}
 use Rattle.panel.proofs.BoolLaws.{both}
-use Rattle.commands.specs.Numbers.{jumpNo, jumpWords, tileWords}
+use Rattle.commands.specs.Numbers.{encodeTo, encode, jumpWords, tileWords}
+use Rattle.commands.specs.declared.steps.Act.{Act}
+use Rattle.commands.specs.declared.steps.Act.the-variants.{Jump}
 use Rattle.write_lists.specs.Pairs.{putList}
 use Rattle.write_lists.specs.Layout.{Chunk, chunk, penAt, pairSize, pairWords, fits, jumpIf, turned, after, pairChunks, laid, jumpCount, leftAt, leftAfter, jumpsOf, written, begun, penAfter}
 use Rattle.write_lists.specs.Lists.{slotsFit, allFit}
@@ -131,29 +134,16 @@ module _ (ps : List Pair) (pen₀ : Pen) (words₀ : List ℕ) where
         memory = sym (written-append (begun pen hs) (laid (penAfter pen hs) qs) words) ∙ ap (λ (cs : List Chunk). written cs words) (sym (laid-append hs qs pen)) ∙ l .memory;
       })
 
--- ---- a pair's words, one by one
+-- ---- a pair's words, command by command
 
-pub fill-stores : (l : List ℕ) (i a b c d e f : ℕ)
-    → set (set (set (set (set (set l i a) (i + 1) b) (i + 2) c) (i + 3) d) (i + 4) e) (i + 4 + 1) f ≡ sets l i (a ∷ b ∷ c ∷ d ∷ e ∷ f ∷ [])
-fill-stores l i a b c d e f =
-    let one : i + 1 ≡ suc i = omega arith in
-    let two : i + 2 ≡ suc (suc i) = omega arith in
-    let three : i + 3 ≡ suc (suc (suc i)) = omega arith in
-    let five : i + 4 + 1 ≡ suc (suc (suc (suc (suc i)))) = omega arith in
-    let four : i + 4 ≡ suc (suc (suc (suc i))) = omega arith in
-    rw (one, two, three, five, four)
-
-pub solid-stores : (l : List ℕ) (i a b c d : ℕ) → set (set (set (set l i a) (i + 1) b) (i + 2) c) (i + 2 + 1) d ≡ sets l i (a ∷ b ∷ c ∷ d ∷ [])
-solid-stores l i a b c d =
-    let one : i + 1 ≡ suc i = omega arith in
-    let three : i + 2 + 1 ≡ suc (suc (suc i)) = omega arith in
-    let two : i + 2 ≡ suc (suc i) = omega arith in
-    rw (one, three, two)
+pub pair-put : (l l′ l″ : List ℕ) (at : ℕ) (a b : Act) → l′ ≡ sets l at (encode a) → l″ ≡ sets l′ (at + length (encode a)) (encode b)
+    → l″ ≡ sets l at (encode a ++ encode b)
+pair-put l l′ l″ at a b e f = f ∙ ap (λ (m : List ℕ). sets m (at + length (encode a)) (encode b)) e ∙ sym (sets-append (encode a) (encode b) l at)
 
 -- a JUMP to the fresh region's first word
-pub jump-laid : (pen : Pen) (to : ℕ) (words : List ℕ) → to ≡ pen .fresh
-    → (penAt to tileWords (pen .fresh + tileWords) ≡ turned false pen) × (set (set words (pen .at) jumpNo) (pen .at + 1) to ≡ written (jumpIf false pen) words)
-jump-laid pen to words e = let one : pen .at + 1 ≡ suc (pen .at) = omega arith in (rw e, rw (e, one))
+pub jump-laid : (pen : Pen) (to : ℕ) (words words′ : List ℕ) → to ≡ pen .fresh → words′ ≡ sets words (pen .at) (encodeTo to Jump)
+    → (penAt to tileWords (pen .fresh + tileWords) ≡ turned false pen) × (words′ ≡ written (jumpIf false pen) words)
+jump-laid pen to words words′ e f = (rw e, f ∙ rw e)
 
 -- a FILL whose slots fit has few segments
 pub fill-few : (p : Pair) (count rule first backdrop colour : ℕ) → p ≡ Fill count rule first backdrop colour → slotsFit mostSlots p ≡ true → count ≤ mostSlots

@@ -6,21 +6,18 @@ use lib.Dec.{leb}
 use lib.ListN.{length}
 use lib.Seq.{sets}
 use Rattle.lists.specs.Run.{actAll}
-use Rattle.commands.specs.Numbers.{endNo, fillNo, solidNo, colorNo, jumpNo, fillWords, solidWords, colorWords, jumpWords, tileWords, listStart, startOf}
-use Rattle.write_lists.specs.Pairs.{fillRule}
+use Rattle.commands.specs.Numbers.{endNo, encodeTo, encode, jumpWords, tileWords, listStart, startOf}
+use Rattle.commands.specs.declared.steps.Act.the-variants.{Color, Jump}
+use Rattle.write_lists.specs.Pairs.{coverOf, colourOf}
 use Rattle.write_lists.specs.declared.pairs.Pair.{Pair}
-use Rattle.write_lists.specs.declared.pairs.Pair.the-variants.{Fill, Solid}
 use Rattle.write_lists.specs.declared.lay.Pen.{Pen}
 
--- a pair's words. SOLID's second word says nothing; it is 0
+-- a pair's words: those of its two commands
 abbrev pub pairWords : Pair → List ℕ
-pairWords (Fill count rule first backdrop colour) =
-    fillNo ∷ fillRule count rule ∷ first ∷ backdrop ∷ colorNo ∷ colour ∷ []
-pairWords (Solid colour) = solidNo ∷ 0 ∷ colorNo ∷ colour ∷ []
+pairWords p = encode (coverOf p) ++ encode (Color (colourOf p))
 
 abbrev pub pairSize : Pair → ℕ
-pairSize (Fill count rule first backdrop colour) = fillWords + colorWords
-pairSize (Solid colour) = solidWords + colorWords
+pairSize p = length (pairWords p)
 
 -- words, and the place where the first of them goes
 pub record Chunk : Type 0 where
@@ -41,7 +38,7 @@ fits p left = leb (pairSize p + jumpWords) left
 -- where there is no room: a JUMP to the fresh region's first word
 abbrev pub jumpIf : Bool → Pen → List Chunk
 jumpIf true pen = []
-jumpIf false pen = chunk (pen .at) (jumpNo ∷ pen .fresh ∷ []) ∷ []
+jumpIf false pen = chunk (pen .at) (encodeTo (pen .fresh) Jump) ∷ []
 
 -- and the pen stands there, with all that region's words left
 abbrev pub turned : Bool → Pen → Pen

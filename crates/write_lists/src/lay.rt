@@ -4,15 +4,15 @@ use crate::pairs::Put;
 use crate::pairs::on_path;
 use crate::sizes::fits;
 use crate::sizes::pair_size;
-use commands::numbers::COLOR;
 use commands::numbers::END;
-use commands::numbers::FILL;
 use commands::numbers::FILL_WORDS;
-use commands::numbers::JUMP;
 use commands::numbers::LIST_START;
-use commands::numbers::SOLID;
 use commands::numbers::SOLID_WORDS;
 use commands::numbers::TILE_WORDS;
+use commands::put::put_color;
+use commands::put::put_fill;
+use commands::put::put_jump;
+use commands::put::put_solid;
 use panel::widths::PATH_WORDS;
 ghost use mathlib.Core.Path.{_≡_};
 ghost use mathlib.Core.Bool.{true};
@@ -39,7 +39,7 @@ pub struct Pen {
     pub fresh: usize,
 }
 
-// A pair's words. SOLID's second word says nothing.
+// A pair's words: those of its two commands.
 fn put_pair(words: &mut [u32], at: usize, pair: Pair)
     requires { ⌜ (at + pairSize pair ≤ length (now words)) × (slotsFit mostSlots pair ≡ true) ⌝ }
     ensures { λ _. ⌜ now (words .exit) ≡ sets (now (words .entry)) at (pairWords pair) ⌝ }
@@ -52,18 +52,12 @@ fn put_pair(words: &mut [u32], at: usize, pair: Pair)
             backdrop,
             colour,
         } => {
-            words[at] = FILL;
-            words[at + 1] = 2 * count + rule % 2;
-            words[at + 2] = first;
-            words[at + 3] = backdrop;
-            words[at + FILL_WORDS] = COLOR;
-            words[at + FILL_WORDS + 1] = colour;
+            put_fill(words, at, 2 * count + rule % 2, first, backdrop);
+            put_color(words, at + FILL_WORDS, colour);
         }
         Pair::Solid(colour) => {
-            words[at] = SOLID;
-            words[at + 1] = 0;
-            words[at + SOLID_WORDS] = COLOR;
-            words[at + SOLID_WORDS + 1] = colour;
+            put_solid(words, at);
+            put_color(words, at + SOLID_WORDS, colour);
         }
     }
 }
@@ -79,8 +73,7 @@ fn turn(words: &mut [u32], pen: Pen, fits: bool) -> Pen
     let at = pen.at;
     let fresh = pen.fresh;
     let to = fresh + FRESH_START;
-    words[at] = JUMP;
-    words[at + 1] = to as u32;
+    put_jump(words, at, to as u32);
     Pen {
         at: to,
         left: TILE_WORDS,

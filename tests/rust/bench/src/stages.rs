@@ -2,7 +2,7 @@
 
 use crate::scenes::{moved, segments, Kind, Scene, KINDS};
 use crate::{measured, row, timed, Times};
-use cases::commands::{Command, Lists, RUST_SHIFT};
+use cases::commands::{Command, OURS, RUST};
 use cases::Rng;
 use oracle::{BumpAllocators, PathSegment, SegmentCount, Tile};
 use std::hint::black_box;
@@ -176,13 +176,14 @@ pub fn fine(rounds: usize) {
 fn fine_screen(cols: u32, rows: u32, rounds: usize) -> Times {
     let tiles = cols * rows;
     let mut rng = Rng::new(tiles as u64);
-    let mut lists = Lists::new(64 * tiles as usize, 0);
+    let (mut words, mut theirs) = (vec![0; 64 * tiles as usize], vec![0; 64 * tiles as usize]);
     let (mut list, mut records): (Vec<f32>, Vec<PathSegment>) = (vec![], vec![]);
     for t in 0..tiles {
-        let mut at = 64 * t as usize + 1;
+        let start = 64 * t as usize + 1;
+        let (mut at, mut their_at) = (start, start);
         let mut put = |command: Command| {
-            lists.put(at, command, 0);
-            at += command.size();
+            at = OURS.put(&mut words, at, command, 0);
+            their_at = RUST.put(&mut theirs, their_at, command, 0);
         };
         for (k, n) in FILLS.into_iter().enumerate() {
             let first = (list.len() / 5) as u32;
@@ -198,7 +199,6 @@ fn fine_screen(cols: u32, rows: u32, rounds: usize) -> Times {
         }
         put(Command::End);
     }
-    let theirs = &lists.rust[RUST_SHIFT as usize..];
     let (width, pixels) = (16 * cols, (256 * tiles) as usize);
     let mut mine = vec![0; pixels];
     let mut screen = vec![0; pixels];
@@ -208,11 +208,11 @@ fn fine_screen(cols: u32, rows: u32, rounds: usize) -> Times {
         || {
             let mut taken = std::mem::take(&mut screen);
             taken.fill(0);
-            timed(|| screen = oracle::raw::fine(theirs, &records, cols, rows, taken))
+            timed(|| screen = oracle::raw::fine(&theirs, &records, cols, rows, taken))
         },
         || {
             mine.fill(0);
-            timed(|| assert_eq!(ours::fine(&lists.ours, &list, width, cols, rows, 0, tiles, &mut mine, &mut 0), 0))
+            timed(|| assert_eq!(ours::fine(&words, &list, width, cols, rows, 0, tiles, &mut mine, &mut 0), 0))
         },
     )
 }

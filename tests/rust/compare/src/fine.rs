@@ -2,7 +2,7 @@
 
 use crate::stage::{hex, same, same_words, Sides, Stage};
 use crate::table::Table;
-use cases::commands::{color, fill, Command, Lists};
+use cases::commands::{color, fill, Command, Lists, OURS};
 use cases::memory::{as_f32, Lent};
 use cases::{segments, Rng};
 
@@ -35,23 +35,24 @@ fn one(rng: &mut Rng, n_segments: u32, words: u32, wild: u64) -> Command {
     }
 }
 
-/// A list for a tile in its region of 64 words, now and then with a jump past all regions.
-fn put_list(rng: &mut Rng, lists: &mut Lists, tile: usize, fresh: &mut usize, n_segments: u32, wild: u64) {
+/// A list for a tile in its region of 64 words, now and then with a jump past all regions, or at its end into the middle of
+/// an earlier tile's list. `starts` has the commands' places.
+fn put_list(rng: &mut Rng, lists: &mut Lists, tile: usize, fresh: &mut usize, starts: &mut Vec<usize>, n_segments: u32, wild: u64) {
+    let earlier = starts.len();
     let words = lists.ours.len();
     let mut at = 64 * tile + 1;
-    let mut room = 63;
+    let mut end = 64 * tile + 64;
     let mut idle_from = at; // from here to `at` nothing is filled or painted, so a loop costs little
     for _ in 0..rng.range(0, 12) {
         let command = one(rng, n_segments, words as u32, wild);
-        if room < command.size() + 3 || rng.one_in(12) {
+        if end < at + OURS.size(command) + 3 || rng.one_in(12) {
             lists.put(at, Command::Jump(*fresh as u32), 0);
             (at, idle_from) = (*fresh, *fresh);
             *fresh += 64;
-            room = 64;
+            end = *fresh;
         }
-        lists.put(at, command, rng.u32());
-        at += command.size();
-        room -= command.size();
+        starts.push(at);
+        at = lists.put(at, command, rng.u32());
         if let Command::Jump(_) | Command::Unknown(_) = command {
             return;
         }
@@ -59,11 +60,13 @@ fn put_list(rng: &mut Rng, lists: &mut Lists, tile: usize, fresh: &mut usize, n_
             idle_from = at;
         }
     }
-    match rng.below(4 * wild) {
-        0 => lists.put(at, Command::Jump(at as u32), 0),
-        1 => lists.put(at, Command::Jump(idle_from as u32), 0),
-        _ => lists.put(at, Command::End, 0),
-    }
+    let last = match rng.below(4 * wild) {
+        0 => Command::Jump(at as u32),
+        1 => Command::Jump(idle_from as u32),
+        2..=4 if earlier > 0 => Command::Jump(starts[rng.below(earlier as u64) as usize] as u32),
+        _ => Command::End,
+    };
+    lists.put(at, last, 0);
 }
 
 /// A chain of exactly `n` commands: jumps to and fro, then `last`.
@@ -71,14 +74,12 @@ fn chain(rng: &mut Rng, n: usize, last: Command) -> Lists {
     let mut lists = Lists::new(2 * n + 8, 77);
     let mut at = 1;
     for k in 0..n {
-        if k % 97 == 0 {
-            lists.put(at, Command::Color(rng.u32()), 0);
-        } else if rng.one_in(3) {
-            lists.put(at, Command::Solid, 5);
-        } else {
-            lists.put(at, Command::Jump(at as u32 + 2), 0);
-        }
-        at += 2;
+        let command = match k {
+            k if k % 97 == 0 => Command::Color(rng.u32()),
+            _ if rng.one_in(3) => Command::Solid,
+            _ => Command::Jump((at + OURS.size(Command::Jump(0))) as u32),
+        };
+        at = lists.put(at, command, 5);
     }
     lists.put(at, last, 0);
     lists
@@ -128,20 +129,19 @@ impl Stage for Fine {
             }
             1 => {
                 let n = rng.below(70) as usize;
-                case.lists = Lists { ours: any_words(rng, n), rust: vec![] };
+                case.lists = Lists::of_words(any_words(rng, n));
                 case.paired = false;
             }
             _ => {
                 let mut fresh = 64 * tiles;
                 let grown = 64 * (tiles + 12 * tiles.max(1));
                 case.lists = Lists::new(grown, 77);
+                let mut starts = vec![];
                 for t in 0..tiles {
-                    put_list(rng, &mut case.lists, t, &mut fresh, n_segments, wild);
+                    put_list(rng, &mut case.lists, t, &mut fresh, &mut starts, n_segments, wild);
                 }
                 if rng.one_in(6) {
-                    let cut = rng.below(fresh as u64 + 1) as usize;
-                    case.lists.ours.truncate(cut);
-                    case.lists.rust.truncate(cut + 3);
+                    case.lists.cut(rng.below(fresh as u64 + 1) as usize);
                 }
             }
         }
@@ -249,9 +249,9 @@ fn hostile(rng: &mut Rng, case: &mut Case) {
 /// Each tile as a screen of one tile, entered by a JUMP at word 1.
 fn by_the_rust(case: &Case, mut was: Lent, from: u32, stop: u32, wanted: &Lent) -> Result<(), String> {
     let segments = oracle::segments_of(as_f32(&case.segments));
-    let mut lists = case.lists.clone();
+    let mut theirs = case.lists.theirs();
     for t in from..stop {
-        let Ok(made) = oracle::fine_tile(lists.for_tile(64 * t + 1), &segments) else {
+        let Ok(made) = oracle::fine_tile(theirs.for_tile(64 * t + 1), &segments) else {
             return Err(format!("the Rust panicked on tile {t}"));
         };
         let (x, y) = (16 * (t % case.cols) as usize, 16 * (t / case.cols) as usize);

@@ -380,7 +380,7 @@ fn draw(case: &Case, lists: &Memory, by_rules: &Memory, sides: Sides, table: &mu
         let pairs = tables.pairs(x, y);
         same_words("pixels beside painting in order", &drawn, &rules::lists::painted(&pairs, segments))?;
         if sides.rust {
-            let by_rust = oracle::fine_tile(fills_alone(&tables, x, y).for_tile(1), &records);
+            let by_rust = oracle::fine_tile(fills_alone(&tables, x, y).theirs().for_tile(1), &records);
             same_words("pixels beside the Rust", &drawn, &by_rust.map_err(|_| "the Rust panicked")?)?;
         }
         table.add("tiles drawn", 1);
@@ -410,8 +410,7 @@ fn fills_alone(tables: &Tables, x: i64, y: i64) -> Lists {
         }
         let even_odd = paint[1] & 1 == 1;
         for command in [Command::Fill { number, even_odd, first: slots, backdrop }, Command::Color(paint[0])] {
-            lists.put(at, command, 0);
-            at += command.size();
+            at = lists.put(at, command, 0);
         }
     }
     lists

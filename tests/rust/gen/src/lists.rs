@@ -633,8 +633,7 @@ impl Screen {
         let mut lists = Lists::new(64 * (commands.len() / 15 + 2), 77);
         let mut at = 1;
         for c in commands {
-            lists.put(at, *c, 0xabad_1dea);
-            at += c.size();
+            at = lists.put(at, *c, 0xabad_1dea);
         }
         Screen { lists, segments: segments.to_vec(), width: 16, cols: 1, rows: 1, from: 0, to: 1, pixels: 256 }
     }
@@ -647,8 +646,9 @@ impl Screen {
         if number == 0 {
             let mut by_rust = before.clone();
             let records = oracle::segments_of(&self.segments);
+            let mut theirs = self.lists.theirs();
             for t in self.from..self.to {
-                let made = oracle::fine_tile(self.lists.clone().for_tile(64 * t + 1), &records).expect("the Rust paints it");
+                let made = oracle::fine_tile(theirs.for_tile(64 * t + 1), &records).expect("the Rust paints it");
                 let (x, y) = (16 * (t % self.cols) as usize, 16 * (t / self.cols) as usize);
                 for (row, sixteen) in made.chunks_exact(16).enumerate() {
                     let base = self.width as usize * (y + row) + x;
@@ -669,16 +669,18 @@ impl Screen {
 
 /// `n` commands that change nothing, then `last`.
 fn long_list(n: usize, last: Command) -> Screen {
-    let mut commands = vec![Command::Solid, Command::Color(0x8040_20ff)];
-    for k in commands.len()..n {
-        commands.push(Command::Jump(2 * k as u32 + 3));
-    }
-    commands.push(last);
     let mut screen = Screen::one(&[], &[]);
-    screen.lists = Lists::new(2 * n + 3, 77);
-    for (k, c) in commands.iter().enumerate() {
-        screen.lists.put(2 * k + 1, *c, 0);
+    let lists = &mut screen.lists;
+    *lists = Lists::new(2 * n + 3, 77);
+    let mut at = 1;
+    for c in [Command::Solid, Command::Color(0x8040_20ff)] {
+        at = lists.put(at, c, 0);
     }
+    for _ in 2..n {
+        at = lists.put(at, Command::Jump(at as u32 + 2), 0);
+    }
+    lists.put(at, last, 0);
+    lists.cut(at + 2);
     screen
 }
 
@@ -711,7 +713,7 @@ fn fine_traces(out: &mut List) {
     }
     for cut in 0..7 {
         let mut screen = Screen::one(&[Solid, fill(0, 0, false), End], &half);
-        screen.lists.ours.truncate(cut);
+        screen.lists.cut(cut);
         out.case(&screen.written());
     }
     out.say("4,096 commands, then END, and one more");
@@ -760,8 +762,7 @@ pub fn fine() -> String {
                     2 => Command::Solid,
                     _ => Command::Color(color(&mut rng)),
                 };
-                lists.put(at, command, 3);
-                at += command.size();
+                at = lists.put(at, command, 3);
             }
             let next = Command::Jump((64 * rng.below(tiles as u64) + 1) as u32);
             lists.put(at, if rng.one_in(10) { next } else { Command::End }, 0);

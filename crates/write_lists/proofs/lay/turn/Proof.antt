@@ -1,7 +1,6 @@
 -- `write_lists::lay::turn` meets its contract. Assumes nothing.
 use mathlib.Core.Path.{_≡_, refl, ap}
 use native.Mathlib.Omega.{arith}
-use lib.ListN.{length-set}
 use Rattle.write_lists.specs.Layout.{jumpCount}
 use Rattle.write_lists.proofs.LayLaws.{jump-laid}
 use borrow.Author.Needs.{needs}
@@ -12,42 +11,28 @@ returns : tie.Need-returns
 returns c = rw (c .if1 .taken) (refl, refl)
 
 add-to : tie.Need-add-to
-add-to c =
-    let k : jumpCount (c .before .args .fits) ≡ 1 = ap jumpCount (c .if1 .left) in
-    record { fits = omega (arith, k, c .before .pre .1) }
+add-to c = search needs
 
-mul-words : tie.Need-mul-words
-mul-words c = search needs
+cast-put-jump : tie.Need-cast-put-jump
+cast-put-jump c =
+    let s = c .before .before .before in
+    let k : jumpCount (s .args .fits) ≡ 1 = ap jumpCount (c .before .if1 .left) in
+    record { fits = omega (arith, k, s .pre .1) }
 
-slice-write-words : tie.Need-slice-write-words
-slice-write-words c = search needs
+put-jump-requires : tie.Need-put-jump-requires
+put-jump-requires c κs = search needs
 
-cast-words : tie.Need-cast-words
-cast-words c =
-    let k : jumpCount (c .before .args .fits) ≡ 1 = ap jumpCount (c .if1 .left) in
-    record { fits = omega (arith, k, c .before .pre .1) }
-
-add-words : tie.Need-add-words
-add-words c = search needs
-
-mul-words-2 : tie.Need-mul-words-2
-mul-words-2 c = search needs
-
-slice-write-words-2 : tie.Need-slice-write-words-2
-slice-write-words-2 c = simp length-set (omega (arith, c .before .pre .0))
-
-add-t8 : tie.Need-add-t8
-add-t8 c =
-    let k : jumpCount (c .before .args .fits) ≡ 1 = ap jumpCount (c .if1 .left) in
-    record { fits = omega (arith, k, c .before .pre .1) }
+add-t12 : tie.Need-add-t12
+add-t12 c = search needs
 
 same-length : tie.Need-same-length
 same-length c = search needs
 
 returns-2 : tie.Need-returns-2
 returns-2 c =
-    let a = c .before .args in
-    rw (c .if1 .left) (jump-laid (a .pen) _ (a .words .now) (omega arith))
+    let s = c .before .before .before .before .before .before in
+    rw (c .before .before .before .before .if1 .left)
+    (jump-laid (s .args .pen) _ (s .args .words .now) _ (omega arith) (c .before .before .put-jump .ensures))
 
 pub turn-spec : {M : Type 1} → statement M
 turn-spec =
@@ -55,12 +40,8 @@ turn-spec =
     (tie.spec
     returns
     add-to
-    mul-words
-    slice-write-words
-    cast-words
-    add-words
-    mul-words-2
-    slice-write-words-2
-    add-t8
+    cast-put-jump
+    put-jump-requires
+    add-t12
     same-length
     returns-2)

@@ -106,12 +106,11 @@ fn by_fine(f: &Frame, x: u32, y: u32) -> Vec<[u8; 4]> {
     for p in 0..PATHS.len() / 5 {
         let Some(command) = cover(f, p, x, y) else { continue };
         for command in [command, Command::Color(PAINTS[2 * p])] {
-            lists.put(at, command, 0);
-            at += command.size();
+            at = lists.put(at, command, 0);
         }
     }
     lists.put(at, Command::End, 0);
-    let pixels = oracle::fine_tile(lists.for_tile(1), &oracle::segments_of(&f.segments)).unwrap();
+    let pixels = oracle::fine_tile(lists.theirs().for_tile(1), &oracle::segments_of(&f.segments)).unwrap();
     pixels.iter().map(|p| p.to_le_bytes()).collect()
 }
 
