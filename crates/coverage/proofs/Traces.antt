@@ -4,8 +4,9 @@ use mathlib.Core.Bool.{true, false}
 use mathlib.Core.List.{[]}
 use Prim.Native.Nat.{ℕ}
 use lib.IntN.{pos, negsuc}
-use lib.Ieee.{Float, binary32, isNan, ofBits, ofInt, add, sub, mul, lt, round}
-use Rattle.float32.specs.Meaning.{minOf, absOf, roundOf}
+use lib.Ieee.{Float, binary32, ofBits, ofInt, add, sub, mul, lt, round}
+use Rattle.float32.specs.Meaning.{absOf, roundOf}
+use Rattle.float32.proofs.MinMax.{min-second, min-same}
 use Rattle.util.specs.Constants as Number
 use Rattle.coverage.specs.Coverage.{areaAfter, finishOf, sumOf, pixelOf}
 
@@ -15,8 +16,8 @@ unfolding pixelOf sumOf finishOf areaAfter absOf roundOf ofInt ofBits sub add mu
 two-even-odd k xt yt = refl
 
 pub two-nonzero : (k : ℕ) (xt yt : Float) → pixelOf [] 0 0 false (pos 2) xt yt k ≡ Number.one
-unfolding pixelOf sumOf finishOf areaAfter absOf minOf ofInt ofBits lt isNan round
-two-nonzero k xt yt = refl
+unfolding pixelOf sumOf finishOf areaAfter absOf ofInt ofBits lt round
+two-nonzero k xt yt = min-second _ _ refl
 
 -- a backdrop of -1: 1 in each
 pub minus-even-odd : (k : ℕ) (xt yt : Float) → pixelOf [] 0 0 true (negsuc 0) xt yt k ≡ Number.one
@@ -24,8 +25,8 @@ unfolding pixelOf sumOf finishOf areaAfter absOf roundOf ofInt ofBits sub add mu
 minus-even-odd k xt yt = refl
 
 pub minus-nonzero : (k : ℕ) (xt yt : Float) → pixelOf [] 0 0 false (negsuc 0) xt yt k ≡ Number.one
-unfolding pixelOf sumOf finishOf areaAfter absOf minOf ofInt ofBits lt isNan round
-minus-nonzero k xt yt = refl
+unfolding pixelOf sumOf finishOf areaAfter absOf ofInt ofBits round
+minus-nonzero k xt yt = min-same _
 
 pub round-half : roundOf (ofBits binary32 0x4020_0000) ≡ ofBits binary32 0x4040_0000
 unfolding ofBits roundOf round

@@ -7,6 +7,7 @@
 --     span-most, span-least             a span is 1 tile at least, and twice the limit at most
 use mathlib.Core.Path.{_≡_, refl, sym, ap, _∙_, subst}
 use mathlib.Core.Bool.{Bool, true, false, not, cond, true≢false, false≢true}
+use mathlib.Core.Logic.{⊎-elim}
 use Prim.Native.Nat.{ℕ, _+_, _-_, _*_, _/_, _^_, _≤_, _<_}
 use native.Mathlib.Nat.{le-trans, le-of-eq, mul-one, mul-pos, mul-le-mul-right, le-div-iff-mul-le}
 use native.Mathlib.Omega.{arith}
@@ -22,8 +23,8 @@ use borrow.Author.Tests.{ltb-false, lt-ltb}
 use Rattle.float32.specs.Inner.{limit, Within}
 use Rattle.float32.specs.Meaning.{whole, up-div, floorOf, ceilOf, absOf, signed, unit, minOf, maxOf}
 use Rattle.float32.proofs.Whole.{whole-value}
-use Rattle.float32.proofs.Tests.{no}
-use Rattle.float32.proofs.Order.{not-lt-of-le}
+use Rattle.float32.proofs.Order.{not-lt-of-le, le-right}
+use Rattle.float32.proofs.MinMax.{min-picks, max-picks, max-right}
 use Rattle.float32.proofs.Steps.{trunc-exact, lt-plus, gt-minus}
 use Rattle.float32.proofs.Laws.{size-plus, size-minus, down-most, up-most, up-exact, floor-fits, max-fits, min-fits}
 use Rattle.exact.specs.Whole.{IsWhole, floorZ, ceilZ, turn, Small}
@@ -262,22 +263,10 @@ line-at rises sx sy hx hy = record {
 
 -- ---- spans
 max-small : (a b : Float) (N : ℕ) → Small a N → Small b N → Small (maxOf a b) N
-unfolding maxOf
-max-small a b N h k = go (isNan a) (lt a b)
-  where
-    go : (p q : Bool) → Small (cond p b (cond q b a)) N
-    go true q = k
-    go false true = k
-    go false false = h
+max-small a b N h k = ⊎-elim (λ e. rw e h) (λ e. rw e k) (max-picks a b)
 
 min-small : (a b : Float) (N : ℕ) → Small a N → Small b N → Small (minOf a b) N
-unfolding minOf
-min-small a b N h k = go (isNan a) (lt b a)
-  where
-    go : (p q : Bool) → Small (cond p b (cond q b a)) N
-    go true q = k
-    go false true = k
-    go false false = h
+min-small a b N h k = ⊎-elim (λ e. rw e h) (λ e. rw e k) (min-picks a b)
 
 cast-most : (x : Float) (N : ℕ) → Small x N → toUnsigned 32 x ≤ N
 unfolding toUnsigned
@@ -322,18 +311,13 @@ cast-least (fin false m e) h n =
     let q : 1 ≤ m * up e / down e = le-div-iff-mul-le (down-pos e) .1 (omega arith) in
     omega arith
 
-one-least : 1 ≤ toUnsigned 32 one
-unfolding toUnsigned ofBits
-one-least = lit≤ tt
+one-number : T (not (isNan one))
+unfolding isNan ofBits
+one-number = tt
 
 pub span-least : (a b : Float) → 1 ≤ spanOf a b
-unfolding spanOf maxOf
-span-least a b = go (sub binary32 (ceilOf (maxOf a b)) (floorOf (minOf a b)))
-  where
-    pick : (d : Float) (p : Bool) → isNan d ≡ p → (q : Bool) → lt d one ≡ q → 1 ≤ toUnsigned 32 (cond p one (cond q one d))
-    pick d true e q g = one-least
-    pick d false e true g = one-least
-    pick d false e false g = cast-least d g (no e)
-
-    go : (d : Float) → 1 ≤ toUnsigned 32 (cond (isNan d) one (cond (lt d one) one d))
-    go d = pick d (isNan d) refl (lt d one) refl
+unfolding spanOf
+span-least a b =
+    let d = sub binary32 (ceilOf (maxOf a b)) (floorOf (minOf a b)) in
+    let l : le one (maxOf d one) ≡ true = max-right d one one-number in
+    cast-least (maxOf d one) (not-lt-of-le one (maxOf d one) l) (le-right one (maxOf d one) l)

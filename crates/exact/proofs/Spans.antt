@@ -7,10 +7,12 @@ use native.Mathlib.Omega.{arith}
 use lib.Dec.{T}
 use lib.IntN.{ℤ, pos, negsuc, _-ℤ_, negℤ, natAbs}
 use lib.Signed.{ltZ}
-use lib.Ieee.{Float, nan, inf, fin, binary32, up, down, sub, lt, isNan, ofBits, toUnsigned, inUnsigned, whole as isWhole}
+use lib.Ieee.{Float, nan, inf, fin, binary32, up, down, sub, lt, le, isNan, ofBits, toUnsigned, inUnsigned, whole as isWhole}
 use lib.Ieee.Fits.{down-pos}
 use borrow.Author.Tests.{eq-eqb, le-leb, lt-ltb}
 use Rattle.float32.specs.Meaning.{floorOf, ceilOf, minOf, maxOf}
+use Rattle.float32.proofs.Alike.{Alike, alike-lt, alike-ge, alike-nan, alike-floor, alike-ceil, alike-sub, alike-cast, alike-choice}
+use Rattle.float32.proofs.MinMax.{min-alike, max-alike}
 use Rattle.util.specs.Constants.{one}
 use Rattle.util.specs.Span.{spanOf}
 use Rattle.exact.specs.Whole.{IsWhole, floorZ, ceilZ}
@@ -26,7 +28,7 @@ abbrev pub spanAt : (a b : Float) → Float
 spanAt a b = sub binary32 (ceilOf (cond (lt a b) b a)) (floorOf (cond (lt b a) b a))
 
 -- ---- no NaN, so the picks are the smaller and the larger
-pub near-number : (x : Float) → Near x → isNan x ≡ false
+near-number : (x : Float) → Near x → isNan x ≡ false
 unfolding isNan
 near-number nan h = absurd (h .few)
 near-number (inf s) h = absurd (h .few)
@@ -38,17 +40,9 @@ whole-number nan n w = absurd w
 whole-number (inf s) n w = absurd w
 whole-number (fin s m e) n w = refl
 
-pub smaller : (a b : Float) → isNan a ≡ false → minOf a b ≡ cond (lt b a) b a
-smaller a b h = unfold minOf in rw h refl
-
-larger : (a b : Float) → isNan a ≡ false → maxOf a b ≡ cond (lt a b) b a
-larger a b h = unfold maxOf in rw h refl
-
-span-is : (a b : Float) → Near a → spanOf a b ≡ toUnsigned 32 (maxOf (spanAt a b) one)
-unfolding spanOf
-span-is a b h =
-    ap (λ (x : Float). toUnsigned 32 (maxOf (sub binary32 (ceilOf x) (floorOf (minOf a b))) one)) (larger a b (near-number a h))
-    ∙ ap (λ (x : Float). toUnsigned 32 (maxOf (sub binary32 (ceilOf (cond (lt a b) b a)) (floorOf x)) one)) (smaller a b (near-number a h))
+-- what is held against the smaller may be held against the pick: no comparison tells two zeros apart
+pub smaller-ge : (a b e : Float) → Near a → le e (minOf a b) ≡ le e (cond (lt b a) b a)
+smaller-ge a b e h = alike-ge (minOf a b) (cond (lt b a) b a) (min-alike a b (near-number a h)) e
 
 -- ---- the span is whole, and small
 pub near-pick : (t : Bool) (a b : Float) → Near a → Near b → Near (cond t b a)
@@ -74,6 +68,27 @@ module _ (a b : Float) (h : Near a) (k : Near b) where
       let p = near-pick (lt a b) a b h k in
       let q = near-pick (lt b a) a b h k in
       sub-whole (ceilOf u) (floorOf v) (ceilZ u) (floorZ v) (ceil-whole u (p .fit) (near-finite u p)) (floor-whole v (q .fit) (near-finite v q)) (omega (arith, span-few, far .tiles))
+
+-- ---- the span by the picks: no floor, ceiling, difference or cast tells two zeros apart
+module _ (a b : Float) (h : Near a) (k : Near b) where
+  abbrev d : Float
+  d = sub binary32 (ceilOf (maxOf a b)) (floorOf (minOf a b))
+
+  apart-alike : Alike d (spanAt a b)
+  apart-alike =
+      let n = near-number a h in
+      alike-sub (ceilOf (maxOf a b)) (ceilOf (cond (lt a b) b a)) (floorOf (minOf a b)) (floorOf (cond (lt b a) b a))
+      (alike-ceil (maxOf a b) (cond (lt a b) b a) (max-alike a b n)) (alike-floor (minOf a b) (cond (lt b a) b a) (min-alike a b n))
+
+  one-alike : Alike (cond (lt d one) one d) (cond (lt (spanAt a b) one) one (spanAt a b))
+  one-alike = rw (alike-lt d (spanAt a b) apart-alike one) (alike-choice (lt (spanAt a b) one) one d (spanAt a b) apart-alike)
+
+  span-is : spanOf a b ≡ toUnsigned 32 (cond (lt (spanAt a b) one) one (spanAt a b))
+  unfolding spanOf
+  span-is =
+      alike-cast (maxOf d one) (cond (lt d one) one d)
+      (max-alike d one (alike-nan d (spanAt a b) apart-alike ∙ whole-number (spanAt a b) (spanZ a b) (span-whole a b h k)))
+      ∙ alike-cast (cond (lt d one) one d) (cond (lt (spanAt a b) one) one (spanAt a b)) one-alike
 
 -- ---- casts
 pub one-whole : IsWhole one (pos 1)
@@ -117,5 +132,5 @@ span-cast a b h k =
     let w = span-whole a b h k in
     let c = span-few a b h k in (
       at-least-one (spanAt a b) (spanZ a b) w (omega (arith, c, far .tiles)),
-      sym (span-is a b h ∙ ap (toUnsigned 32) (larger (spanAt a b) one (whole-number (spanAt a b) (spanZ a b) w))),
+      sym (span-is a b h k),
     )

@@ -14,5 +14,6 @@ pub mod Halves
 pub mod Examples
 pub mod Finite
 pub mod Ints
+pub mod Alike
 pub mod MinMax
 pub mod Turned

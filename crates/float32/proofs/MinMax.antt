@@ -4,9 +4,11 @@
 --     min-of-nan, min-with-nan, max-of-nan, ..     the other one where one is a NaN
 --     min-left, min-right, max-left, max-right     the bounds
 --     min-first, min-second, max-first, ..         where one lies below the other
+--     min-same                                     of a number and itself
+--     min-alike, max-alike                         a choice by `<` alone gives the same number, up to the sign of a zero
 use mathlib.Core.Path.{_≡_, refl, sym, ap, _∙_, subst}
 use mathlib.Core.Bool.{Bool, true, false, not, _||_, cond}
-use mathlib.Core.Logic.{_⊎_, inl, inr}
+use mathlib.Core.Logic.{_⊎_, inl, inr, ⊎-elim}
 use Prim.Native.Nat.{ℕ}
 use lib.Dec.{T}
 use lib.IntN.{pos}
@@ -14,6 +16,7 @@ use lib.Ieee.{Float, nan, inf, fin, lt, eq, le, ne, isNan}
 use lib.Ieee.Bits.{is-false}
 use Rattle.float32.specs.Meaning.{minOf, maxOf}
 use Rattle.float32.proofs.Tests.{nan-test, no}
+use Rattle.float32.proofs.Alike.{Alike}
 use Rattle.float32.proofs.Order.{le-self, le-left, le-right, le-of-not-lt, not-lt-of-le}
 
 pub le-of-lt : (x y : Float) → lt x y ≡ true → le x y ≡ true
@@ -60,6 +63,9 @@ min-picks a b = picks-one a b (lt b a)
 pub max-picks : (a b : Float) → (maxOf a b ≡ a) ⊎ (maxOf a b ≡ b)
 unfolding maxOf
 max-picks a b = picks-one a b (lt a b)
+
+pub min-same : (a : Float) → minOf a a ≡ a
+min-same a = ⊎-elim (λ e. e) (λ e. e) (min-picks a a)
 
 -- ---- the other one where one is a NaN
 pub min-of-nan : (a b : Float) → isNan a ≡ true → minOf a b ≡ b
@@ -118,6 +124,15 @@ max-left a b n = picks-all a b (λ (y : Float). le a y ≡ true) (lt a b) (λ e 
 pub max-right : (a b : Float) → T (not (isNan b)) → le b (maxOf a b) ≡ true
 unfolding maxOf
 max-right a b n = picks-all a b (λ (y : Float). le b y ≡ true) (lt a b) (λ e l. le-of-not-lt b a n (no e) l) (λ l. le-self b n) (λ e. le-self b n)
+
+-- ---- a choice by `<` alone: it may give the other one of two zeros
+pub min-alike : (a b : Float) → isNan a ≡ false → Alike (minOf a b) (cond (lt b a) b a)
+unfolding minOf
+min-alike a b h = inl (rw h)
+
+pub max-alike : (a b : Float) → isNan a ≡ false → Alike (maxOf a b) (cond (lt a b) b a)
+unfolding maxOf
+max-alike a b h = inl (rw h)
 
 -- ---- the one law of zeros: of two, the first
 pub zeros : (s t : Bool) → (minOf (fin s 0 (pos 0)) (fin t 0 (pos 0)) ≡ fin s 0 (pos 0)) × (maxOf (fin s 0 (pos 0)) (fin t 0 (pos 0)) ≡ fin s 0 (pos 0))

@@ -1,7 +1,8 @@
 -- `walk::found::past` meets its contract. Assumes nothing.
 use borrow.Author.Needs.{needs}
+use Rattle.walk.specs.Num.{float}
 use Rattle.walk.specs.Skip.{pastOf}
-use Rattle.exact.proofs.Spans.{near-number, smaller}
+use Rattle.exact.proofs.Spans.{smaller-ge}
 use Rattle.walk.proofs.found.past.Statement.{statement}
 use Rattle.walk.proofs.found.past.Tie as tie
 
@@ -26,7 +27,7 @@ returns c =
       c .before .before .before .before .of-u322 .ensures,
       c .before .before .before .before .before .of-u32 .ensures,
       c .before .before .before .before .before .before .pick .ensures,
-      smaller (s .args .s0 .x) (s .args .s1 .x) (near-number (s .args .s0 .x) (s .pre .in-x)),
+      smaller-ge (s .args .s0 .x) (s .args .s1 .x) (float (s .args .b .x1)) (s .pre .in-x),
     )
 
 pub past-spec : {M : Type 1} → statement M
