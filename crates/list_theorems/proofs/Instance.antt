@@ -7,6 +7,7 @@ use native.Mathlib.Omega.{arith}
 use lib.IntN.{pos, negsuc}
 use lib.ListN.{replicate}
 use lib.Ieee.{Float}
+use Rattle.panel.specs.Limits.{edgeMost}
 use Rattle.panel.specs.Paths.{pathAt, pathsFrom, pathsAnswer}
 use Rattle.panel.specs.declared.kinds.Answer.the-variants.{Done}
 use Rattle.hand_out.specs.HandOut.{outOf, handOutOf}
@@ -34,7 +35,7 @@ two-words =
     (9 ∷ fillNo ∷ 3 ∷ 0 ∷ 0 ∷ colorNo ∷ 0x2040_60ff ∷ endNo ∷ replicate 56 9) ++ 9 ∷ solidNo ∷ 0 ∷ colorNo ∷ 0x2040_60ff ∷ endNo ∷ replicate 58 9
 
 two-wrote : Wrote two 2 1 1 (replicate 128 9) two-words
-unfolding two-words pathAt pathsFrom pathsAnswer onTile onPath tilePairs callAnswer regionsOf answerOf listsOf writeListsOf
+unfolding two-words edgeMost pathAt pathsFrom pathsAnswer onTile onPath tilePairs callAnswer regionsOf answerOf listsOf writeListsOf
 two-wrote = refl
 
 -- whatever the one segment is
@@ -59,7 +60,7 @@ pub sixteen-words : List ℕ
 sixteen-words = 9 ∷ times 15 (solidNo ∷ 0 ∷ colorNo ∷ 0x2040_60ff ∷ []) ++ jumpNo ∷ 64 ∷ 9 ∷ solidNo ∷ 0 ∷ colorNo ∷ 0x2040_60ff ∷ endNo ∷ replicate 59 9
 
 sixteen-wrote : Wrote sixteen 1 1 0 (replicate 128 9) sixteen-words
-unfolding boxes times sixteen sixteen-words pathAt pathsFrom pathsAnswer onTile onPath tilePairs callAnswer regionsOf answerOf listsOf writeListsOf
+unfolding boxes times sixteen sixteen-words edgeMost pathAt pathsFrom pathsAnswer onTile onPath tilePairs callAnswer regionsOf answerOf listsOf writeListsOf
 sixteen-wrote = refl
 
 sixteen-fit : AllI32 (sixteen .backdrops)

@@ -10,6 +10,7 @@ mod ours;
 mod rules;
 
 use cases::Rng;
+use restated::limits::SIDE_MOST;
 use std::collections::BTreeMap;
 use std::io::Write;
 use std::{env, fs, process};
@@ -95,8 +96,8 @@ fn damaged(seed: u64, n: u64, names: &[String]) {
 
 fn side(rng: &mut Rng) -> u32 {
     match rng.below(12) {
-        0 => rng.pick(&[0, 16_385, u32::MAX, 1 << 31]),
-        1 => 16_384,
+        0 => rng.pick(&[0, SIDE_MOST + 1, u32::MAX, 1 << 31]),
+        1 => SIDE_MOST,
         _ => 1 + rng.below(20) as u32,
     }
 }
