@@ -7,9 +7,9 @@ use lib.Dec.{ltb}
 use lib.ListN.{getD, set}
 use lib.IntN.{ℤ, pos, negsuc, _+ℤ_}
 use Rattle.lists.specs.Run.{Step, taken, halted, Ran, done, refused, run}
-use Rattle.panel.specs.Limits.{mostSteps, mostCount}
+use Rattle.panel.specs.Limits.{mostCount}
 use Rattle.panel.specs.Refusals.{countOver, outside, sumOver}
-use Rattle.panel.specs.Widths.{refWords}
+use Rattle.panel.specs.Widths.{refWords, stepRange}
 use Rattle.panel.specs.Signed.{inI32}
 use Rattle.panel.specs.declared.kinds.Verdict.{Verdict}
 use Rattle.panel.specs.declared.kinds.Verdict.the-variants.{Fine, Against}
@@ -68,7 +68,7 @@ marked δ t s = stOf (set (s .backs) t (getD (s .backs) t (pos 0) +ℤ δ)) (s .
 
 -- a reference's second word: the slice number, which is the tile's count before, and the step's number
 abbrev pub packed : ℕ → ℕ → ℕ
-packed slice i = slice * mostSteps + i
+packed slice i = slice * stepRange + i
 
 abbrev pub visited : ℕ → ℕ → ℕ → St → St
 visited l t i s =

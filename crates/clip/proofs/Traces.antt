@@ -6,6 +6,7 @@ use mathlib.Core.List.{List, [], _∷_}
 use lib.Ieee.{Float, nan, binary32, add, sub, mul, div, neg, le, lt, eq, ne, ofInt, ofBits, toSigned, toUnsigned, isNan}
 use Rattle.float32.specs.Meaning.{floorOf, ceilOf, roundOf, absOf, minOf, maxOf, signed, signOf}
 use Rattle.util.specs.Span.{spanOf}
+use Rattle.panel.specs.Limits.{coordMost}
 use Rattle.panel.specs.Refusals.{coordinate, noSuch}
 use Rattle.panel.specs.Paths.{pathAt}
 use Rattle.panel.specs.declared.kinds.Path.{Path}
@@ -62,7 +63,7 @@ two = 0 ∷ 0 ∷ 2 ∷ 2 ∷ 0 ∷ []
 
 -- names all that a trace computes with
 unfoldable computing : ℕ
-unfolding add sub mul div neg le lt eq ne ofInt ofBits toSigned toUnsigned isNan floorOf ceilOf roundOf absOf minOf maxOf signed signOf spanOf pathAt cutOf insideOf rowOf endsOf lineOf flatOf pastOf zAt tileIn stepOf crossesAt lineAt walkedOf walkAt clippedOf stepsFrom
+unfolding add sub mul div neg le lt eq ne ofInt ofBits toSigned toUnsigned isNan floorOf ceilOf roundOf absOf minOf maxOf signed signOf spanOf coordMost pathAt cutOf insideOf rowOf endsOf lineOf flatOf pastOf zAt tileIn stepOf crossesAt lineAt walkedOf walkAt clippedOf stepsFrom
 computing = 0
 
 -- (8,8)-(8,24): two steps, and the second marks the tile right of it

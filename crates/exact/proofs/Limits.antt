@@ -6,17 +6,18 @@ use Prim.Native.Nat.{ℕ, _*_, _^_, _≤_}
 use lib.Dec.{lit≤}
 use lib.Ieee.{binary32, ofBits, round}
 use Rattle.float32.specs.Meaning.{whole}
-use Rattle.panel.specs.Limits.{coordMost, edgeMost, mostSteps}
+use Rattle.panel.specs.Limits.{coordMost, coordWhole, edgeMost}
+use Rattle.panel.specs.Widths.{stepRange}
 use Rattle.exact.specs.Reach.{coordTiles}
 
--- the coordinate's limit is a whole number of tiles, of 16 each, and it, the box edges' and the steps' are at most 2 ^ 20
+-- the coordinate's limit is a whole number of tiles, of 16 each; it, the box edges' and the step numbers that a reference holds are at most 2 ^ 20
 pub record Far : Type 0 where
   pub coord : coordMost ≡ whole false (coordTiles * 16)
   pub some : 1 ≤ coordTiles
   pub tiles : coordTiles ≤ 2 ^ 20
   pub edge : edgeMost ≤ 2 ^ 20
-  pub steps : mostSteps ≤ 2 ^ 20
+  pub steps : stepRange ≤ 2 ^ 20
 
 pub far : Far
-unfolding coordTiles ofBits round
+unfolding coordTiles coordMost coordWhole edgeMost stepRange ofBits round
 far = record { coord = refl; some = lit≤ tt; tiles = lit≤ tt; edge = lit≤ tt; steps = lit≤ tt }

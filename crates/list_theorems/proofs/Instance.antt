@@ -8,6 +8,7 @@ use native.Mathlib.Omega.{arith}
 use lib.IntN.{ℤ, pos, negsuc}
 use lib.ListN.{length, replicate}
 use lib.Ieee.{Float}
+use Rattle.panel.specs.Limits.{edgeMost}
 use Rattle.panel.specs.Paths.{pathAt, pathsFrom, pathsAnswer}
 use Rattle.panel.specs.declared.kinds.Answer.the-variants.{Done}
 use Rattle.hand_out.specs.HandOut.{outOf, handOutOf}
@@ -43,7 +44,7 @@ pub two-words : List ℕ
 two-words = region (9 ∷ pairWords (Fill 1 1 0 0 0x2040_60ff) ++ (endNo ∷ [])) ++ region (9 ∷ pairWords (Solid 0x2040_60ff) ++ (endNo ∷ []))
 
 two-wrote : Wrote two 2 1 1 (replicate 128 9) two-words
-unfolding two-words pathAt pathsFrom pathsAnswer onTile onPath tilePairs callAnswer regionsOf answerOf listsOf writeListsOf
+unfolding two-words edgeMost pathAt pathsFrom pathsAnswer onTile onPath tilePairs callAnswer regionsOf answerOf listsOf writeListsOf
 two-wrote = refl
 
 -- whatever the one segment is
@@ -75,7 +76,7 @@ unfoldable pub over-words : List ℕ
 over-words = region (9 ∷ times full (pairWords solid) ++ encodeTo tileWords Jump) ++ region (pairWords solid ++ (endNo ∷ []))
 
 pub over-wrote : Wrote over 1 1 0 (replicate (2 * tileWords) 9) over-words
-unfolding boxes times over over-words pathAt pathsFrom pathsAnswer onTile onPath tilePairs callAnswer regionsOf answerOf listsOf writeListsOf
+unfolding boxes times over over-words edgeMost pathAt pathsFrom pathsAnswer onTile onPath tilePairs callAnswer regionsOf answerOf listsOf writeListsOf
 over-wrote = refl
 
 all-fit : (n : ℕ) (b : ℤ) → inI32 b ≡ true → AllI32 (replicate n b)

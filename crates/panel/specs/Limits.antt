@@ -1,4 +1,5 @@
--- The limits of docs/RULES.md, each named once for the contracts. Definitions only.
+-- The limits of docs/RULES.md, each named once for the contracts. Those that are shut (`unfoldable`) are opened only where code holds a number against
+-- them and where a trace is computed; proofs cite what is said of them in proofs/LimitLaws.antt. Definitions only.
 use mathlib.Core.List.{List, [], _∷_}
 use Prim.Native.Nat.{ℕ}
 use lib.Ieee.{Float, binary32, ofBits}
@@ -10,14 +11,14 @@ mostPaths = 4096
 abbrev pub mostTiles : ℕ
 mostTiles = 1048576
 
-abbrev pub edgeMost : ℕ
+unfoldable pub edgeMost : ℕ
 edgeMost = 1024
 
 -- line numbers, step numbers and tile counts are below these
 abbrev pub mostLines : ℕ
 mostLines = 65536
 
-abbrev pub mostSteps : ℕ
+unfoldable pub mostSteps : ℕ
 mostSteps = 65536
 
 abbrev pub mostCount : ℕ
@@ -30,12 +31,16 @@ mostSlots = 16777216
 abbrev pub mostCommands : ℕ
 mostCommands = 4096
 
--- the size of a coordinate, as a whole number and as the float that code compares with
-abbrev pub coordWhole : ℕ
+-- the size of a coordinate: as a whole number, as bits (of which one more is the next float), and as the float that code compares with
+unfoldable pub coordWhole : ℕ
 coordWhole = 16384
 
-abbrev pub coordMost : Float
-coordMost = ofBits binary32 0x4680_0000
+unfoldable pub coordBits : ℕ
+coordBits = 0x4680_0000
+
+unfoldable pub coordMost : Float
+unfolding coordBits
+coordMost = ofBits binary32 coordBits
 
 -- a picture's width, and its height, in pixels
 abbrev pub sideMost : ℕ

@@ -10,9 +10,13 @@ pathWords = 5
 abbrev pub lineFloats : ℕ
 lineFloats = 4
 
--- words to a reference: line number, then slice number times 65,536 plus step number
+-- words to a reference: line number, then slice number times `stepRange` plus step number
 abbrev pub refWords : ℕ
 refWords = 2
+
+-- the step numbers that a reference's second word can tell apart
+unfoldable pub stepRange : ℕ
+stepRange = 65536
 
 -- floats to a segment: point0.x, point0.y, point1.x, point1.y, y_edge
 abbrev pub segmentFloats : ℕ
@@ -51,6 +55,7 @@ widths =
     pathWords
     ∷ lineFloats
     ∷ refWords
+    ∷ stepRange
     ∷ segmentFloats
     ∷ paintWords
     ∷ placeX0

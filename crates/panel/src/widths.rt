@@ -10,6 +10,9 @@ pub const LINE_FLOATS: usize = 4;
 
 pub const REF_WORDS: usize = 2;
 
+// A reference's second word is its slice number times this, plus its step number.
+pub const STEP_RANGE: u32 = 65536;
+
 pub const SEGMENT_FLOATS: usize = 5;
 
 pub const PAINT_WORDS: usize = 2;
@@ -31,13 +34,14 @@ pub const PAINT_COLOUR: usize = 0;
 pub const PAINT_RULE: usize = 1;
 
 // All of them.
-pub fn all() -> [usize; 12]
+pub fn all() -> [usize; 13]
     ensures { λ r. ⌜ r ≡ widths ⌝ }
 {
     [
         PATH_WORDS,
         LINE_FLOATS,
         REF_WORDS,
+        STEP_RANGE as usize,
         SEGMENT_FLOATS,
         PAINT_WORDS,
         PATH_X0,

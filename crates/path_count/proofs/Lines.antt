@@ -4,6 +4,7 @@ use mathlib.Core.Path.{_≡_, refl, sym, ap, _∙_, subst}
 use mathlib.Core.Bool.{Bool, true, false, not, _&&_, _||_, false≢true}
 use mathlib.Core.List.{List}
 use Prim.Native.Nat.{ℕ, _+_, _-_, _*_, _/_, _<_, _≤_, _^_, min}
+use native.Mathlib.Nat.{le-trans}
 use native.Mathlib.Omega.{arith}
 use lib.Dec.{leb, ltb}
 use lib.ListN.{getD}
@@ -11,6 +12,8 @@ use lib.Ieee.{Float}
 use borrow.Author.Tests.{ltb-true, ltb-false, le-leb, lt-leb}
 use Rattle.lists.specs.Run.{Step, taken, halted, Ran, done, refused, onStep}
 use Rattle.panel.proofs.BoolLaws.{both, second-false}
+use Rattle.panel.specs.Widths.{stepRange}
+use Rattle.panel.proofs.LimitLaws.{packs}
 use Rattle.panel.specs.Limits.{mostLines, mostSteps, mostSlots}
 use Rattle.panel.specs.Refusals.{countOver, noRoom, lineNumber}
 use Rattle.panel.specs.Paths.{widthOf}
@@ -68,7 +71,7 @@ module _ (w : Walk) (b : Path) (c : Clip) (e : c ≡ clippedOf w b) where
   left = subst (Left b) (sym e) (clip-left w b)
 
   pub clipped : b .x0 < b .x1 → (c .imin < c .imax → c .imax ≤ mostSteps) → Clipped b c
-  clipped h k = record { wide = h; top = left .top; bottom = left .bottom; onward = left .onward; last = k }
+  clipped h k = record { wide = h; top = left .top; bottom = left .bottom; onward = left .onward; last = λ p. le-trans (k p) (packs .steps) }
 
 pub rows-in : (b : Path) (c : Clip) (backs counts : ℕ) → OnTiles b backs counts → Clipped b c → RowsIn (rowsBy b c) backs
 rows-in b c backs counts o k =
@@ -92,6 +95,10 @@ either m n q e = go (ltb m n) refl e
 
 pub not-far : (imin imax : ℕ) → (ltb imin imax && ltb mostSteps imax) ≡ false → imin < imax → imax ≤ mostSteps
 not-far imin imax e h = ltb-false mostSteps imax (second-false (ltb imin imax) (ltb mostSteps imax) (borrow.Author.Tests.lt-ltb imin imax h) e)
+
+-- and so a reference holds every step number
+not-past : (imin imax : ℕ) → (ltb imin imax && ltb mostSteps imax) ≡ false → imin < imax → imax ≤ stepRange
+not-past imin imax e h = le-trans (not-far imin imax e h) (packs .steps)
 
 pub is-far : (imin imax : ℕ) → (ltb imin imax && ltb mostSteps imax) ≡ true → (imin < imax) × (mostSteps < imax)
 is-far imin imax e = let t = both (ltb imin imax) (ltb mostSteps imax) e in (ltb-true imin imax (t .0), ltb-true mostSteps imax (t .1))
@@ -133,15 +140,15 @@ module _ (room l : ℕ) (w : Walk) (b : Path) (c : Clip) (e : c ≡ clippedOf w 
         walk-refused m r =
             by-clip (halted m)
             (plan-refused room l (planBy (not (w .e .«is_down»)) (w .pace) b c) s
-            (plan-marks (planBy (not (w .e .«is_down»)) (w .pace) b c) mostSteps (apart (w .pace) b (starts w b g) (o .boxed)) (not-far (c .imin) (c .imax) h) (omega (arith, g .wide)) (left w b c e .top))
-            (plan-visits (planBy (not (w .e .«is_down»)) (w .pace) b c) mostSteps (apart (w .pace) b (starts w b g) (o .boxed)) (not-far (c .imin) (c .imax) h) (omega (arith, g .wide)))
+            (plan-marks (planBy (not (w .e .«is_down»)) (w .pace) b c) stepRange (apart (w .pace) b (starts w b g) (o .boxed)) (not-past (c .imin) (c .imax) h) (omega (arith, g .wide)) (left w b c e .top))
+            (plan-visits (planBy (not (w .e .«is_down»)) (w .pace) b c) stepRange (apart (w .pace) b (starts w b g) (o .boxed)) (not-past (c .imin) (c .imax) h) (omega (arith, g .wide)))
             v q (not-far (c .imin) (c .imax) h) (has-room room (s .made + (c .imax - c .imin)) k) m r)
 
         pub walk-fine : v ≡ Fine → isDone (runActs (deltaOf (not (w .e .«is_down»))) l (planActs (planBy (not (w .e .«is_down»)) (w .pace) b c)) s) ≡ true
         walk-fine r =
             plan-fine room l (planBy (not (w .e .«is_down»)) (w .pace) b c) s
-            (plan-marks (planBy (not (w .e .«is_down»)) (w .pace) b c) mostSteps (apart (w .pace) b (starts w b g) (o .boxed)) (not-far (c .imin) (c .imax) h) (omega (arith, g .wide)) (left w b c e .top))
-            (plan-visits (planBy (not (w .e .«is_down»)) (w .pace) b c) mostSteps (apart (w .pace) b (starts w b g) (o .boxed)) (not-far (c .imin) (c .imax) h) (omega (arith, g .wide)))
+            (plan-marks (planBy (not (w .e .«is_down»)) (w .pace) b c) stepRange (apart (w .pace) b (starts w b g) (o .boxed)) (not-past (c .imin) (c .imax) h) (omega (arith, g .wide)) (left w b c e .top))
+            (plan-visits (planBy (not (w .e .«is_down»)) (w .pace) b c) stepRange (apart (w .pace) b (starts w b g) (o .boxed)) (not-past (c .imin) (c .imax) h) (omega (arith, g .wide)))
             v q r
 
       pub walk-done : (s′ : St) → done s′ ≡ runActs (deltaOf (not (w .e .«is_down»))) l (planActs (planBy (not (w .e .«is_down»)) (w .pace) b c)) s → done s′ ≡ lineRan (planStep room l (planOf w b) s) s

@@ -15,7 +15,7 @@ use lib.Ieee.{Float, eq}
 use Rattle.float32.proofs.Tests.{below-or-not}
 use borrow.Author.Tests.{ltb-true, eqb-true, leb-true, leb-false}
 use Rattle.panel.proofs.BoolLaws.{both}
-use Rattle.panel.specs.Limits.{mostSteps}
+use Rattle.panel.specs.Widths.{stepRange}
 use Rattle.panel.specs.Paths.{widthOf, endOf}
 use Rattle.panel.specs.declared.kinds.Path.{Path}
 use Rattle.panel.specs.declared.kinds.TileNo.{TileNo}
@@ -81,7 +81,7 @@ hitting w b i n c e = go (stepOf w b i) refl e
     go Refused f g = let q : _≡_ {A = ℕ} 0 1 = cc in absurd (omega arith)
 
 -- no two on one tile, and no mark in the first column
-pub apart : (w : Pace) (b : Path) → StartsAt w → Boxed b → Apart (hitAt w b) mostSteps (b .first) (widthOf b)
+pub apart : (w : Pace) (b : Path) → StartsAt w → Boxed b → Apart (hitAt w b) stepRange (b .first) (widthOf b)
 apart w b l k =
     record {
       one =

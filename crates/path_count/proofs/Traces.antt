@@ -1,12 +1,14 @@
 -- Lines of docs/RULES.md, "Traces to try", counted: each is a call over one path, from zeroed references, with what it comes to. By computation.
 use mathlib.Core.Path.{_≡_, refl}
 use mathlib.Core.List.{List, [], _∷_}
-use Prim.Native.Nat.{ℕ}
+use Prim.Native.Nat.{ℕ, _+_, _-_}
 use lib.IntN.{ℤ, pos, negsuc}
 use lib.Ieee.{Float, binary32, add, sub, mul, div, neg, le, lt, eq, ne, ofInt, ofBits, toSigned, toUnsigned, isNan}
 use Rattle.float32.specs.Meaning.{floorOf, ceilOf, roundOf, absOf, minOf, maxOf, signed, signOf}
 use Rattle.util.specs.Span.{spanOf}
-use Rattle.panel.specs.Refusals.{doneNo, countOver}
+use Rattle.panel.specs.Limits.{edgeMost, mostSteps, coordBits, coordMost}
+use Rattle.panel.specs.Widths.{stepRange}
+use Rattle.panel.specs.Refusals.{doneNo, badBox, coordinate, countOver}
 use Rattle.panel.specs.Kinds.{runningOf}
 use Rattle.panel.specs.Paths.{pathAt, pathsFrom, pathsAnswer}
 use Rattle.walk.specs.Num.{float, cutOf, insideOf, rowOf}
@@ -68,5 +70,35 @@ Hold (c ∷ more) = (ran c ≡ c .told) × Hold more
 
 -- each case comes to what it says
 pub all-hold : Hold cases
-unfolding add sub mul div neg le lt eq ne ofInt ofBits toSigned toUnsigned isNan floorOf ceilOf roundOf absOf minOf maxOf signed signOf spanOf pathAt pathsFrom pathsAnswer cutOf insideOf rowOf endsOf lineOf flatOf pastOf zAt tileIn stepOf lineAt walkedOf walkAt clippedOf rowActs stepsActs runActs planStep batchOf hitAt planOf lineStep callAnswer counted
+unfolding add sub mul div neg le lt eq ne ofInt ofBits toSigned toUnsigned isNan floorOf ceilOf roundOf absOf minOf maxOf signed signOf spanOf edgeMost mostSteps coordMost stepRange pathAt pathsFrom pathsAnswer cutOf insideOf rowOf endsOf lineOf flatOf pastOf zAt tileIn stepOf lineAt walkedOf walkAt clippedOf rowActs stepsActs runActs planStep batchOf hitAt planOf lineStep callAnswer counted
 all-hold = (refl, (refl, (refl, (refl, (refl, (refl, (refl, (refl, tt))))))))
+
+-- ---- the limits, by their names
+
+abbrev lent : List ℕ → List Float → Told
+lent box ends = counted (runningOf 0 0) 1 (0 ∷ []) ends box none empty empty
+
+abbrev unchanged : List ℕ → Told
+unchanged paper = record { paper = paper; backs = none; counts = empty; refs = empty }
+
+abbrev pub border : List (Told × Told)
+border =
+    -- a box whose edges are at the limit passes, in the far corner or in one of no tiles; one more is 3
+    (lent ((edgeMost - 2) ∷ (edgeMost - 2) ∷ edgeMost ∷ edgeMost ∷ 0 ∷ []) (floats (8 ∷ 8 ∷ 8 ∷ 24 ∷ [])), unchanged (done 0))
+    ∷ (lent (edgeMost ∷ edgeMost ∷ edgeMost ∷ edgeMost ∷ 0 ∷ []) (floats (8 ∷ 8 ∷ 8 ∷ 24 ∷ [])), unchanged (done 0))
+    ∷ (lent (0 ∷ 0 ∷ (edgeMost + 1) ∷ 0 ∷ 0 ∷ []) (floats (8 ∷ 8 ∷ 8 ∷ 24 ∷ [])), unchanged (badBox ∷ 0 ∷ 0 ∷ 0 ∷ []))
+    ∷ (lent (0 ∷ 0 ∷ 0 ∷ (edgeMost + 1) ∷ 0 ∷ []) (floats (8 ∷ 8 ∷ 8 ∷ 24 ∷ [])), unchanged (badBox ∷ 0 ∷ 0 ∷ 0 ∷ []))
+    -- coordinates at the limit pass, of either sign; the next float is 6
+    ∷ (lent two (coordMost ∷ float 3 ∷ coordMost ∷ neg coordMost ∷ []), unchanged (done 0))
+    ∷ (lent two (float 3 ∷ coordMost ∷ neg coordMost ∷ coordMost ∷ []), unchanged (done 0))
+    ∷ (lent two (ofBits binary32 (coordBits + 1) ∷ float 3 ∷ coordMost ∷ float 20 ∷ []), unchanged (coordinate ∷ 0 ∷ 0 ∷ 0 ∷ []))
+    ∷ (lent two (float 3 ∷ float 3 ∷ float 5 ∷ neg (ofBits binary32 (coordBits + 1)) ∷ []), unchanged (coordinate ∷ 0 ∷ 0 ∷ 0 ∷ []))
+    ∷ []
+
+abbrev pub Bounds : List (Told × Told) → Type 0
+Bounds [] = Unit {0}
+Bounds (c ∷ more) = (c .0 ≡ c .1) × Bounds more
+
+pub border-holds : Bounds border
+unfolding add sub mul div neg le lt eq ne ofInt ofBits toSigned toUnsigned isNan floorOf ceilOf roundOf absOf minOf maxOf signed signOf spanOf edgeMost mostSteps coordBits coordMost stepRange pathAt pathsFrom pathsAnswer cutOf insideOf rowOf endsOf lineOf flatOf pastOf zAt tileIn stepOf lineAt walkedOf walkAt clippedOf rowActs stepsActs runActs planStep batchOf hitAt planOf lineStep callAnswer counted
+border-holds = (refl, (refl, (refl, (refl, (refl, (refl, (refl, (refl, tt))))))))

@@ -8,9 +8,9 @@ use lib.ListN.{length}
 use lib.IntN.{ℤ}
 use lib.Ieee.{Float}
 use Rattle.lists.specs.Run.{Step, taken, halted, Ran, done, refused, onStep}
-use Rattle.panel.specs.Limits.{mostLines, mostSteps}
+use Rattle.panel.specs.Limits.{mostLines}
 use Rattle.panel.specs.Refusals.{doneNo, notWhole, lineNumber}
-use Rattle.panel.specs.Widths.{lineFloats, refWords}
+use Rattle.panel.specs.Widths.{lineFloats, refWords, stepRange}
 use Rattle.panel.specs.Checks.{Check, check, firstNo, unless}
 use Rattle.panel.specs.Paths.{widthOf, pathsAnswer}
 use Rattle.panel.specs.declared.kinds.Path.{Path}
@@ -163,10 +163,10 @@ pub record Walkable (w : Walk) (b : Path) : Type 0 where
   pub walked : w ≡ lineOf p0 p1
   pub wide : b .x0 < b .x1
 
--- what clipping to a box leaves, where no step number is over the limit
+-- what clipping to a box leaves, where a reference can hold every step number
 pub record Clipped (b : Path) (c : Clip) : Type 0 where
   pub wide : b .x0 < b .x1
   pub top : b .y0 ≤ c .ymin
   pub bottom : c .ymax ≤ b .y1
   pub onward : c .imin ≤ c .imax
-  pub last : c .imin < c .imax → c .imax ≤ mostSteps
+  pub last : c .imin < c .imax → c .imax ≤ stepRange

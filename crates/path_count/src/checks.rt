@@ -4,7 +4,8 @@ ghost use mathlib.Core.Path.{_≡_};
 ghost use Prim.Native.Nat.{_-_, _<_, _≤_};
 ghost use lib.ListN.{length};
 ghost use Rattle.exact.specs.Reach.{Starts};
-ghost use Rattle.panel.specs.Limits.{mostSteps, mostTiles};
+ghost use Rattle.panel.specs.Limits.{mostTiles};
+ghost use Rattle.panel.specs.Widths.{stepRange};
 ghost use Rattle.panel.specs.declared.kinds.Verdict.the-variants.{Fine};
 ghost use Rattle.walk.specs.Step.{lastZ, edgesOf};
 ghost use Rattle.acts.specs.Acts.{on, checkNo, stepActs, stepsActs, deltaOf};
@@ -38,7 +39,7 @@ fn check_step(
     backs: &[i32],
     counts: &[u32],
 ) -> Seen
-    requires { ⌜ OnTiles path (length (now backs)) (length (now counts)) × (i < mostSteps) × («last_z» ≡ lastZ pace i) ⌝ }
+    requires { ⌜ OnTiles path (length (now backs)) (length (now counts)) × (i < stepRange) × («last_z» ≡ lastZ pace i) ⌝ }
     ensures { λ r. ⌜ r ≡ seenOf (checkNo (deltaOf up) (stepActs (hitAt pace path i) i) (now (backs .entry)) (now (counts .entry))) (zOf pace i) ⌝ }
 {
     let Step::Tile(tile, x, _, z) = step_at(pace, path, i) else {
@@ -67,7 +68,7 @@ pub fn check_steps(
     backs: &[i32],
     counts: &[u32],
 ) -> Verdict
-    requires { ⌜ OnTiles path (length (now backs)) (length (now counts)) × («from» < to → to ≤ mostSteps) ⌝ }
+    requires { ⌜ OnTiles path (length (now backs)) (length (now counts)) × («from» < to → to ≤ stepRange) ⌝ }
     ensures { λ r. ⌜ r ≡ checkNo (deltaOf up) (stepsActs (hitAt pace path) (to - «from») «from») (now (backs .entry)) (now (counts .entry)) ⌝ }
 {
     if to <= from {
@@ -119,7 +120,7 @@ fn note_step(
     backs: &[i32],
     counts: &[u32],
 ) -> Noted
-    requires { ⌜ OnTiles path (length (now backs)) (length (now counts)) × (i < mostSteps) × («last_z» ≡ lastZ pace i)
+    requires { ⌜ OnTiles path (length (now backs)) (length (now counts)) × (i < stepRange) × («last_z» ≡ lastZ pace i)
         × Starts (pace .sign) (pace .x0) (pace .y0) × (edges ≡ edgesOf path) ⌝ }
     ensures { λ r. ⌜ r ≡ notedOf (checkNo (deltaOf up) (stepActs (hitAt pace path i) i) (now (backs .entry)) (now (counts .entry))) (zOf pace i) (wordOf (hitAt pace path i)) ⌝ }
 {
@@ -151,7 +152,7 @@ pub fn note_steps(
     counts: &[u32],
     notes: &mut [u32],
 ) -> Verdict
-    requires { ⌜ OnTiles path (length (now backs)) (length (now counts)) × («from» < to → to ≤ mostSteps)
+    requires { ⌜ OnTiles path (length (now backs)) (length (now counts)) × («from» < to → to ≤ stepRange)
         × Starts (pace .sign) (pace .x0) (pace .y0) × (to - «from» ≤ length (now notes)) × (length (now notes) ≡ noteWords) ⌝ }
     ensures { λ r. ⌜ (r ≡ checkNo (deltaOf up) (stepsActs (hitAt pace path) (to - «from») «from») (now (backs .entry)) (now (counts .entry)))
         × (r ≡ Fine → Notes (hitAt pace path) «from» (to - «from») (now (notes .exit)) (length (now (backs .entry)))) ⌝ }

@@ -5,8 +5,8 @@ ghost use mathlib.Core.Bool.{true};
 ghost use Prim.Native.Nat.{_+_, _-_, _*_, _/_, _<_, _≤_};
 ghost use lib.ListN.{length};
 ghost use Rattle.lists.specs.Run.{done};
-ghost use Rattle.panel.specs.Limits.{mostSteps, mostSlots};
-ghost use Rattle.panel.specs.Widths.{refWords};
+ghost use Rattle.panel.specs.Limits.{mostSlots};
+ghost use Rattle.panel.specs.Widths.{refWords, stepRange};
 ghost use Rattle.acts.specs.Acts.{stOf, runActs, checkNo, stepsActs, isDone, deltaOf};
 ghost use Rattle.acts.specs.Line.{planActs, planStep};
 ghost use Rattle.panel.specs.declared.kinds.Verdict.the-variants.{Fine};
@@ -76,7 +76,7 @@ fn check_walk(
     counts: &[u32],
     notes: &mut [u32],
 ) -> Verdict
-    requires { ⌜ OnTiles path (length (now backs)) (length (now counts)) × (imin ≤ imax) × (imin < imax → imax ≤ mostSteps)
+    requires { ⌜ OnTiles path (length (now backs)) (length (now counts)) × (imin ≤ imax) × (imin < imax → imax ≤ stepRange)
         × Starts (pace .sign) (pace .x0) (pace .y0) × (length (now notes) ≡ noteWords) ⌝ }
     ensures { λ r. ⌜ (r ≡ checkNo (deltaOf up) (stepsActs (hitAt pace path) (imax - imin) imin) (now (backs .entry)) (now (counts .entry)))
         × (r ≡ Fine → Notes (hitAt pace path) imin (notedTo imin imax - imin) (now (notes .exit)) (length (now (backs .entry)))) ⌝ }
@@ -103,7 +103,7 @@ fn write_walk(
     counts: &mut [u32],
     refs: &mut [u32],
 )
-    requires { ⌜ OnTiles path (length (now backs)) (length (now counts)) × (imin ≤ imax) × (imin < imax → imax ≤ mostSteps)
+    requires { ⌜ OnTiles path (length (now backs)) (length (now counts)) × (imin ≤ imax) × (imin < imax → imax ≤ stepRange)
         × (refWords * (made + (imax - imin)) ≤ length (now refs)) × (made + (imax - imin) ≤ mostSlots)
         × (isDone (runActs (deltaOf up) (line .0) (stepsActs (hitAt pace path) (imax - imin) imin) (stOf (now backs) (now counts) (now refs) made)) ≡ true)
         × (length (now notes) ≡ noteWords) × Notes (hitAt pace path) imin (notedTo imin imax - imin) (now notes) (length (now backs)) ⌝ }

@@ -5,8 +5,8 @@ ghost use mathlib.Core.Bool.{true};
 ghost use Prim.Native.Nat.{ℕ, _+_, _-_, _*_, _/_, _%_, _<_, _≤_};
 ghost use lib.ListN.{length, getD};
 ghost use Rattle.lists.specs.Run.{done};
-ghost use Rattle.panel.specs.Limits.{mostSteps, mostSlots};
-ghost use Rattle.panel.specs.Widths.{refWords};
+ghost use Rattle.panel.specs.Limits.{mostSlots};
+ghost use Rattle.panel.specs.Widths.{refWords, stepRange};
 ghost use Rattle.walk.specs.Step.{lastZ};
 ghost use Rattle.acts.specs.Acts.{stOf, runActs, stepActs, stepsActs, isDone, deltaOf};
 ghost use Rattle.path_count.specs.Steps.{hitAt, zOf, hitBy, hitsBy, noteWords, OnTiles};
@@ -34,7 +34,7 @@ fn write_step(
     counts: &mut [u32],
     refs: &mut [u32],
 ) -> f32
-    requires { ⌜ OnTiles path (length (now backs)) (length (now counts)) × (i < mostSteps) × («last_z» ≡ lastZ pace i)
+    requires { ⌜ OnTiles path (length (now backs)) (length (now counts)) × (i < stepRange) × («last_z» ≡ lastZ pace i)
         × (refWords * at + 1 < length (now refs)) × (at < mostSlots)
         × (isDone (runActs (deltaOf up) (line .0) (stepActs (hitAt pace path i) i) (stOf (now backs) (now counts) (now refs) at)) ≡ true) ⌝ }
     ensures { λ r. ⌜ (done (stOf (now (backs .exit)) (now (counts .exit)) (now (refs .exit)) (at + 1))
@@ -63,7 +63,7 @@ pub fn write_steps(
     counts: &mut [u32],
     refs: &mut [u32],
 )
-    requires { ⌜ OnTiles path (length (now backs)) (length (now counts)) × («from» ≤ to) × («from» < to → to ≤ mostSteps)
+    requires { ⌜ OnTiles path (length (now backs)) (length (now counts)) × («from» ≤ to) × («from» < to → to ≤ stepRange)
         × (refWords * (made + (to - «from»)) ≤ length (now refs)) × (made + (to - «from») ≤ mostSlots)
         × (isDone (runActs (deltaOf up) (line .0) (stepsActs (hitAt pace path) (to - «from») «from») (stOf (now backs) (now counts) (now refs) made)) ≡ true) ⌝ }
     ensures { λ _. ⌜ done (stOf (now (backs .exit)) (now (counts .exit)) (now (refs .exit)) (made + (to - «from»)))
@@ -93,7 +93,7 @@ fn write_noted(
     counts: &mut [u32],
     refs: &mut [u32],
 )
-    requires { ⌜ (word / 2 + word % 2 < length (now backs)) × (length (now backs) ≡ length (now counts)) × (i < mostSteps)
+    requires { ⌜ (word / 2 + word % 2 < length (now backs)) × (length (now backs) ≡ length (now counts)) × (i < stepRange)
         × (refWords * at + 1 < length (now refs)) × (at < mostSlots)
         × (isDone (runActs (deltaOf up) (line .0) (stepActs (hitBy word) i) (stOf (now backs) (now counts) (now refs) at)) ≡ true) ⌝ }
     ensures { λ _. ⌜ done (stOf (now (backs .exit)) (now (counts .exit)) (now (refs .exit)) (at + 1))
@@ -118,7 +118,7 @@ pub fn write_notes(
     refs: &mut [u32],
 )
     requires { ⌜ ((j : ℕ) → j < to - «from» → getD (now notes) j 0 / 2 + getD (now notes) j 0 % 2 < length (now backs))
-        × (length (now backs) ≡ length (now counts)) × («from» ≤ to) × («from» < to → to ≤ mostSteps) × (to - «from» ≤ length (now notes)) × (length (now notes) ≡ noteWords)
+        × (length (now backs) ≡ length (now counts)) × («from» ≤ to) × («from» < to → to ≤ stepRange) × (to - «from» ≤ length (now notes)) × (length (now notes) ≡ noteWords)
         × (refWords * (made + (to - «from»)) ≤ length (now refs)) × (made + (to - «from») ≤ mostSlots)
         × (isDone (runActs (deltaOf up) (line .0) (stepsActs (hitsBy (now notes) «from») (to - «from») «from») (stOf (now backs) (now counts) (now refs) made)) ≡ true) ⌝ }
     ensures { λ _. ⌜ done (stOf (now (backs .exit)) (now (counts .exit)) (now (refs .exit)) (made + (to - «from»)))

@@ -1,11 +1,11 @@
--- What is known of the stages of a reference: its step and slice number, its line's path, its step's tile. Assumes nothing.
-use Prim.Native.Nat.{ℕ, _/_, _%_, _≤_, _<_, _^_}
+-- What is known of the stages of a reference: its line's path, its step's tile. Assumes nothing.
+use Prim.Native.Nat.{ℕ, _≤_, _<_}
 use native.Mathlib.Omega.{arith}
 use mathlib.Core.Path.{_≡_, refl}
 use mathlib.Core.Bool.{Bool, true, false, cond}
 use lib.IntN.{ℤ}
 use lib.Ieee.{Float}
-use Rattle.panel.specs.Limits.{edgeMost, mostSteps}
+use Rattle.panel.specs.Limits.{edgeMost}
 use Rattle.panel.specs.Kinds.{tileNoOf}
 use Rattle.panel.specs.Paths.{endOf, tileOf}
 use Rattle.panel.specs.declared.kinds.Path.{Path}
@@ -20,13 +20,7 @@ use Rattle.walk.specs.declared.step.Step.{Step}
 use Rattle.walk.specs.declared.step.Step.the-variants.{Tile, Refused}
 use Rattle.walk.specs.declared.lent.Walked.{Walked}
 use Rattle.walk.specs.declared.lent.Walked.the-variants.{Line}
-use Rattle.path_tiling.specs.Look.{StepFits, FoundFits, stepNo, sliceNo}
-
-pub step-small : (packed : ℕ) → stepNo packed < mostSteps
-step-small packed = omega arith
-
-pub slice-small : (packed : ℕ) → packed < 2 ^ 32 → sliceNo packed < mostSteps
-slice-small packed h = omega arith
+use Rattle.path_tiling.specs.Look.{StepFits, FoundFits}
 
 pub tile-fits : {n : ℕ} {s : Step} {t : TileNo} {x y : ℕ} {z : Float} → s ≡ Tile t x y z → StepFits n s → (t .0 < n) × (x ≤ edgeMost) × (y ≤ edgeMost)
 tile-fits e h = rw e at h

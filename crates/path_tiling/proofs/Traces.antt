@@ -7,6 +7,8 @@ use lib.ListN.{replicate}
 use lib.Ieee.{Float, binary32, add, sub, mul, div, neg, le, lt, eq, ne, ofInt, ofBits, toSigned, toUnsigned, isNan}
 use Rattle.float32.specs.Meaning.{floorOf, ceilOf, roundOf, absOf, minOf, maxOf, clampOf, signed, signOf}
 use Rattle.util.specs.Span.{spanOf}
+use Rattle.panel.specs.Limits.{edgeMost, coordMost}
+use Rattle.panel.specs.Widths.{stepRange}
 use Rattle.panel.specs.Paths.{pathAt, pathsFrom, pathsAnswer}
 use Rattle.panel.specs.declared.kinds.Answer.the-variants.{Done, Refused}
 use Rattle.panel.specs.Refusals.{noSuch, noRoom, outside}
@@ -22,7 +24,7 @@ use Rattle.path_tiling.specs.Tiling.{Tiled, tiled, rangeOf, wholeOf, che
 
 -- names all that a trace computes with
 unfoldable computing : ℕ
-unfolding add sub mul div neg le lt eq ne ofInt ofBits toSigned toUnsigned isNan floorOf ceilOf roundOf absOf minOf maxOf clampOf signed signOf spanOf pathAt pathsFrom pathsAnswer cutOf insideOf endsOf lineOf flatOf pastOf zAt tileIn stepOf lineAt walkedOf walkAt cornerOf farOf atRowOf atColOf clipOf makeOf edgeOf offOf turnOf heldOf firstOf lastOf segmentOf pieceOf foundOf pieceTo wordTo stepTo foundTo lookOf rangeOf wholeOf checksOf callOf
+unfolding add sub mul div neg le lt eq ne ofInt ofBits toSigned toUnsigned isNan floorOf ceilOf roundOf absOf minOf maxOf clampOf signed signOf spanOf edgeMost coordMost stepRange pathAt pathsFrom pathsAnswer cutOf insideOf endsOf lineOf flatOf pastOf zAt tileIn stepOf lineAt walkedOf walkAt cornerOf farOf atRowOf atColOf clipOf makeOf edgeOf offOf turnOf heldOf firstOf lastOf segmentOf pieceOf foundOf pieceTo wordTo stepTo foundTo lookOf rangeOf wholeOf checksOf callOf
 computing = 0
 
 -- floats by their bits, and so many zeros

@@ -5,9 +5,9 @@ use mathlib.Core.List.{List}
 use lib.Dec.{leb, ltb}
 use lib.ListN.{length, getD}
 use lib.Ieee.{Float}
-use Rattle.panel.specs.Limits.{mostSteps, edgeMost}
+use Rattle.panel.specs.Limits.{edgeMost}
 use Rattle.panel.specs.Refusals.{noSuch, noRoom, outside, crooked}
-use Rattle.panel.specs.Widths.{refWords}
+use Rattle.panel.specs.Widths.{refWords, stepRange}
 use Rattle.panel.specs.Kinds.{slotNoOf}
 use Rattle.panel.specs.Paths.{endOf}
 use Rattle.panel.specs.Slots.{skips, slotOf}
@@ -36,7 +36,7 @@ pub record Lent : Type 0 where
 abbrev pub lent : List ℕ → List Float → List ℕ → List ℕ → List ℕ → Lent
 lent ns cs ps xs rs = record { pathNos = ns; coords = cs; paths = ps; indices = xs; refs = rs }
 
--- reference k: its line, and its second word, slice number times 65,536 plus step number
+-- reference k: its line, and its second word, slice number times `stepRange` plus step number
 abbrev pub lineAt : List ℕ → ℕ → ℕ
 lineAt refs k = getD refs (k * refWords) 0
 
@@ -44,10 +44,10 @@ abbrev pub packedAt : List ℕ → ℕ → ℕ
 packedAt refs k = getD refs (k * refWords + 1) 0
 
 abbrev pub stepNo : ℕ → ℕ
-stepNo packed = packed % mostSteps
+stepNo packed = packed % stepRange
 
 abbrev pub sliceNo : ℕ → ℕ
-sliceNo packed = packed / mostSteps
+sliceNo packed = packed / stepRange
 
 -- line l, as the walk finds it; no such line is refused
 unfoldable pub foundOf : List ℕ → List Float → List ℕ → ℕ → Walked.Walked

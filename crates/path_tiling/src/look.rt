@@ -1,10 +1,10 @@
 // What one reference comes to: path_tiling.rs, lines 30 to 39 and 62 to 86, with the refusals in the
 // place of its panics.
 ghost use mathlib.Core.Path.{_≡_};
-ghost use Prim.Native.Nat.{_*_, _<_, _≤_};
+ghost use Prim.Native.Nat.{_*_, _<_, _≤_, _^_};
 ghost use lib.ListN.{length};
-ghost use Rattle.panel.specs.Limits.{mostSteps, mostTiles, edgeMost};
-ghost use Rattle.panel.specs.Widths.{lineFloats};
+ghost use Rattle.panel.specs.Limits.{mostTiles, edgeMost};
+ghost use Rattle.panel.specs.Widths.{lineFloats, stepRange};
 ghost use Rattle.panel.specs.Paths.{endOf};
 ghost use Rattle.exact.specs.Reach.{Starts};
 ghost use Rattle.walk.specs.Step.{Boxed, stepOf};
@@ -13,11 +13,11 @@ ghost use Rattle.path_tiling.specs.Look.{StepFits, FoundFits, pieceTo, w
 use panel::kinds::LineNo;
 use panel::kinds::Path;
 use panel::kinds::SlotNo;
-use panel::limits::MOST_STEPS;
 use panel::refusals::CROOKED;
 use panel::refusals::NO_ROOM;
 use panel::refusals::NO_SUCH;
 use panel::refusals::OUTSIDE;
+use panel::widths::STEP_RANGE;
 use segment::Piece;
 use segment::Segment;
 use walk::edges::edges_of;
@@ -48,7 +48,7 @@ fn look_piece(slot: SlotNo, piece: Piece) -> Look
 // The word of a step's tile, with the slice number: the tile is empty, or its slot must be among the
 // slots (9) and the segment's ends in the tile (12).
 fn look_word(w: Walk, i: u32, z: f32, x: u32, y: u32, word: u32, slice: u32, slots: u32) -> Look
-    requires { ⌜ (i < mostSteps) × (x ≤ edgeMost) × (y ≤ edgeMost) × (slice < mostSteps) ⌝ }
+    requires { ⌜ (i < stepRange) × (x ≤ edgeMost) × (y ≤ edgeMost) × (slice < 2 ^ 31) ⌝ }
     ensures { λ r. ⌜ r ≡ wordTo slots word slice (pieceOf w i z x y) ⌝ }
 {
     if word < HANDED_FROM {
@@ -63,7 +63,7 @@ fn look_word(w: Walk, i: u32, z: f32, x: u32, y: u32, word: u32, slice: u32, slo
 
 // Step i of a line that is walked: its tile must be in the box (10).
 fn look_step(w: Walk, step: Step, i: u32, slice: u32, indices: &[u32], slots: u32) -> Look
-    requires { ⌜ (i < mostSteps) × (slice < mostSteps) × StepFits (length (now indices)) step ⌝ }
+    requires { ⌜ (i < stepRange) × (slice < 2 ^ 31) × StepFits (length (now indices)) step ⌝ }
     ensures { λ r. ⌜ r ≡ stepTo (now (indices .entry)) slots w i slice step ⌝ }
 {
     let Step::Tile(tile, x, y, z) = step else {
@@ -74,7 +74,7 @@ fn look_step(w: Walk, step: Step, i: u32, slice: u32, indices: &[u32], slots: u3
 
 // Step i of a line and its slice number.
 fn look_line(w: Walk, p: Path, i: u32, slice: u32, indices: &[u32], slots: u32) -> Look
-    requires { ⌜ (i < mostSteps) × (slice < mostSteps) × Boxed p × (endOf p ≤ length (now indices)) × Starts (w .pace .sign) (w .pace .x0) (w .pace .y0) ⌝ }
+    requires { ⌜ (i < stepRange) × (slice < 2 ^ 31) × Boxed p × (endOf p ≤ length (now indices)) × Starts (w .pace .sign) (w .pace .x0) (w .pace .y0) ⌝ }
     ensures { λ r. ⌜ r ≡ stepTo (now (indices .entry)) slots w i slice (stepOf (w .pace) p i) ⌝ }
 {
     let step = step_by(w.pace, p, edges_of(p), i);
@@ -92,8 +92,8 @@ pub fn look_at(found: Walked, packed: u32, indices: &[u32], slots: u32) -> Look
         Walked::Line(w, p) => look_line(
             w,
             p,
-            packed % MOST_STEPS,
-            packed / MOST_STEPS,
+            packed % STEP_RANGE,
+            packed / STEP_RANGE,
             indices,
             slots,
         ),

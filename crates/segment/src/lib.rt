@@ -3,7 +3,8 @@
 // page beside the Rust in specs/Page.antt.
 ghost use mathlib.Core.Path.{_≡_};
 ghost use Prim.Native.Nat.{_≤_, _<_};
-ghost use Rattle.panel.specs.Limits.{edgeMost, mostSteps};
+ghost use Rattle.panel.specs.Limits.{edgeMost};
+ghost use Rattle.panel.specs.Widths.{stepRange};
 ghost use Rattle.segment.specs.Clips.{cornerOf, farOf, atRowOf, atColOf, clipOf, makeOf, edgeOf, offOf, turnOf, heldOf, firstOf, lastOf, segmentOf, pieceOf};
 use util::Vec2;
 use util::pick;
@@ -137,7 +138,7 @@ pub fn held(p: Vec2) -> bool
 // the step's. The line's own is returned float by float, since the compiler packs a point that is
 // returned early into one word.
 pub fn first_end(w: Walk, i: u32, z: f32, t: Vec2) -> Vec2
-    requires { ⌜ i < mostSteps ⌝ }
+    requires { ⌜ i < stepRange ⌝ }
     ensures { λ r. ⌜ r ≡ firstOf w i z t ⌝ }
 {
     let p = w.e.xy0;
@@ -153,7 +154,7 @@ pub fn first_end(w: Walk, i: u32, z: f32, t: Vec2) -> Vec2
 // The last end: the line's own at the last step, float by float as in `first_end`, and else where the
 // walk goes out. p is the first end, clipped.
 pub fn last_end(w: Walk, i: u32, z: f32, t: Vec2, p: Vec2) -> Vec2
-    requires { ⌜ i < mostSteps ⌝ }
+    requires { ⌜ i < stepRange ⌝ }
     ensures { λ r. ⌜ r ≡ lastOf w i z t p ⌝ }
 {
     let q = w.e.xy1;
@@ -168,7 +169,7 @@ pub fn last_end(w: Walk, i: u32, z: f32, t: Vec2, p: Vec2) -> Vec2
 
 // The segment of step i in the tile of column x and row y.
 pub fn segment_of(w: Walk, i: u32, z: f32, x: u32, y: u32) -> Segment
-    requires { ⌜ (i < mostSteps) × (x ≤ edgeMost) × (y ≤ edgeMost) ⌝ }
+    requires { ⌜ (i < stepRange) × (x ≤ edgeMost) × (y ≤ edgeMost) ⌝ }
     ensures { λ r. ⌜ r ≡ segmentOf w i z x y ⌝ }
 {
     let t = corner(x, y);
@@ -186,7 +187,7 @@ pub enum Piece {
 }
 
 pub fn piece_of(w: Walk, i: u32, z: f32, x: u32, y: u32) -> Piece
-    requires { ⌜ (i < mostSteps) × (x ≤ edgeMost) × (y ≤ edgeMost) ⌝ }
+    requires { ⌜ (i < stepRange) × (x ≤ edgeMost) × (y ≤ edgeMost) ⌝ }
     ensures { λ r. ⌜ r ≡ pieceOf w i z x y ⌝ }
 {
     let s = segment_of(w, i, z, x, y);

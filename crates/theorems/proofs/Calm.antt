@@ -5,6 +5,7 @@ use mathlib.Core.Logic.{_⊎_, inl, inr}
 use mathlib.Core.Bool.{Bool, true, false, not}
 use mathlib.Core.List.{List, [], _∷_, map}
 use Prim.Native.Nat.{ℕ, zero, suc, _+_, _-_, _*_, _/_, _≤_, _<_, _^_}
+use native.Mathlib.Nat.{le-trans}
 use native.Mathlib.Omega.{arith}
 use lib.Dec.{ltb}
 use lib.ListN.{length, getD, replicate, length-replicate}
@@ -16,11 +17,11 @@ use Rattle.lists.specs.Run.{Step, taken, halted, done, run, run-cons-done, actA
 use Rattle.lists.specs.Sums.{from}
 use Rattle.lists.specs.Occ.{is, is-same, is-other}
 use Rattle.panel.specs.Limits.{mostLines, mostSteps, edgeMost}
-use Rattle.panel.specs.Widths.{refWords}
+use Rattle.panel.specs.Widths.{refWords, stepRange}
 use Rattle.panel.specs.Paths.{pathAt, pathCount, widthOf, heightOf, pathsAnswer}
 use Rattle.panel.specs.declared.kinds.Path.{Path}
 use Rattle.panel.specs.declared.kinds.Answer.the-variants.{Done}
-use Rattle.panel.proofs.LimitLaws.{small}
+use Rattle.panel.proofs.LimitLaws.{small, packs}
 use Rattle.panel.proofs.PathLaws.{Checked, checked, Holds}
 use Rattle.backdrop.specs.Backdrop.{outOf, backdropAt, pathFits, pathSums, sumPaths, backdropOf}
 use Rattle.backdrop.specs.Calm.{calmOne, calmFrom}
@@ -90,8 +91,8 @@ module _ (nos : List ℕ) (coords : List Float) (paths : List ℕ) (n : ℕ) (ok
       let lent : Lent paths n n = record { paired = refl; passed = ok } in
       let g = walkable nos coords paths l w b e n n lent in
       let o = on-tiles nos coords paths l w b e n n lent in
-      plan-marks (planBy (not (w .e .«is_down»)) (w .pace) b (clippedOf w b)) mostSteps (apart (w .pace) b (starts w b g) (o .boxed))
-      (not-far (clippedOf w b .imin) (clippedOf w b .imax) f)
+      plan-marks (planBy (not (w .e .«is_down»)) (w .pace) b (clippedOf w b)) stepRange (apart (w .pace) b (starts w b g) (o .boxed))
+      (λ p. le-trans (not-far (clippedOf w b .imin) (clippedOf w b .imax) f p) (packs .steps))
       (omega (arith, g .wide)) (left w b (clippedOf w b) refl .top)
 
   line-mag : (room l t : ℕ) (s u : St) → lineStep nos coords paths room l l s ≡ taken u → (w : ℤ) → mag (marksAt t (marksOf paths (drawnAt nos coords l)) w) ≤ mag w + 2

@@ -5,6 +5,8 @@ use lib.Ieee.{add, sub, mul, div, neg, le, lt, eq, ne, ofInt, ofBits, toSigned, 
 use Rattle.float32.specs.Meaning.{floorOf, ceilOf, roundOf, absOf, minOf, maxOf, clampOf, signed, signOf}
 use Rattle.util.specs.Span.{spanOf}
 use Rattle.lists.specs.Grid.{mapFrom}
+use Rattle.panel.specs.Limits.{edgeMost, mostSteps, coordMost}
+use Rattle.panel.specs.Widths.{stepRange}
 use Rattle.panel.specs.Paths.{pathAt, pathsFrom, pathsAnswer}
 use Rattle.walk.specs.Num.{cutOf, insideOf, rowOf}
 use Rattle.walk.specs.Setup.{endsOf}
@@ -31,7 +33,7 @@ use Rattle.theorems.specs.Starred.{table, Holding}
 
 -- names all that a row computes with
 unfoldable pub computing : ℕ
-unfolding add sub mul div neg le lt eq ne ofInt ofBits toSigned toUnsigned isNan round floorOf ceilOf roundOf absOf minOf maxOf clampOf signed signOf spanOf pathAt pathsFrom pathsAnswer cutOf insideOf rowOf endsOf lineOf flatOf pastOf zAt tileIn stepOf lineAt walkedOf walkAt clippedOf rowActs stepsActs runActs planStep batchOf hitAt planOf lineStep callAnswer counted handOutOf cornerOf farOf atRowOf atColOf clipOf makeOf edgeOf offOf turnOf heldOf firstOf lastOf segmentOf pieceOf foundOf pieceTo wordTo stepTo foundTo lookOf rangeOf wholeOf checksOf callOf areaAfter finishOf sumOf pixelOf channelOf colourOf overOf byteOf packOf opOf moveOf wholeMove traceOf cover paint pointOf putTile tileTrace colourAt tilePixels tileStep tilesOf fineOf mapFrom
+unfolding add sub mul div neg le lt eq ne ofInt ofBits toSigned toUnsigned isNan round floorOf ceilOf roundOf absOf minOf maxOf clampOf signed signOf spanOf edgeMost mostSteps coordMost stepRange pathAt pathsFrom pathsAnswer cutOf insideOf rowOf endsOf lineOf flatOf pastOf zAt tileIn stepOf lineAt walkedOf walkAt clippedOf rowActs stepsActs runActs planStep batchOf hitAt planOf lineStep callAnswer counted handOutOf cornerOf farOf atRowOf atColOf clipOf makeOf edgeOf offOf turnOf heldOf firstOf lastOf segmentOf pieceOf foundOf pieceTo wordTo stepTo foundTo lookOf rangeOf wholeOf checksOf callOf areaAfter finishOf sumOf pixelOf channelOf colourOf overOf byteOf packOf opOf moveOf wholeMove traceOf cover paint pointOf putTile tileTrace colourAt tilePixels tileStep tilesOf fineOf mapFrom
 computing = 0
 
 pub starred : Holding table

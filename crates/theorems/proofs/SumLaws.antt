@@ -20,6 +20,7 @@ use Rattle.panel.specs.Checks.{firstNo}
 use Rattle.panel.specs.Paths.{endOf, pathsAnswer}
 use Rattle.panel.specs.declared.kinds.Answer.{Answer}
 use Rattle.panel.specs.declared.kinds.Answer.the-variants as Answer
+use Rattle.panel.proofs.LimitLaws.{step-back, slice-back}
 use Rattle.panel.proofs.CheckLaws.{unless-done}
 use Rattle.panel.proofs.PathLaws.{checked}
 use Rattle.acts.specs.Acts.{St, stOf, packed}
@@ -203,11 +204,11 @@ module _ (b : ℕ) (nos : List ℕ) (coords : List Float) (paths : List ℕ) (n 
     owned i q = let k = h .made in all-at (EventOwn nos coords paths) noEvent es i (h .own) (omega arith)
 
     pub ref-step : (i : ℕ) → i < m → stepNo (packedAt rs i) ≡ eventAt es i .step
-    ref-step i q = rw (ref-packed i q) (omega (arith, owned i q .step-small))
+    ref-step i q = rw (ref-packed i q) (step-back _ _ (owned i q .step-small))
 
     pub ref-slice : (i : ℕ) → i < m → sliceNo (packedAt rs i) ≡ sliceOf n (tilesEv es) i
     unfolding ks
-    ref-slice i q = rw (ref-packed i q) (omega (arith, owned i q .step-small))
+    ref-slice i q = rw (ref-packed i q) (slice-back _ _ (owned i q .step-small))
 
     pub event-tile : (i : ℕ) → i < m → getD (tilesEv es) i 0 ≡ eventAt es i .tile
     event-tile i q = let k = h .made in tile-at es i (omega arith)

@@ -3,6 +3,7 @@
 use libc::STDOUT_FILENO;
 use panel::kinds::Running;
 use panel::kinds::number;
+use panel::limits::EDGE_MOST;
 use path_count::Counted;
 
 fn space() {
@@ -96,7 +97,7 @@ fn answer(c: Counted) -> u32 {
 fn trace(px: f32, py: f32, qx: f32, qy: f32, x0: u32) {
     let path_nos = [0u32; 1];
     let coords = [px, py, qx, qy];
-    let paths = [x0, 0, x0 % 1024 + 2, 2, 0];
+    let paths = [x0, 0, x0 % EDGE_MOST + 2, 2, 0];
     let mut backs = [0i32; 4];
     let mut counts = [0u32; 4];
     let mut tally = [0u32; 4];

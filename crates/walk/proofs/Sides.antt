@@ -26,7 +26,7 @@ use Rattle.float32.proofs.Order.{not-lt-of-le, le-right}
 use Rattle.float32.proofs.Steps.{lt-plus}
 use Rattle.float32.proofs.Tests.{below-or-not}
 use Rattle.util.specs.Constants.{one}
-use Rattle.panel.specs.Limits.{mostSteps}
+use Rattle.panel.specs.Widths.{stepRange}
 use Rattle.panel.specs.declared.kinds.Path.{Path}
 use Rattle.exact.specs.Whole.{IsWhole, Rounded, turn}
 use Rattle.exact.specs.Reach.{Starts}
@@ -195,7 +195,7 @@ pub record Passed (b : Path) (x y z : Float) : Type 0 where
   pub row-some : 1 ≤ toUnsigned 32 (add binary32 y one)
   pub row-is : toUnsigned 32 (add binary32 y one) - 1 ≡ cutOf (toSigned 31 y)
 
-module _ (p : Pace) (l : Starts (p .sign) (p .x0) (p .y0)) (b : Path) (k : Boxed b) (i : ℕ) (h : i < mostSteps) where
+module _ (p : Pace) (l : Starts (p .sign) (p .x0) (p .y0)) (b : Path) (k : Boxed b) (i : ℕ) (h : i < stepRange) where
   abbrev z : Float
   z = zAt (p .a) (p .b) (float i)
 

@@ -18,7 +18,8 @@ use lib.Ieee.Scale.{finite}
 use Rattle.float32.specs.Meaning.{floorOf}
 use Rattle.float32.proofs.Laws.{floor-fits}
 use Rattle.float32.proofs.Tests.{below-or-not}
-use Rattle.panel.specs.Limits.{edgeMost, mostSteps}
+use Rattle.panel.specs.Limits.{edgeMost}
+use Rattle.panel.specs.Widths.{stepRange}
 use Rattle.exact.specs.Whole.{IsWhole, floorZ, turn}
 use Rattle.exact.specs.Reach.{coordTiles, Starts}
 use Rattle.exact.proofs.Signs.{plusOf, minusOf, sum-parts, abs-sum, abs-other, sum-cancel, turn-same}
@@ -68,7 +69,7 @@ module _ (sign x0 y0 : Float) (l : Starts sign x0 y0) (z : Float) (n : ℤ) (f :
   pub col-is : natAbs (colOf x0 sign z) < 2 ^ 24 → colOf x0 sign z ≡ l .x0n +ℤ turn (l .turned) n
   col-is h = add-cast x0 (mul binary32 sign z) (l .x0n) (turn (l .turned) n) (l .x0-whole) turned-whole h .2
 
-  pub row-is : (i : ℕ) → i < mostSteps → natAbs (rowAt y0 i z) < 2 ^ 24 → rowAt y0 i z ≡ l .y0n +ℤ pos i -ℤ n
+  pub row-is : (i : ℕ) → i < stepRange → natAbs (rowAt y0 i z) < 2 ^ 24 → rowAt y0 i z ≡ l .y0n +ℤ pos i -ℤ n
   row-is i b h =
       let y = add binary32 y0 (float i) in
       let s : natAbs (l .y0n +ℤ pos i) ≤ 2 ^ 24 = omega (arith, abs-sum (l .y0n) (pos i), l .y0-small, far .tiles, far .steps) in
@@ -123,7 +124,7 @@ tile-step t x0 y0 n m i j p q =
 
 -- for any z and w that are whole `f32`s: a tile gives z, and then the step
 pub steps-apart : (sign x0 y0 : Float) → Starts sign x0 y0 → (z w : Float) (n m : ℤ) → T (fits binary32 z) → IsWhole z n → T (fits binary32 w) → IsWhole w m
-    → (i j : ℕ) → i < mostSteps → j < mostSteps
+    → (i j : ℕ) → i < stepRange → j < stepRange
     → natAbs (colOf x0 sign z) < 2 ^ 24 → natAbs (rowAt y0 i z) < 2 ^ 24
     → colOf x0 sign z ≡ colOf x0 sign w → rowAt y0 i z ≡ rowAt y0 j w → i ≡ j
 steps-apart sign x0 y0 l z w n m f hz g hw i j bi bj cx cy e d =

@@ -15,7 +15,7 @@ use lib.Dec.{T}
 use lib.IntN.{ℤ, pos, _+ℤ_, _-ℤ_, natAbs}
 use lib.Ieee.{Float}
 use lib.Ieee.Scale.{finite}
-use Rattle.panel.specs.Limits.{mostSteps}
+use Rattle.panel.specs.Widths.{stepRange}
 use Rattle.panel.specs.Kinds.{tileNoOf}
 use Rattle.panel.specs.Paths.{widthOf, heightOf, endOf, tileOf}
 use Rattle.panel.specs.declared.kinds.Path.{Path}
@@ -95,7 +95,7 @@ module _ (p : Pace) (b : Path) (i : ℕ) (t : TileNo) (x y : ℕ) (z : Float) (e
 -- ---- steps of a line that starts as a checked one does
 module _ (p : Pace) (l : Starts (p .sign) (p .x0) (p .y0)) (b : Path) (k : Boxed b) where
   -- column and row in whole numbers
-  pub step-exact : (i : ℕ) → i < mostSteps → (t : TileNo) (x y : ℕ) (z : Float) → stepOf p b i ≡ Tile t x y z
+  pub step-exact : (i : ℕ) → i < stepRange → (t : TileNo) (x y : ℕ) (z : Float) → stepOf p b i ≡ Tile t x y z
       → (pos x ≡ l .x0n +ℤ turn (l .turned) (zWhole (p .a) (p .b) (float i))) × (pos y ≡ l .y0n +ℤ pos i -ℤ zWhole (p .a) (p .b) (float i))
   step-exact i h t x y z e =
       let f = zAt (p .a) (p .b) (float i) in
@@ -106,7 +106,7 @@ module _ (p : Pace) (l : Starts (p .sign) (p .x0) (p .y0)) (b : Path) (k : Boxed
         sym (c .is-row) ∙ row-is (p .sign) (p .x0) (p .y0) l f n (z-fits (p .a) (p .b) (float i)) w i h (inside-small (rowAt (p .y0) i f) (b .y0) (b .y1) (k .high) (c .told .row-in)),
       )
 
-  pub step-once : (i j : ℕ) → i < mostSteps → j < mostSteps → (t u : TileNo) (x y : ℕ) (z w : Float) → stepOf p b i ≡ Tile t x y z → stepOf p b j ≡ Tile u x y w → i ≡ j
+  pub step-once : (i j : ℕ) → i < stepRange → j < stepRange → (t u : TileNo) (x y : ℕ) (z w : Float) → stepOf p b i ≡ Tile t x y z → stepOf p b j ≡ Tile u x y w → i ≡ j
   step-once i j hi hj t u x y z w e g =
       let f = zAt (p .a) (p .b) (float i) in
       let f′ = zAt (p .a) (p .b) (float j) in
@@ -127,7 +127,7 @@ module _ (p : Pace) (l : Starts (p .sign) (p .x0) (p .y0)) (b : Path) (k : Boxed
       (c .is-row ∙ sym (d .is-row))
 
   -- by the tile's number
-  pub tile-once : (i j : ℕ) → i < mostSteps → j < mostSteps → (t u : TileNo) (x y x′ y′ : ℕ) (z w : Float)
+  pub tile-once : (i j : ℕ) → i < stepRange → j < stepRange → (t u : TileNo) (x y x′ y′ : ℕ) (z w : Float)
       → stepOf p b i ≡ Tile t x y z → stepOf p b j ≡ Tile u x′ y′ w → t .0 ≡ u .0 → i ≡ j
   tile-once i j hi hj t u x y x′ y′ z w e g s =
       let c = step-told p b i t x y z e in

@@ -15,7 +15,7 @@ use lib.Ieee.{Float, le, lt}
 use Rattle.float32.specs.Meaning.{minOf}
 use borrow.Author.Tests.{ltb-true, eq-eqb}
 use Rattle.util.specs.declared.Vec2.{Vec2}
-use Rattle.panel.specs.Limits.{mostSteps}
+use Rattle.panel.specs.Widths.{stepRange}
 use Rattle.panel.specs.Refusals.{coordinate, noSuch}
 use Rattle.panel.specs.Paths.{pathAt, pathCount}
 use Rattle.panel.specs.declared.kinds.Path.{Path}
@@ -110,5 +110,5 @@ line-told nos coords paths l w b e = go (reachedOf p0 p1) refl (ltb n (pathCount
         }
 
 -- ---- z of the step before
-pub last-z : (p : Pace) (i : ℕ) → i < mostSteps → lastZ p (i + 1) ≡ zAt (p .a) (p .b) (float i)
+pub last-z : (p : Pace) (i : ℕ) → i < stepRange → lastZ p (i + 1) ≡ zAt (p .a) (p .b) (float i)
 last-z p i h = ap (λ (f : Float). zAt (p .a) (p .b) f) (one-less i (omega (arith, far .steps)))

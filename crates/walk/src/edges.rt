@@ -3,7 +3,7 @@
 // edges as floats, which no NaN and no infinity passes, and what passes is cast without loss.
 ghost use mathlib.Core.Path.{_≡_};
 ghost use Prim.Native.Nat.{_<_};
-ghost use Rattle.panel.specs.Limits.{mostSteps};
+ghost use Rattle.panel.specs.Widths.{stepRange};
 ghost use Rattle.exact.specs.Reach.{Starts};
 ghost use Rattle.walk.specs.Step.{Boxed, edgesOf, stepOf};
 use super::setup::Pace;
@@ -33,7 +33,7 @@ pub fn edges_of(b: Path) -> Edges
 
 // One is added before a cast, since -0 isn't cast without loss.
 pub fn step_by(p: Pace, b: Path, g: Edges, i: u32) -> Step
-    requires { ⌜ Boxed b × (i < mostSteps) × Starts (p .sign) (p .x0) (p .y0) × (g ≡ edgesOf b) ⌝ }
+    requires { ⌜ Boxed b × (i < stepRange) × Starts (p .sign) (p .x0) (p .y0) × (g ≡ edgesOf b) ⌝ }
     ensures { λ r. ⌜ r ≡ stepOf p b i ⌝ }
 {
     let f = i as f32;

@@ -2,7 +2,7 @@
 // definition of a step's tile serves both.
 ghost use mathlib.Core.Path.{_≡_};
 ghost use Prim.Native.Nat.{_+_, _<_, _^_};
-ghost use Rattle.panel.specs.Limits.{mostSteps};
+ghost use Rattle.panel.specs.Widths.{stepRange};
 ghost use Rattle.panel.specs.Kinds.{tileNoOf};
 ghost use Rattle.panel.specs.Paths.{tileOf};
 ghost use Rattle.walk.specs.Step.{zAt, Boxed, Within, tileIn, stepOf, crossOf};
@@ -50,7 +50,7 @@ pub fn tile_in(b: Path, x: i32, y: i32, z: f32) -> Step
 }
 
 pub fn step_at(p: Pace, b: Path, i: u32) -> Step
-    requires { ⌜ Boxed b × (i < mostSteps) ⌝ }
+    requires { ⌜ Boxed b × (i < stepRange) ⌝ }
     ensures { λ r. ⌜ r ≡ stepOf p b i ⌝ }
 {
     let f = i as f32;

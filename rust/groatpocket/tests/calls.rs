@@ -39,7 +39,7 @@ fn batches_make_what_one_batch_makes() {
 #[test]
 fn a_refused_line_has_its_number_and_changes_nothing() {
     let mut refs = [7; 8];
-    let coords = [8.0, 8.0, 8.0, 12.0, 1.0, 2.0, 16_385.0, 3.0];
+    let coords = [8.0, 8.0, 8.0, 12.0, 1.0, 2.0, f32::MAX, 3.0];
     let stopped = counted(&coords, &PATHS, &mut refs).unwrap_err();
     assert_eq!((stopped.refused.refusal, stopped.refused.item), (Refusal::Coordinate, 1));
     assert_eq!(stopped.running, Running { lines: 1, references: 1 });
@@ -55,7 +55,7 @@ fn what_is_lent_is_checked() {
     };
     assert_eq!(number(&line, &PATHS[..4], 8), Err(1));
     assert_eq!(number(&line, &[0; 5 * 4_097], 8), Err(2));
-    assert_eq!(number(&line, &[0, 0, 1_025, 2, 0], 8), Err(3));
+    assert_eq!(number(&line, &[0, 0, u32::MAX, 2, 0], 8), Err(3));
     assert_eq!(number(&line, &[0, 0, 2, 2, 1], 8), Err(4));
     assert_eq!(number(&line, &[], 8), Err(7));
     assert_eq!(number(&line, &PATHS, 2), Err(9));

@@ -3,6 +3,7 @@ use Prim.Native.Nat.{_<_}
 use borrow.Author.Needs.{needs}
 use borrow.Author.Tests.{lt-ltb}
 use native.Mathlib.Omega.{arith}
+use Rattle.panel.proofs.LimitLaws.{packs}
 use Rattle.segment.specs.Clips.{firstOf}
 use Rattle.walk.proofs.Counts.{in-float}
 use Rattle.segment.proofs.first_end.Statement.{statement}
@@ -13,7 +14,7 @@ unfolding firstOf
 returns c = rw (c .new .ensures, c .before .if1 .taken)
 
 int-to-float-z-at : tie.Need-int-to-float-z-at
-int-to-float-z-at c = in-float _ (omega arith)
+int-to-float-z-at c = in-float _ (omega (arith, packs .float))
 
 returns-2 : tie.Need-returns-2
 unfolding firstOf

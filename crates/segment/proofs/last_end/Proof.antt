@@ -1,12 +1,15 @@
 -- `segment::last_end` meets its contract: the line's own end at the last step, and else what `clip` ensures. Assumes nothing.
 use Prim.Native.Nat.{_<_, _≤_, _-_}
 use borrow.Author.Tests.{lt-ltb, le-ltb}
-use borrow.Author.Needs.{needs}
 use native.Mathlib.Omega.{arith}
+use Rattle.panel.proofs.LimitLaws.{packs}
 use Rattle.segment.specs.Clips.{lastOf}
 use Rattle.walk.proofs.Counts.{in-float}
 use Rattle.segment.proofs.last_end.Statement.{statement}
 use Rattle.segment.proofs.last_end.Tie as tie
+
+add-if1 : tie.Need-add-if1
+add-if1 c = omega (arith, packs .float)
 
 returns : tie.Need-returns
 unfolding lastOf
@@ -15,7 +18,7 @@ returns c =
     rw (c .new .ensures, le-ltb _ _ last)
 
 int-to-float-z-at : tie.Need-int-to-float-z-at
-int-to-float-z-at c = in-float _ (omega arith)
+int-to-float-z-at c = in-float _ (omega (arith, packs .float))
 
 returns-2 : tie.Need-returns-2
 unfolding lastOf
@@ -30,4 +33,4 @@ returns-2 c =
     )
 
 pub last-end-spec : {M : Type 1} → statement M
-last-end-spec = tie.close (tie.spec (search needs) (λ c κs. tt) returns (λ c κs. tt) int-to-float-z-at (λ c κs. tt) (λ c κs. tt) (λ c κs. tt) returns-2)
+last-end-spec = tie.close (tie.spec add-if1 (λ c κs. tt) returns (λ c κs. tt) int-to-float-z-at (λ c κs. tt) (λ c κs. tt) (λ c κs. tt) returns-2)

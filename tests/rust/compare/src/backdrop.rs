@@ -4,6 +4,7 @@ use crate::stage::{hex, same, same_words, Sides, Stage};
 use crate::table::Table;
 use cases::memory::Lent;
 use cases::{boxes, Rng};
+use rules::limits::PATHS_MOST;
 
 #[derive(Clone, Debug)]
 pub struct Case {
@@ -33,7 +34,7 @@ impl Stage for Backdrop {
 
     fn make(&self, rng: &mut Rng) -> Case {
         if rng.one_in(30) {
-            let n = 4_096 + rng.range(-1, 3);
+            let n = PATHS_MOST + rng.range(-1, 3);
             return Case { paths: [0, 0, 0, 0, 0].repeat(n as usize), backdrops: vec![1; rng.below(4) as usize] };
         }
         let n = rng.range(0, 5) as usize;

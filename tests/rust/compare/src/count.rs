@@ -4,6 +4,7 @@ use crate::stage::{hex, same, same_words, Sides, Stage};
 use crate::table::Table;
 use cases::memory::{as_f32, Lent};
 use cases::{boxes, floats, lines, Rng};
+use rules::limits::{COUNT_MOST, EDGE_MOST, LINES_MOST, PATHS_MOST, ROOM_MOST};
 
 #[derive(Clone, Debug)]
 pub struct Case {
@@ -55,7 +56,7 @@ fn held_before(rng: &mut Rng, case: &mut Case) {
         }
         1 => {
             for c in &mut case.counts {
-                *c = rng.pick(&[0, 1, 65_534, 65_535, 65_536, u32::MAX, 7]);
+                *c = rng.pick(&[0, 1, COUNT_MOST as u32 - 1, COUNT_MOST as u32, COUNT_MOST as u32 + 1, u32::MAX, 7]);
             }
         }
         _ => {
@@ -72,7 +73,7 @@ pub fn spoil_line(rng: &mut Rng, path_nos: &mut [u32], coords: &mut [u32], paths
     if rng.coin() {
         let n = path_nos.len().max(1) as u64;
         if let Some(p) = path_nos.get_mut(rng.below(n) as usize) {
-            *p = rng.pick(&[(paths.len() / 5) as u32, u32::MAX, 4_096, 1 << 31]);
+            *p = rng.pick(&[(paths.len() / 5) as u32, u32::MAX, PATHS_MOST as u32, 1 << 31]);
         }
     } else {
         let n = coords.len().max(1) as u64;
@@ -136,14 +137,14 @@ fn past_limits(rng: &mut Rng) -> Case {
         ends: vec![],
     };
     if rng.below(3) > 0 {
-        case.paths = [0, 0, 0, 0, 0].repeat((4_096 + over) as usize);
+        case.paths = [0, 0, 0, 0, 0].repeat((PATHS_MOST + over) as usize);
         (case.path_nos, case.coords) = some_lines(rng, &[0, 0, 2, 2, 0], 2);
         case.ends = vec![2];
     } else {
-        let n = 65_536 + 3;
+        let n = LINES_MOST as usize + 3;
         case.path_nos = vec![0; n];
         case.coords = vec![0; 4 * n];
-        case.lines = 65_536 - 3;
+        case.lines = LINES_MOST as u32 - 3;
         let (_, coords) = some_lines(rng, &[0, 0, 2, 2, 0], 6);
         case.coords[4 * (n - 6)..].copy_from_slice(&coords);
         case.ends = vec![n as u32];
@@ -165,13 +166,13 @@ impl Stage for Count {
         if rng.one_in(3) {
             return long_list(rng);
         }
-        let most = if rng.one_in(40) { 1_024 } else { rng.pick(&[4, 8, 24]) };
+        let most = if rng.one_in(40) { EDGE_MOST } else { rng.pick(&[4, 8, 24]) };
         let n_paths = if rng.one_in(40) { 0 } else { rng.range(1, 3) as usize };
         let (mut paths, mut tiles) = boxes::table(rng, n_paths, most);
         if rng.one_in(60) {
             // a box at the limit's edge, many tiles
-            paths = vec![0, 0, 1_024, rng.range(1, 3) as u32, 0];
-            tiles = 1_024 * paths[3] as usize;
+            paths = vec![0, 0, EDGE_MOST as u32, rng.range(1, 3) as u32, 0];
+            tiles = EDGE_MOST as usize * paths[3] as usize;
         }
         tiles += rng.below(4) as usize;
         let n = rng.range(0, 12) as usize;
@@ -186,7 +187,7 @@ impl Stage for Count {
             case.lines = rng.below(n as u64 + 1) as u32;
             case.made = match rng.below(4) {
                 0 => room as u32,
-                1 => rng.pick(&[room as u32 + 1, u32::MAX, 16_777_216, 16_777_217]),
+                1 => rng.pick(&[room as u32 + 1, u32::MAX, ROOM_MOST as u32, ROOM_MOST as u32 + 1]),
                 _ => rng.below(room + 1) as u32,
             };
         }

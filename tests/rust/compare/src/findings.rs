@@ -3,6 +3,7 @@
 use crate::table::spaced;
 use cases::floats::near;
 use cases::{boxes, lines, Rng};
+use rules::limits::{EDGE_MOST, STEP_MOST, WALK_MOST};
 use rules::walk::{Clip, Place, Walk};
 use std::sync::Mutex;
 
@@ -48,7 +49,7 @@ impl Input {
         let others = 2 * (self.b[2] - self.b[0]) as usize + 2;
         let paths: Vec<u32> = self.b.iter().map(|&v| v as u32).chain([others as u32]).collect();
         let all = tiles + 2 * others;
-        let (mut backs, mut counts, mut refs) = (vec![0; all], vec![0; all], vec![0; 2 * 8_200]);
+        let (mut backs, mut counts, mut refs) = (vec![0; all], vec![0; all], vec![0; 2 * WALK_MOST as usize]);
         let ran = oracle::count(&[0], &self.line, &paths, &mut backs, &mut counts, &mut refs, 0, 1, 0);
         let own = others..others + tiles;
         if ran.is_err() {
@@ -153,7 +154,7 @@ const WHAT: [&str; 16] = [
     "a not finite with dx + dy over 2^-128",
     "a finite with dx + dy at most 2^-128",
     "a not finite, no step left: accepted",
-    "a step number over 65,535 in the clipped walk",
+    "a step number over its limit in the clipped walk",
     "10 in a box of no height",
     "a step below count and in the box, not in the clipped walk",
     "12 of a counted reference: an end below 0",
@@ -234,7 +235,7 @@ impl All {
         if c.from == c.to && c.from == u32::MAX as i64 {
             self.found[6].meet(input);
         }
-        if c.to > c.from && c.to - 1 > 65_535 {
+        if c.to > c.from && c.to - 1 > STEP_MOST {
             self.found[11].meet(input);
         }
     }
@@ -245,7 +246,7 @@ impl All {
         let mut tiles = vec![];
         let mut marks: Vec<(i64, i64)> = (c.top..c.bottom).map(|y| (at.x0, y)).collect();
         let mut off = false;
-        for i in c.from..c.to.min(c.from + 70_000) {
+        for i in c.from..c.to.min(c.from + STEP_MOST + 2) {
             let z = w.z_at(i as f32);
             jumped |= last.is_some_and(|l| z - l >= 2.0);
             last = Some(z);
@@ -276,7 +277,7 @@ impl All {
         if off && at.y0 == at.y1 {
             self.found[12].meet(input);
         }
-        if !off && (0..w.count.min(5_000)).any(|i| !(c.from..c.to).contains(&i) && w.step(i, at).is_some()) {
+        if !off && (0..w.count.min(WALK_MOST)).any(|i| !(c.from..c.to).contains(&i) && w.step(i, at).is_some()) {
             self.found[13].meet(input);
         }
         for (list, which) in [(&mut tiles, 3), (&mut marks, 4)] {
@@ -339,7 +340,7 @@ fn by_families(n: u64, seed: u64, threads: u64) -> All {
 fn number_of(input: &Input) -> u32 {
     let tiles = ((input.b[2] - input.b[0]) * (input.b[3] - input.b[1])) as usize;
     let paths: Vec<u32> = input.b.iter().map(|&v| v as u32).chain([0]).collect();
-    let (mut backs, mut counts, mut refs) = (vec![0; tiles], vec![0; tiles], vec![0; 2 * 4_200]);
+    let (mut backs, mut counts, mut refs) = (vec![0; tiles], vec![0; tiles], vec![0; 2 * WALK_MOST as usize]);
     let (mut l, mut m, mut i) = (0, 0, 0);
     rules::count(&[0], &input.line, &paths, &mut backs, &mut counts, &mut refs, 1, &mut l, &mut m, &mut i)
 }
@@ -413,7 +414,7 @@ fn outline(rng: &mut Rng) -> Input {
     };
     let p = at(k, rng.between(0.5, 1.0));
     let q = at(k + 1, rng.between(0.5, 1.0));
-    let tile = |v: f32, up: i64| ((v / 16.0).floor() as i64 + up).clamp(0, 1_024);
+    let tile = |v: f32, up: i64| ((v / 16.0).floor() as i64 + up).clamp(0, EDGE_MOST);
     let b = [tile(cx - size, 0), tile(cy - size, 0), tile(cx + size, 1), tile(cy + size, 1)];
     Input { b, line: [p[0], p[1], q[0], q[1]] }
 }

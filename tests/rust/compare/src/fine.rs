@@ -5,6 +5,13 @@ use crate::table::Table;
 use cases::commands::{color, fill, Command, Lists, OURS};
 use cases::memory::{as_f32, Lent};
 use cases::{segments, Rng};
+use rules::limits::{COMMANDS_MOST, EDGE_MOST, TILES_MOST};
+
+const TILES: u32 = TILES_MOST as u32;
+const EDGE: u32 = EDGE_MOST as u32;
+
+/// Columns and rows of screens with more tiles than there may be.
+pub const OVER: [(u32, u32); 5] = [(TILES + 1, 1), (EDGE, TILES / EDGE + 1), (u32::MAX, u32::MAX), (1, TILES + 1), (2, 1 << 31)];
 
 #[derive(Clone, Debug)]
 pub struct Case {
@@ -122,7 +129,7 @@ impl Stage for Fine {
         case.lists = Lists::new(64 * (tiles + 1), 77);
         match rng.below(16) {
             0 => {
-                let n = rng.pick(&[4_095, 4_096, 4_096, 4_097, 4_098]);
+                let n = COMMANDS_MOST as usize + rng.pick(&[0, 1, 1, 2, 3]) - 1;
                 let last = rng.pick(&[Command::End, Command::End, Command::Unknown(99), Command::Solid]);
                 case.lists = chain(rng, n, last);
                 (case.cols, case.rows, case.width) = (1, 1, 16);
@@ -229,18 +236,18 @@ fn hostile(rng: &mut Rng, case: &mut Case) {
         2 => case.ranges.insert(0, (1, 0)),
         3 => case.ranges = vec![(0, case.cols * case.rows + 1)],
         4 | 10..=12 => {
-            (case.cols, case.rows) = rng.pick(&[(1_048_577, 1), (1_024, 1_025), (u32::MAX, u32::MAX), (1, 1_048_577), (2, 1 << 31)]);
+            (case.cols, case.rows) = rng.pick(&OVER);
             case.ranges = vec![(0, 0)];
         }
         5 => case.width = case.width.saturating_sub(rng.below(20) as u32),
         6 => case.pixels = case.pixels.saturating_sub(rng.below(40) as usize),
         7 => {
-            (case.cols, case.rows) = (0, rng.pick(&[1, 1 << 20, u32::MAX]));
+            (case.cols, case.rows) = (0, rng.pick(&[1, TILES, u32::MAX]));
             case.ranges = vec![(0, 0)];
         }
         8 => case.width = rng.pick(&[u32::MAX, 1 << 28, case.width + 1]),
         _ => {
-            (case.cols, case.rows) = rng.pick(&[(1_048_576, 1), (1, 1_048_576)]);
+            (case.cols, case.rows) = rng.pick(&[(TILES, 1), (1, TILES)]);
             case.ranges = vec![(0, 0)];
         }
     }

@@ -6,6 +6,7 @@ use crate::table::Table;
 use cases::memory::{as_f32, Lent};
 use cases::{boxes, lines, Rng};
 use rules::frame::{COUNTING, HAND_OUT, LENT, TILING};
+use rules::limits::PATHS_MOST;
 
 #[derive(Clone, Debug)]
 pub struct Case {
@@ -70,7 +71,7 @@ fn spoil(rng: &mut Rng, case: &mut Case) {
         6 => _ = case.refs.pop(),
         7 => case.segments.push(1),
         8..=10 => spoil_line(rng, &mut case.path_nos, &mut case.coords, &case.paths),
-        11 => case.paths = [0, 0, 0, 0, 0].repeat(4_096 + rng.below(3) as usize),
+        11 => case.paths = [0, 0, 0, 0, 0].repeat(PATHS_MOST as usize + rng.below(3) as usize),
         _ => boxes::spoil(rng, &mut case.paths, case.tiles.len()),
     }
 }
@@ -78,7 +79,7 @@ fn spoil(rng: &mut Rng, case: &mut Case) {
 impl Stage for Frame {
     type Case = Case;
     const NAME: &'static str = "frame";
-    /// 8 and 11 can't be met over cleared tiles, and 5 takes 65,537 lines (`limits` has it).
+    /// 8 and 11 can't be met over cleared tiles, and 5 takes a line over the limit (`limits` has it).
     const REACHED: &'static [u32] = &[0, 1, 2, 3, 4, 6, 7, 9, 10, 12];
     const LEAST: u64 = 100_000;
 

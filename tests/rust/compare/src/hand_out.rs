@@ -4,6 +4,7 @@ use crate::stage::{hex, same, same_words, Sides, Stage};
 use crate::table::Table;
 use cases::memory::Lent;
 use cases::Rng;
+use rules::limits::{COUNT_MOST, ROOM_MOST, TILES_MOST};
 
 #[derive(Clone, Debug)]
 pub struct Case {
@@ -23,7 +24,7 @@ impl Stage for HandOut {
     fn make(&self, rng: &mut Rng) -> Case {
         if rng.one_in(55) {
             // a tile too many: nothing is read of it
-            let n = rules::limits::TILES_MOST as usize + 1;
+            let n = TILES_MOST as usize + 1;
             return Case { counts: vec![0; n], tally: vec![7; n], room: rng.u32() };
         }
         let n = if rng.one_in(8) { 0 } else { rng.below(40) };
@@ -32,8 +33,8 @@ impl Stage for HandOut {
             .map(|_| match (kind, rng.below(6)) {
                 (0, 0) => u32::MAX,
                 (0, 1) => 1 << 31,
-                (1, 0) => 16_777_216 - rng.below(4) as u32,
-                (1, 1) => 65_536,
+                (1, 0) => ROOM_MOST as u32 - rng.below(4) as u32,
+                (1, 1) => COUNT_MOST as u32 + 1,
                 (_, 0..=2) => 0,
                 _ => rng.below(9) as u32,
             })
@@ -52,7 +53,7 @@ impl Stage for HandOut {
             1 => (sum as u32).wrapping_sub(1),
             2 => (sum as u32).wrapping_add(1),
             3 => u32::MAX,
-            4 => 16_777_216 + rng.below(3) as u32 - 1,
+            4 => ROOM_MOST as u32 + rng.below(3) as u32 - 1,
             _ => rng.below(200) as u32,
         };
         Case { counts, tally, room }

@@ -6,6 +6,22 @@ use crate::calls::{by_ours, by_rules, linked, same_outcome, shape, Call, BYTES, 
 use crate::stage::{hex, Sides, Stage};
 use crate::table::Table;
 use cases::{boxes, floats, lines, segments, Rng};
+use rules::limits::{COORD_MOST, COUNT_MOST, EDGE_MOST, LINES_MOST, PATHS_MOST, ROOM_MOST, STEP_RANGE};
+
+/// Words at the ends of what a word holds, and at the limits.
+const LIMITS: [u32; 11] = [
+    u32::MAX,
+    1 << 31,
+    i32::MAX as u32,
+    u32::MAX - 1,
+    ROOM_MOST as u32,
+    COUNT_MOST as u32,
+    LINES_MOST as u32,
+    PATHS_MOST as u32,
+    EDGE_MOST as u32,
+    EDGE_MOST as u32 + 1,
+    COORD_MOST.to_bits(),
+];
 
 /// The number of the screen's call.
 const FINE: u32 = 6;
@@ -45,7 +61,7 @@ fn any_helper(rng: &mut Rng) -> Call {
 fn any_word(rng: &mut Rng) -> u32 {
     match rng.below(10) {
         0 => rng.u32(),
-        1 => rng.pick(&[u32::MAX, 1 << 31, i32::MAX as u32, u32::MAX - 1, 1 << 24, 65_535, 65_536, 4_096, 1_024, 1_025]),
+        1 => rng.pick(&LIMITS),
         2 => floats::any_bits(rng),
         _ => rng.below(9) as u32,
     }
@@ -70,7 +86,7 @@ fn good(rng: &mut Rng, kind: u32) -> Call {
         3 => (vec![rng.below(60) as u32], vec![words(rng, tiles), words(rng, tiles)]),
         4 => {
             let made = rng.below(6) as usize;
-            let refs = (0..made).flat_map(|_| [rng.below(n.max(1) as u64) as u32, (rng.below(3) << 16 | rng.below(4)) as u32]).collect();
+            let refs = (0..made).flat_map(|_| [rng.below(n.max(1) as u64) as u32, rng.below(3) as u32 * STEP_RANGE + rng.below(4) as u32]).collect();
             let indices = (0..tiles).map(|_| if rng.one_in(4) { 0 } else { !(rng.below(20) as u32) }).collect();
             let room = 5 * rng.below(30) as usize;
             (vec![0, made as u32], vec![path_nos, coords, paths, indices, refs, words(rng, room)])

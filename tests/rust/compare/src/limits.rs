@@ -1,9 +1,11 @@
 //! The limits that need long slices: the last that passes and the first that is refused.
 
 use crate::calls::{by_ours, by_rules, linked, same_outcome, Call, NAMES};
+use rules::limits::{COORD_MOST, EDGE_MOST, LINES_MOST, PATHS_MOST, ROOM_MOST, TILES_MOST};
 
-const TILES: usize = 1_048_576;
-const ROOM: usize = 16_777_216;
+const TILES: usize = TILES_MOST as usize;
+const ROOM: usize = ROOM_MOST as usize;
+const EDGE: u32 = EDGE_MOST as u32;
 
 fn bits(line: [f32; 4]) -> Vec<u32> {
     line.map(f32::to_bits).to_vec()
@@ -23,16 +25,33 @@ fn calls(long: bool) -> Vec<(&'static str, Call, u32)> {
         let tile = vec![path_nos, coords, paths, vec![u32::MAX; tiles], vec![0, 0], vec![0; 5]];
         out.push(("tiles", Call { kind: 4, numbers: vec![0, 1], slices: tile }, number));
     }
-    // paths that take all tiles, and one more
-    for (edge, number) in [(1_024, 0), (1_025, 3)] {
-        let paths = vec![0, 0, 1_024, edge, 0];
-        out.push(("box edge", Call { kind: 2, numbers: vec![], slices: vec![paths, vec![0; TILES]] }, number));
+    // a box as wide or as high as may be, one wider, and one that takes all tiles
+    let rows = TILES as u32 / EDGE;
+    for (edge, number) in [(EDGE, 0), (EDGE + 1, 3)] {
+        for paths in [vec![0, 0, edge, rows - 1, 0], vec![0, 0, rows - 1, edge, 0], vec![edge, edge, EDGE, EDGE, 0]] {
+            let slices = vec![vec![0], bits([8.0, 8.0, 8.0, 12.0]), paths.clone(), vec![0; TILES], vec![0; TILES], vec![9; 4]];
+            out.push(("box edge", Call { kind: 1, numbers: vec![1, 0, 0], slices }, number));
+            out.push(("box edge", Call { kind: 2, numbers: vec![], slices: vec![paths, vec![0; TILES]] }, number));
+        }
+    }
+    // a line from one corner of what coordinates reach to the other, and one float more
+    for (k, over) in (0..4).flat_map(|k| [(k, false), (k, true)]) {
+        let mut line = [-COORD_MOST, -COORD_MOST, COORD_MOST, COORD_MOST];
+        if over {
+            line[k] = f32::from_bits(line[k].to_bits() + 1);
+        }
+        let number = if over { 6 } else { 0 };
+        let paths = vec![0, 0, EDGE, rows, 0];
+        let slices = vec![vec![0], bits(line), paths.clone(), vec![0; TILES], vec![0; TILES], vec![9; 16 * EDGE as usize]];
+        out.push(("coordinate", Call { kind: 1, numbers: vec![1, 0, 0], slices }, number));
+        let slices = vec![vec![0], bits(line), paths, vec![u32::MAX; TILES], vec![0, 0], vec![0; 5]];
+        out.push(("coordinate", Call { kind: 4, numbers: vec![0, 1], slices }, if over { 6 } else { 10 }));
     }
     for (first, number) in [(0, 0), (1, 4)] {
-        let paths = vec![0, 0, 1_024, 1_024, first];
+        let paths = vec![0, 0, EDGE, rows, first];
         out.push(("first tile", Call { kind: 2, numbers: vec![], slices: vec![paths, vec![0; TILES]] }, number));
     }
-    for (n, number) in [(4_096, 0), (4_097, 2)] {
+    for (n, number) in [(PATHS_MOST as usize, 0), (PATHS_MOST as usize + 1, 2)] {
         let paths = [0, 0, 0, 0, 0].repeat(n);
         out.push(("paths", Call { kind: 2, numbers: vec![], slices: vec![paths, vec![]] }, number));
     }
@@ -41,11 +60,11 @@ fn calls(long: bool) -> Vec<(&'static str, Call, u32)> {
         out.push(("slots", Call { kind: 3, numbers: vec![u32::MAX], slices: vec![counts, vec![0; 3]] }, number));
     }
     // a line too many in a frame: all are of no length, so the walk skips them
-    for (n, number) in [(65_536, 0), (65_537, 5)] {
+    for (n, number) in [(LINES_MOST as usize, 0), (LINES_MOST as usize + 1, 5)] {
         let slices = vec![vec![0; n], vec![0; 4 * n], vec![0, 0, 2, 2, 0], vec![1; 4], vec![1; 4], vec![1; 4], vec![7; 4], vec![9; 5]];
         out.push(("lines", Call { kind: 7, numbers: vec![], slices }, number));
     }
-    for (cols, rows, number) in [(1_024, 1_024, 9), (1_024, 1_025, 2)] {
+    for (cols, rows, number) in [(EDGE, rows, 9), (EDGE, rows + 1, 2)] {
         let slices = vec![vec![0, 0, 1, 1, 0], vec![0; 2], vec![0], vec![0], vec![0], vec![7; 64]];
         out.push(("screen tiles", Call { kind: 8, numbers: vec![cols, rows, 0], slices }, number));
     }

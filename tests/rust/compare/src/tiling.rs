@@ -5,6 +5,7 @@ use crate::stage::{hex, same, same_words, Sides, Stage};
 use crate::table::Table;
 use cases::memory::{as_f32, Lent};
 use cases::{boxes, Rng};
+use rules::limits::{PATHS_MOST, ROOM_MOST, STEP_RANGE};
 
 #[derive(Clone, Debug)]
 pub struct Case {
@@ -64,7 +65,7 @@ fn invent(rng: &mut Rng, case: &mut Case) {
             1 => case.refs[k].wrapping_add(1),
             2 => case.refs[k].wrapping_sub(1),
             3 if odd => case.refs[k].wrapping_add(rng.below(30) as u32 + 1),
-            4 if odd => case.refs[k].wrapping_add((rng.below(4) as u32) << 16),
+            4 if odd => case.refs[k].wrapping_add(rng.below(4) as u32 * STEP_RANGE),
             5 => lines as u32,
             _ => rng.below(lines.max(1)) as u32,
         };
@@ -72,7 +73,7 @@ fn invent(rng: &mut Rng, case: &mut Case) {
     if kind >= 2 && !case.indices.is_empty() {
         for _ in 0..rng.range(1, 6) {
             let k = rng.below(case.indices.len() as u64) as usize;
-            case.indices[k] = rng.pick(&[0, 1, 0x7fff_ffff, 0x8000_0000, u32::MAX, !5, !16_777_215, !16_777_216, !(1 << 30)]);
+            case.indices[k] = rng.pick(&[0, 1, 0x7fff_ffff, 0x8000_0000, u32::MAX, !5, !(ROOM_MOST as u32 - 1), !(ROOM_MOST as u32), !(1 << 30)]);
         }
     }
 }
@@ -126,7 +127,7 @@ impl Stage for Tile {
         }
         if rng.one_in(70) {
             case.counted = false;
-            let n = 4_096 + rng.range(0, 2);
+            let n = PATHS_MOST + rng.range(0, 2);
             case.paths = [0, 0, 0, 0, 0].repeat(n as usize);
         }
         case

@@ -1,11 +1,13 @@
 //! The lists of commands: beside the rules word for word, and drawn by fine beside painting the paths one after another.
 
+use crate::fine::OVER;
 use crate::frame;
 use crate::stage::{hex, same, same_words, Sides, Stage};
 use crate::table::Table;
 use cases::commands::{color, Command, Lists};
 use cases::memory::{as_f32, Lent};
 use cases::{boxes, segments, Rng};
+use rules::limits::{PATHS_MOST, ROOM_MOST};
 use rules::lists::{Pair, Tables};
 
 #[derive(Clone, Debug)]
@@ -138,7 +140,7 @@ fn move_slots(rng: &mut Rng, case: &mut Case) {
         3 => {
             case.room = u32::MAX;
             case.segments.clear();
-            16_777_216 - case.tally[t] + rng.below(2) as u32
+            ROOM_MOST as u32 - case.tally[t] + rng.below(2) as u32
         }
         _ => rng.u32(),
     };
@@ -154,9 +156,9 @@ fn spoil(rng: &mut Rng, case: &mut Case) {
         3 => _ = case.backdrops.pop(),
         4 => case.stored.push(3),
         5 => _ = case.tally.pop(),
-        6 | 7 => (case.cols, case.rows) = rng.pick(&[(1_048_577, 1), (1_024, 1_025), (u32::MAX, u32::MAX), (1, 1_048_577), (2, 1 << 31)]),
+        6 | 7 => (case.cols, case.rows) = rng.pick(&OVER),
         8 => {
-            let n = 4_096 + rng.below(3) as usize;
+            let n = PATHS_MOST as usize + rng.below(3) as usize;
             case.paths = [0, 0, 0, 0, 0].repeat(n);
             case.paints = vec![1; 2 * n];
         }

@@ -6,6 +6,7 @@
 use crate::SEED;
 use cases::floats::{any_bits, ulps};
 use cases::Rng;
+use rules::limits::{COORD_MOST, EDGE_MOST};
 use std::fmt::Write;
 
 const HEAD: &str = "\
@@ -77,7 +78,7 @@ fn clamp(x: u32, low: u32, high: u32) -> u32 {
 fn classes() -> Vec<u32> {
     let mut out = vec![0u32, 1, 2, 0x0040_0000, 0x007f_fffe, 0x007f_ffff, 0x0080_0000, 0x0080_0001];
     out.extend([0x7f7f_fffe, 0x7f7f_ffff, 0x7f80_0000, 0x7fc0_0000]);
-    let whole = [0.5, 1.0, 1.5, 2.0, 2.5, 3.0, 3.5, 4.0, 15.0, 15.5, 16.0, 255.0, 255.5, 1_023.5, 1_024.0, 16_384.0];
+    let whole = [0.5, 1.0, 1.5, 2.0, 2.5, 3.0, 3.5, 4.0, 15.0, 15.5, 16.0, 255.0, 255.5, EDGE_MOST as f32 - 0.5, EDGE_MOST as f32, COORD_MOST];
     let powers = [22, 23, 24, 30, 31, 32, 33, 62, 63, 64, 127].map(|p| 2f32.powi(p));
     let odd = [8_388_607.5, 4_194_303.5, 8_388_609.0, 16_777_215.0, 2_147_483_520.0, 4_294_967_040.0, 0.99999994, 2e-7, 1e-6, 1e-3, 1e9];
     for x in whole.into_iter().chain(powers).chain(odd) {

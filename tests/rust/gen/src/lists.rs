@@ -6,7 +6,7 @@ use crate::SEED;
 use cases::commands::{color, fill, Command, Lists};
 use cases::memory::{as_f32, one_nan};
 use cases::{boxes, floats, lines, segments, Rng};
-use rules::limits::{COMMANDS_MOST, COORD_MOST, COUNT_MOST, EDGE_MOST, ROOM_MOST, TILES_MOST};
+use rules::limits::{COMMANDS_MOST, COORD_MOST, COUNT_MOST, EDGE_MOST, ROOM_MOST, TILES_MOST, WALK_MOST};
 
 fn bits(line: [f32; 4]) -> [u32; 4] {
     line.map(|v| one_nan(v.to_bits()))
@@ -123,7 +123,7 @@ impl Counting {
 
     /// Lines that the rules refuse left out, and just room enough.
     fn accepted(mut self) -> Counting {
-        let plenty = 4_200 * self.path_nos.len().max(1);
+        let plenty = WALK_MOST as usize * self.path_nos.len().max(1);
         self = self.room(plenty);
         loop {
             let case = self.by_rules();
@@ -143,6 +143,7 @@ fn count_traces(list: &mut List) {
     let square = |x0: u32| Counting::new(&[x0, 0, x0 + 2, 2, 0], 4);
     let tiny = f32::from_bits(1_000);
     let edge = EDGE_MOST as u32;
+    let far = 16.0 * EDGE_MOST as f32;
     let after_limit = floats::ulps(COORD_MOST, 1);
     let traces: Vec<(&str, Counting)> = vec![
         ("(8,8)-(8,24)", square(0).with(0, [8.0, 8.0, 8.0, 24.0])),
@@ -153,10 +154,10 @@ fn count_traces(list: &mut List) {
         ("and reversed", square(1).with(0, [8.0, 24.0, 8.0, 8.0])),
         ("box 0,0,6,1: 1/(dx+dy) overflows, 10", Counting::new(&[0, 0, 6, 1, 0], 6).with(0, [80.0, 0.0, 80.0, tiny])),
         ("so short, no step left: accepted", square(1).with(0, [8.0, -tiny, 8.0, tiny])),
-        ("coordinate 16,384 passes", square(0).with(0, [COORD_MOST, 3.0, -COORD_MOST, 20.0])),
+        ("a coordinate at the limit passes", square(0).with(0, [COORD_MOST, 3.0, -COORD_MOST, 20.0])),
         ("the next float is 6", square(0).with(0, [3.0, 3.0, 4.0, after_limit])),
-        ("box edge 1,024 passes", Counting::new(&[edge - 2, edge - 2, edge, edge, 0], 4).with(0, [16_360.0, 16_360.0, 16_380.0, 16_370.0])),
-        ("1,025 is 3", Counting::new(&[edge - 2, edge - 2, edge + 1, edge, 0], 6)),
+        ("a box edge at the limit passes", Counting::new(&[edge - 2, edge - 2, edge, edge, 0], 4).with(0, [far - 24.0, far - 24.0, far - 4.0, far - 14.0])),
+        ("one more is 3", Counting::new(&[edge - 2, edge - 2, edge + 1, edge, 0], 6)),
         (
             "first and last step numbers at the top of u32: accepted",
             Counting::new(&[3, 1, 4, 2, 0], 1).with(0, [12.0, 16.0, 108.0, f32::from_bits(0x417f_fffe)]),
@@ -176,7 +177,7 @@ fn count_traces(list: &mut List) {
         list.say(said);
         list.case(&case.room(16).written());
     }
-    for (said, count) in [("tile count 65,535 passes", COUNT_MOST as u32), ("65,536 is 8", COUNT_MOST as u32 + 1)] {
+    for (said, count) in [("a tile count at the limit passes", COUNT_MOST as u32), ("one more is 8", COUNT_MOST as u32 + 1)] {
         let mut case = square(0).with(0, [8.0, 8.0, 8.0, 24.0]).room(4);
         case.counts[2] = count;
         list.say(said);
@@ -221,13 +222,13 @@ fn count_spoiled(list: &mut List, rng: &mut Rng) {
         |c| c.path_nos[0] = u32::MAX,
         |c| c.coords[0] = 0x7fc0_0000,
         |c| c.coords[5] = 0xff80_0000,
-        |c| c.coords[7] = 0x4680_0001,
+        |c| c.coords[7] = COORD_MOST.to_bits() + 1,
         |c| c.paths[9] = 3,
         |c| c.paths[9] = 4,
         |c| c.paths[4] = u32::MAX,
         |c| (c.paths[2], c.paths[0]) = (0, 1),
         |c| (c.paths[3], c.paths[1]) = (0, 1),
-        |c| c.paths[8] = 1_025,
+        |c| c.paths[8] = EDGE_MOST as u32 + 1,
         |c| c.paths[5] = u32::MAX,
         |c| c.paths = vec![],
     ];
@@ -716,7 +717,7 @@ fn fine_traces(out: &mut List) {
         screen.lists.cut(cut);
         out.case(&screen.written());
     }
-    out.say("4,096 commands, then END, and one more");
+    out.say("As many commands as may be, then END, and one more");
     out.case(&long_list(COMMANDS_MOST as usize, Command::End).written());
     out.case(&long_list(COMMANDS_MOST as usize + 1, Command::End).written());
     out.case(&long_list(COMMANDS_MOST as usize, Command::Unknown(99)).written());
@@ -733,7 +734,7 @@ fn fine_traces(out: &mut List) {
         (0, 0, 5, 0, 0, 0),
         (u32::MAX, u32::MAX, u32::MAX, 0, 0, 4),
         (u32::MAX, 0, u32::MAX, 0, 0, 4),
-        (16, 1_024, TILES_MOST as u32 / 1_024 + 1, 0, 0, 4),
+        (16, EDGE_MOST as u32, (TILES_MOST / EDGE_MOST) as u32 + 1, 0, 0, 4),
     ] {
         let base = Screen::one(&[Solid, Color(0x2040_60ff), End], &half);
         out.case(&Screen { width, cols, rows, from, to, pixels, ..base }.written());

@@ -1,6 +1,7 @@
 //! Files made from a good one: its header dressed as Netpbm allows, or the file damaged.
 
 use cases::Rng;
+use restated::limits::SIDE_MOST;
 
 /// A good file's three numbers and its raster. Only for files with a plain header, as Netpbm's tools write.
 pub fn taken_apart(file: &[u8]) -> Option<([u32; 3], &[u8])> {
@@ -52,8 +53,12 @@ fn with_numbers(file: &[u8], numbers: [String; 3]) -> Vec<u8> {
 }
 
 fn number(rng: &mut Rng) -> String {
-    let odd = ["0", "1", "3", "254", "255", "256", "65535", "16384", "16385", "4294967296", "18446744073709551617", "-1", "+5", "1e2", "0x9", ""];
-    rng.pick(&odd).into()
+    let odd = ["0", "1", "3", "254", "255", "256", "65535", "4294967296", "18446744073709551617", "-1", "+5", "1e2", "0x9", ""];
+    match rng.below(odd.len() as u64 + 2) {
+        0 => SIDE_MOST.to_string(),
+        1 => (SIDE_MOST + 1).to_string(),
+        k => odd[k as usize - 2].into(),
+    }
 }
 
 /// One change: to a byte of the header, to its numbers, or to where the file ends.

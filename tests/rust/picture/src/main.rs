@@ -8,6 +8,7 @@
 mod files;
 
 use cases::Rng;
+use rules::limits::SIDE_MOST;
 use rules::picture as rules;
 use std::collections::BTreeMap;
 use std::io::Write;
@@ -96,8 +97,8 @@ fn damaged(seed: u64, n: u64, names: &[String]) {
 
 fn side(rng: &mut Rng) -> u32 {
     match rng.below(12) {
-        0 => rng.pick(&[0, 16_385, u32::MAX, 1 << 31]),
-        1 => 16_384,
+        0 => rng.pick(&[0, SIDE_MOST + 1, u32::MAX, 1 << 31]),
+        1 => SIDE_MOST,
         _ => 1 + rng.below(20) as u32,
     }
 }

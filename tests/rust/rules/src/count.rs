@@ -43,7 +43,7 @@ impl Tiles<'_> {
         }
         log.push(Was::Count(t, slice));
         self.counts[t] = slice + 1;
-        for (k, word) in [line, slice * 65_536 + i as u32].into_iter().enumerate() {
+        for (k, word) in [line, slice * STEP_RANGE + i as u32].into_iter().enumerate() {
             log.push(Was::Ref(REF * slot + k, self.refs[REF * slot + k]));
             self.refs[REF * slot + k] = word;
         }

@@ -1,4 +1,4 @@
-//! The limits and the refusal numbers, each named once.
+//! The limits, the widths of records and the refusal numbers, each named once: every run and every generator takes them from here.
 
 pub const PATHS_MOST: i64 = 4_096;
 pub const TILES_MOST: i64 = 1_048_576;
@@ -9,12 +9,19 @@ pub const STEP_MOST: i64 = 65_535;
 pub const COUNT_MOST: i64 = 65_535;
 pub const ROOM_MOST: i64 = 16_777_216;
 pub const COMMANDS_MOST: u32 = 4_096;
+/// A picture's width, and its height.
+pub const SIDE_MOST: u32 = 16_384;
 
 /// Words of a record.
 pub const PATH: usize = 5;
 pub const LINE: usize = 4;
 pub const REF: usize = 2;
 pub const SEGMENT: usize = 5;
+/// A reference's second word is slice number times this plus step number.
+pub const STEP_RANGE: u32 = 65_536;
+
+/// A checked line has fewer steps than this: its ends are at most twice the coordinate's limit apart, across and down.
+pub const WALK_MOST: i64 = 4 * (COORD_MOST * crate::walk::TILE_SCALE) as i64;
 
 pub const DONE: u32 = 0;
 pub const BAD_SHAPE: u32 = 1;

@@ -1,11 +1,12 @@
 //! The rules of docs/RULES.md, "A picture on paper", once more in plain Rust, from the documents and not from our code.
 
+use restated::limits::SIDE_MOST;
+
 pub const DONE: u32 = 0;
 pub const NOT_WHOLE: u32 = 1;
 pub const NO_ROOM: u32 = 9;
 pub const BAD_SIZE: u32 = 17;
 pub const BAD_FILE: u32 = 18;
-const SIDE_MOST: u128 = 16_384;
 
 /// The bytes of a header after "P6", comments left out, each with its place.
 fn outside_comments(file: &[u8]) -> Vec<(usize, u8)> {
@@ -56,7 +57,7 @@ pub fn read(file: &[u8], room: usize) -> Result<(u32, u32, &[u8]), u32> {
     if largest != 255 {
         return Err(BAD_FILE);
     }
-    if [width, height].iter().any(|side| !(1..=SIDE_MOST).contains(side)) {
+    if [width, height].iter().any(|side| !(1..=SIDE_MOST as u128).contains(side)) {
         return Err(BAD_SIZE);
     }
     let raster = &file[at..];
@@ -71,7 +72,7 @@ pub fn read(file: &[u8], room: usize) -> Result<(u32, u32, &[u8]), u32> {
 
 /// What writing answers: the file, or the number of the refusal.
 pub fn write(pixels: &[u32], width: u32, height: u32, room: usize) -> Result<Vec<u8>, u32> {
-    if [width, height].iter().any(|&side| !(1..=SIDE_MOST).contains(&(side as u128))) {
+    if [width, height].iter().any(|&side| !(1..=SIDE_MOST).contains(&side)) {
         return Err(BAD_SIZE);
     }
     if pixels.len() as u128 != width as u128 * height as u128 {

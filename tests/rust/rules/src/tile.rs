@@ -97,7 +97,7 @@ pub struct Lent<'a> {
 
 /// The slot and the segment of a reference, nothing where its tile is empty, or its refusal.
 pub fn piece(lent: &Lent, reference: &[u32], room: i64) -> Result<Option<(usize, [f32; 5])>, u32> {
-    let (n, slice, i) = (reference[0] as usize, (reference[1] / 65_536) as i64, (reference[1] % 65_536) as i64);
+    let (n, slice, i) = (reference[0] as usize, (reference[1] / STEP_RANGE) as i64, (reference[1] % STEP_RANGE) as i64);
     if n >= lent.path_nos.len() {
         return Err(NO_SUCH);
     }

@@ -1,5 +1,6 @@
 //! The traces of docs/RULES.md, so that the rules as restated here are seen to be the rules.
 
+use rules::limits::{COMMANDS_MOST, COORD_MOST, COUNT_MOST, EDGE_MOST};
 use rules::{backdrop, count, fill, fine, frame, hand_out, tile, write_lists};
 
 struct Counted {
@@ -56,14 +57,25 @@ fn counting() {
 fn refused_lines() {
     let c = counted([0, 0, 6, 1], [80.0, 0.0, 80.0, f32::from_bits(1_000)], &[0; 6]);
     assert_eq!((c.number, c.item, c.counts, c.backdrops), (10, 0, vec![0; 6], vec![0; 6]));
-    let limit = 16_384f32;
-    assert_eq!(counted([0, 0, 2, 2], [limit, 3.0, -limit, 20.0], &[0; 4]).number, 0);
-    assert_eq!(counted([0, 0, 2, 2], [limit.next_up(), 3.0, 5.0, 20.0], &[0; 4]).number, 6);
-    assert_eq!(counted([0, 0, 1_024, 1], [1.0, 3.0, 5.0, 20.0], &[0; 1_024]).number, 0);
-    assert_eq!(counted([0, 0, 1_025, 1], [1.0, 3.0, 5.0, 20.0], &[0; 1_025]).number, 3);
-    let c = counted([0, 0, 2, 2], [8.0, 8.0, 8.0, 24.0], &[0, 0, 65_535, 0]);
+    for k in 0..4 {
+        for sign in [1.0, -1.0] {
+            let mut line = [5.0, 3.0, 6.0, 20.0];
+            line[k] = sign * COORD_MOST;
+            assert_eq!(counted([0, 0, 2, 2], line, &[0; 4]).number, 0);
+            line[k] = sign * COORD_MOST.next_up();
+            assert_eq!(counted([0, 0, 2, 2], line, &[0; 4]).number, 6);
+        }
+    }
+    for (over, number) in [(0, 0), (1, 3)] {
+        let edge = EDGE_MOST as u32 + over;
+        let tiles = vec![0; edge as usize];
+        assert_eq!(counted([0, 0, edge, 1], [1.0, 3.0, 5.0, 20.0], &tiles).number, number);
+        assert_eq!(counted([0, 0, 1, edge], [1.0, 3.0, 5.0, 20.0], &tiles).number, number);
+    }
+    let full = COUNT_MOST as u32;
+    let c = counted([0, 0, 2, 2], [8.0, 8.0, 8.0, 24.0], &[0, 0, full, 0]);
     assert_eq!((c.number, c.refs[1]), (0, (0, 0xffff_0001)));
-    assert_eq!(counted([0, 0, 2, 2], [8.0, 8.0, 8.0, 24.0], &[0, 0, 65_536, 0]).number, 8);
+    assert_eq!(counted([0, 0, 2, 2], [8.0, 8.0, 8.0, 24.0], &[0, 0, full + 1, 0]).number, 8);
 }
 
 #[test]
@@ -110,7 +122,7 @@ fn screen(words: &[u32], segments: &[f32]) -> (u32, u32) {
 fn commands() {
     assert_eq!(screen(&[0, 2, 0, 3, 0x2040_60ff, 0], &[]), (0, 0xff60_4020));
     let mut words = vec![0];
-    for _ in 0..4_096 {
+    for _ in 0..COMMANDS_MOST {
         words.extend([2, 0]);
     }
     words.push(0);

@@ -4,7 +4,7 @@ use mathlib.Core.Path.{_≡_, refl, sym, ap, _∙_}
 use Prim.Native.Nat.{_≤_, _<_, _-_, _+_}
 use native.Mathlib.Omega.{arith}
 use borrow.Author.Needs.{needs}
-use Rattle.panel.specs.Limits.{mostSteps}
+use Rattle.panel.specs.Widths.{stepRange}
 use Rattle.panel.specs.declared.kinds.Verdict.{Verdict}
 use Rattle.walk.specs.Step.{lastZ}
 use Rattle.acts.specs.Acts.{checkNo, stepsActs, deltaOf}
@@ -43,7 +43,7 @@ loop-holds : tie.Need-loop-holds Inv-loop μ-loop
 loop-holds c = (c .z-at .ensures, refl)
 
 -- all steps are below the limit
-few : (c : tie.In-loop Inv-loop μ-loop) → c .before .loop .i < mostSteps
+few : (c : tie.In-loop Inv-loop μ-loop) → c .before .loop .i < stepRange
 few c = omega (arith, c .before .before .before .before .before .before .pre .1 (c .before .before .before .before .if1 .left), c .loop-test .taken)
 
 check-step-requires : tie.Need-check-step-requires Inv-loop μ-loop

@@ -6,7 +6,7 @@ use native.Mathlib.Nat.{le-refl}
 use native.Mathlib.Omega.{arith}
 use lib.ListN.{length, length-set}
 use borrow.Author.Needs.{needs}
-use Rattle.panel.specs.Limits.{mostSteps}
+use Rattle.panel.specs.Widths.{stepRange}
 use Rattle.walk.specs.Step.{lastZ}
 use Rattle.acts.specs.Acts.{checkNo, stepsActs, deltaOf}
 use Rattle.acts.proofs.Laws.{steps-turn, steps-end, check-goes, check-stops, check-ends}
@@ -50,7 +50,7 @@ loop-holds : tie.Need-loop-holds Inv-loop μ-loop
 loop-holds c = ((le-refl _, omega (arith, c .before .before .before .if1 .left)), c .z-at .ensures, refl, (λ j h. absurd (omega (arith, h))), refl)
 
 -- all steps are below the limit
-few : (c : tie.In-loop Inv-loop μ-loop) → c .before .loop .i < mostSteps
+few : (c : tie.In-loop Inv-loop μ-loop) → c .before .loop .i < stepRange
 few c = omega (arith, c .before .before .before .before .before .before .before .before .pre .1 (c .before .before .before .before .before .if1 .left), c .loop-test .taken)
 
 note-step-requires : tie.Need-note-step-requires Inv-loop μ-loop

@@ -8,6 +8,7 @@ use borrow.Author.Needs.{needs}
 use Rattle.panel.specs.Widths.{refWords}
 use Rattle.acts.specs.Acts.{stOf}
 use Rattle.path_count.proofs.Lines.{starts, left, clipped, not-far, has-room, walk-far, walk-full, walk-refused, walk-fine, walk-done}
+use Rattle.panel.specs.Limits.{mostSteps}
 use Rattle.path_count.proofs.line.count_walk.Statement.{statement}
 use Rattle.path_count.proofs.line.count_walk.Tie as tie
 use Rattle.path_count.proofs.line.count_walk.Reads as reads
@@ -20,6 +21,7 @@ clip-to-requires : tie.Need-clip-to-requires
 clip-to-requires c κs = search needs
 
 returns : tie.Need-returns
+unfolding mostSteps
 returns c =
     let s = c .before .before .before .before .before .before .before in
     let k = c .before .clip-to in
@@ -38,12 +40,14 @@ cast-if2 : tie.Need-cast-if2
 cast-if2 c = search needs
 
 returns-2 : tie.Need-returns-2
+unfolding mostSteps
 returns-2 c =
     let s = c .before .before .before .before .before .before .before .before in
     let k = c .before .before .clip-to in
     walk-full (length (s .args .refs .now) / refWords) (s .args .line .0) (s .args .walk) (s .args .path) (k .result) (k .ensures) (stOf (s .args .backs .now) (s .args .counts .now) (s .args .refs .now) (s .args .made)) (c .before .if1 .left) (c .if2 .taken)
 
 check-line-requires : tie.Need-check-line-requires
+unfolding mostSteps
 check-line-requires c κs =
     let s = c .before .before .before .before .before .before .before .before .before .before .before in
     let k = c .before .before .before .before .before .clip-to in (
@@ -66,6 +70,7 @@ same-length-3 : tie.Need-same-length-3
 same-length-3 c = search needs
 
 returns-3 : tie.Need-returns-3
+unfolding mostSteps
 returns-3 c =
     let s = c .before .before .before .before .before .before .before .before .before .before .before .before .before .before .before .before .before in
     let k = c .before .before .before .before .before .before .before .before .before .before .before .clip-to in
@@ -76,6 +81,7 @@ enum-told : tie.Need-enum-told
 enum-told c = search needs
 
 write-line-requires : tie.Need-write-line-requires
+unfolding mostSteps
 write-line-requires c κs =
     let s = c .before .before .before .before .before .before .before .before .before .before .before .before .before .before .before .before .before .before .before .before in
     let k = c .before .before .before .before .before .before .before .before .before .before .before .before .before .before .clip-to in
@@ -104,6 +110,7 @@ same-length-7 : tie.Need-same-length-7
 same-length-7 c = search needs
 
 returns-4 : tie.Need-returns-4
+unfolding mostSteps
 returns-4 c =
     let s = c .before .before .before .before .before .before .before .before .before .before .before .before .before .before .before .before .before .before .before .before .before .before .before .before .before .before in
     let k = c .before .before .before .before .before .before .before .before .before .before .before .before .before .before .before .before .before .before .before .before .clip-to in

@@ -7,7 +7,7 @@ use native.Mathlib.Omega.{arith}
 use lib.ListN.{length}
 use borrow.Author.Needs.{needs}
 use Rattle.lists.specs.Run.{done}
-use Rattle.panel.specs.Limits.{mostSteps}
+use Rattle.panel.specs.Widths.{stepRange}
 use Rattle.walk.specs.Step.{lastZ}
 use Rattle.acts.specs.Acts.{isDone, runActs, stOf, stepsActs, deltaOf}
 use Rattle.acts.proofs.Laws.{steps-turn, steps-end, run-goes, run-first, run-ends}
@@ -48,7 +48,7 @@ loop-holds : tie.Need-loop-holds Inv-loop μ-loop
 loop-holds c = ((le-refl _, c .before .before .before .before .before .pre .1), omega arith, c .z-at .ensures, refl, refl, refl, refl)
 
 -- all steps are below the limit
-few : (c : tie.In-loop Inv-loop μ-loop) → c .before .loop .i < mostSteps
+few : (c : tie.In-loop Inv-loop μ-loop) → c .before .loop .i < stepRange
 few c = omega (arith, c .before .before .before .before .before .before .before .pre .2 (c .before .before .before .before .if1 .left), c .loop-test .taken)
 
 write-step-requires : tie.Need-write-step-requires Inv-loop μ-loop

@@ -1,5 +1,6 @@
 -- `walk::lent::reached` meets its contract. Assumes nothing.
 use borrow.Author.Needs.{needs}
+use Rattle.panel.specs.Limits.{coordMost}
 use Rattle.walk.proofs.lent.reached.Statement.{statement}
 use Rattle.walk.proofs.lent.reached.Tie as tie
 
@@ -16,6 +17,7 @@ abs-requires-4 : tie.Need-abs-requires-4
 abs-requires-4 c κs = search needs
 
 returns : tie.Need-returns
+unfolding coordMost
 returns c = rw (c .abs4 .ensures, c .before .abs3 .ensures, c .before .before .abs2 .ensures, c .before .before .before .abs .ensures)
 
 pub reached-spec : {M : Type 1} → statement M
