@@ -1,7 +1,7 @@
 //! Files made from a good one: its header dressed as Netpbm allows, or the file damaged.
 
 use cases::Rng;
-use restated::limits::SIDE_MOST;
+use rules::limits::SIDE_MOST;
 
 /// A good file's three numbers and its raster. Only for files with a plain header, as Netpbm's tools write.
 pub fn taken_apart(file: &[u8]) -> Option<([u32; 3], &[u8])> {

@@ -8,8 +8,8 @@
 mod files;
 
 use cases::Rng;
-use rules::limits::SIDE_MOST;
-use rules::picture as rules;
+use ::rules::limits::SIDE_MOST;
+use ::rules::picture as rules;
 use std::collections::BTreeMap;
 use std::io::Write;
 use std::{env, fs, process};

@@ -1,6 +1,6 @@
 //! The rules of docs/RULES.md, "A picture on paper", once more in plain Rust, from the documents and not from our code.
 
-use restated::limits::SIDE_MOST;
+use crate::limits::SIDE_MOST;
 
 pub const DONE: u32 = 0;
 pub const NOT_WHOLE: u32 = 1;
