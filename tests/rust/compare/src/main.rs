@@ -93,6 +93,9 @@ fn run<S: Stage>(stage: &S, args: &Args, linked: bool, seconds: f64) -> bool {
 
 fn stages(args: &Args) -> bool {
     let mut well = args.mode == "rules-vs-oracle" || run(&floats::Floats, args, ours::has::FLOATS, 5.0);
+    if ours::has::FLOATS && args.mode != "rules-vs-oracle" && args.only.as_deref().is_none_or(|o| o == "floats") {
+        well &= floats::pairs();
+    }
     well &= run(&backdrop::Backdrop, args, ours::has::BACKDROP, 3.0);
     well &= run(&hand_out::HandOut, args, ours::has::HAND_OUT, 2.0);
     well &= run(&count::Count, args, ours::has::COUNT, 24.0);
