@@ -5,13 +5,13 @@ use crate::row::Way;
 use crate::row::added;
 use crate::row::reach_of;
 use crate::row::row_of;
+use crate::row::up_to_one;
 use crate::row::way_of;
 use crate::segment::segment_at;
 use crate::tile::TILE_HEIGHT;
 use crate::tile::TILE_SIZE;
 use crate::tile::TILE_WIDTH;
 use float32::abs;
-use float32::min;
 use float32::of_i32;
 use float32::round;
 ghost use mathlib.Core.Path.{_≡_};
@@ -109,7 +109,7 @@ pub fn finish(eo: bool, a: f32) -> f32
     if eo {
         abs(a - 2.0 * round(0.5 * a))
     } else {
-        min(abs(a), 1.0)
+        up_to_one(abs(a))
     }
 }
 

@@ -7,6 +7,8 @@ use float32::min;
 use float32::signum;
 ghost use mathlib.Core.Path.{_≡_};
 ghost use Prim.Native.Nat.{_<_};
+ghost use Rattle.float32.specs.Meaning.{minOf, maxOf};
+ghost use Rattle.util.specs.Constants.{zero, one};
 ghost use Rattle.coverage.specs.Tile.{tileWidth, tileHeight};
 ghost use Rattle.coverage.specs.Row.{wayOf, rowOf, reachOf, addedOf};
 
@@ -83,17 +85,31 @@ pub fn reach_of(w: Way, r: Row) -> Reach
     Reach { left, right }
 }
 
+// The smaller of x and 1. One comparison chooses: a NaN gives the other, and no zero is 1.
+pub fn up_to_one(x: f32) -> f32
+    ensures { λ r. ⌜ r ≡ minOf x one ⌝ }
+{
+    if x < 1.0 { x } else { 1.0 }
+}
+
+// The larger of x and 0, by one comparison too: of a zero +0 is the larger.
+pub fn from_zero(x: f32) -> f32
+    ensures { λ r. ⌜ r ≡ maxOf x zero ⌝ }
+{
+    if 0.0 < x { x } else { 0.0 }
+}
+
 // What a row's slanted part adds at column i.
 pub fn added(p: Reach, edge: f32, dy: f32, i: usize) -> f32
     requires { ⌜ i < tileWidth ⌝ }
     ensures { λ r. ⌜ r ≡ addedOf p edge dy i ⌝ }
 {
     let i_f = i as f32;
-    let xmin = min(p.left - i_f, 1.0) - 1.0e-6;
+    let xmin = up_to_one(p.left - i_f) - 1.0e-6;
     let xmax = p.right - i_f;
-    let b = min(xmax, 1.0);
-    let c = max(b, 0.0);
-    let d = max(xmin, 0.0);
+    let b = up_to_one(xmax);
+    let c = from_zero(b);
+    let d = from_zero(xmin);
     let a = (b + 0.5 * (d * d - c * c) - xmin) / (xmax - xmin);
     edge + a * dy
 }

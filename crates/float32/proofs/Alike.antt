@@ -4,7 +4,7 @@
 --     alike-sum, alike-sub                                 sums and differences
 --     alike-cast                                           the cast to a whole number
 use mathlib.Core.Path.{_≡_, refl, sym, ap, _∙_}
-use mathlib.Core.Bool.{Bool, true, false, not, _&&_, _||_, Bool·beq, cond}
+use mathlib.Core.Bool.{Bool, true, false, not, _&&_, _||_, Bool·beq, cond, true≢false, false≢true}
 use mathlib.Core.Logic.{_⊎_, inl, inr}
 use Prim.Native.Nat.{ℕ, zero, suc, _+_, _-_, _*_, _/_, _<_, zero-le}
 use native.Mathlib.Nat.{zero-mul, div-eq-of-lt, mul-pos, mul-assoc, mul-right-comm, zero-lt-suc}
@@ -14,8 +14,9 @@ use lib.IntN.{ℤ, pos}
 use lib.Ieee.{Float, nan, inf, fin, binary32, up, down, below, level, round, sum, add, sub, neg, lt, eq, le, isNan, toUnsigned}
 use lib.Ieee.Fits.{up-pos, down-pos}
 use lib.Ieee.Scale.{round-same}
-use borrow.Author.Tests.{lt-ltb, le-ltb, ne-eqb}
-use Rattle.float32.specs.Meaning.{whole, up-div, floorOf, ceilOf}
+use borrow.Author.Tests.{lt-ltb, le-ltb, ne-eqb, eqb-true}
+use Rattle.float32.specs.Meaning.{whole, up-div, floorOf, ceilOf, signOf}
+use Rattle.float32.proofs.Tests.{first, second}
 use Rattle.float32.proofs.Order.{turned}
 
 -- a zero, of either sign
@@ -26,6 +27,41 @@ IsZero (fin s m e) = m ≡ 0
 
 abbrev pub Alike : Float → Float → Type 0
 Alike x y = (x ≡ y) ⊎ (IsZero x × IsZero y)
+
+-- equal floats of unlike signs are zeros
+over : (n : ℕ) → 0 < n → n ≡ 0 → ⊥
+over n h e = omega arith
+
+nothing : (m a b : ℕ) → 0 < a → 0 < b → m * a * b ≡ 0 → m ≡ 0
+nothing zero a b A B h = refl
+nothing (suc m) a b A B h = absurd (over (suc m * a * b) (mul-pos (mul-pos (zero-lt-suc m) A) B) h)
+
+pub unlike-zeros : (x y : Float) → eq x y ≡ true → signOf x ≡ not (signOf y) → IsZero x × IsZero y
+unfolding eq signOf
+unlike-zeros nan y h k = absurd (false≢true h)
+unlike-zeros (inf s) nan h k = absurd (false≢true h)
+unlike-zeros (inf true) (inf true) h k = absurd (true≢false k)
+unlike-zeros (inf true) (inf false) h k = absurd (false≢true h)
+unlike-zeros (inf false) (inf true) h k = absurd (false≢true h)
+unlike-zeros (inf false) (inf false) h k = absurd (false≢true k)
+unlike-zeros (inf s) (fin t n d) h k = absurd (false≢true h)
+unlike-zeros (fin s m e) nan h k = absurd (false≢true h)
+unlike-zeros (fin s m e) (inf t) h k = absurd (false≢true h)
+unlike-zeros (fin s m e) (fin t n d) h k =
+    let z : A ≡ 0 = eqb-true A 0 (none-left s t (second (eqb A B) (Bool·beq s t || eqb A 0) h) k) in
+    (nothing m (up e) (down d) (up-pos e) (down-pos d) z, nothing n (up d) (down e) (up-pos d) (down-pos e) (sym (eqb-true A B (first (eqb A B) (Bool·beq s t || eqb A 0) h)) ∙ z))
+  where
+    A : ℕ
+    A = m * up e * down d
+
+    B : ℕ
+    B = n * up d * down e
+
+    none-left : (s t : Bool) → (Bool·beq s t || eqb A 0) ≡ true → s ≡ not t → eqb A 0 ≡ true
+    none-left true true h k = absurd (true≢false k)
+    none-left true false h k = h
+    none-left false true h k = h
+    none-left false false h k = absurd (false≢true k)
 
 pub alike-then : (x y z : Float) → Alike x y → Alike y z → Alike x z
 alike-then x y z (inl p) (inl q) = inl (p ∙ q)
@@ -49,9 +85,6 @@ some (suc A) D h = lt-ltb 0 (suc A * D) (mul-pos (zero-lt-suc A) h) ∙ sym (lt-
 same : (A D : ℕ) → 0 < D → eqb (A * D) 0 ≡ eqb A 0
 same zero D h = ap (λ (z : ℕ). eqb z 0) (zero-mul D)
 same (suc A) D h = ne-eqb (suc A * D) 0 (λ e. over (suc A * D) (mul-pos (zero-lt-suc A) h) e) ∙ sym (ne-eqb (suc A) 0 (λ e. over (suc A) (zero-lt-suc A) e))
-  where
-    over : (n : ℕ) → 0 < n → n ≡ 0 → ⊥
-    over n h e = omega arith
 
 less : (s u : Bool) (A D : ℕ) → 0 < D → below s 0 u (A * D) ≡ (not u && ltb 0 A)
 less false false A D h = some A D h

@@ -1,18 +1,20 @@
 -- A value that an `f32` holds rounds to itself, so an `f32` less 0 is itself: a NaN, an infinity and -0 too. Assumes nothing.
 -- Of `fin s m e` the size is A / D, with A = m * up e and D = down e.
 use mathlib.Core.Path.{_≡_, refl, sym, ap, _∙_, subst}
-use mathlib.Core.Bool.{Bool, true, false, cond}
+use mathlib.Core.Bool.{Bool, true, false, cond, _||_, Bool·beq, false≢true}
 use Prim.Native.Nat.{ℕ, suc, _+_, _-_, _*_, _/_, _^_, zero-le}
 use native.Mathlib.Nat.{mul-one, zero-mul, mul-right-comm, div-one}
 use native.Mathlib.Omega.{arith}
-use lib.Dec.{T, ltb}
+use lib.Dec.{T, ltb, eqb}
 use lib.IntN.{ℤ, pos, negsuc}
-use lib.Ieee.{Float, nan, inf, fin, binary32, up, down, size, round, add, sub, neg, sum, fits, ofBits, toBits, hid, top}
+use lib.Ieee.{Float, nan, inf, fin, binary32, up, down, size, round, add, sub, neg, sum, eq, fits, ofBits, toBits, hid, top}
 use lib.Ieee.Bits.{ofBits-toBits}
 use lib.Ieee.Exact.{HasValue}
 use lib.Ieee.Fits.{down-pos, round-fits}
 use lib.Ieee.Nearest.{div-same}
-use borrow.Author.Tests.{le-ltb}
+use borrow.Author.Tests.{le-ltb, eqb-true}
+use Rattle.float32.specs.Meaning.{signOf}
+use Rattle.float32.proofs.Tests.{first}
 use Rattle.float32.proofs.Nearest.{part-exact}
 use Rattle.float32.proofs.Steps.{few-digits, not-low, trunc-exact}
 
@@ -31,6 +33,20 @@ same-value s m e (fin t n d) h g v =
     sym (ofBits-toBits binary32 (fin t n d) g)
     ∙ ap (ofBits binary32) (ap (λ (u : Bool). toBits binary32 (fin u n d)) (v .0) ∙ same-bits s m e n d (v .1))
     ∙ ofBits-toBits binary32 (fin s m e) h
+
+-- so equal floats of one sign are one
+pub same-sign : (x y : Float) → T (fits binary32 x) → T (fits binary32 y) → eq x y ≡ true → signOf x ≡ signOf y → x ≡ y
+unfolding eq signOf
+same-sign nan y h g e s = absurd (false≢true e)
+same-sign (inf s) nan h g e k = absurd (false≢true e)
+same-sign (inf s) (inf t) h g e k = ap inf k
+same-sign (inf s) (fin t n d) h g e k = absurd (false≢true e)
+same-sign (fin s m e) nan h g q k = absurd (false≢true q)
+same-sign (fin s m e) (inf t) h g q k = absurd (false≢true q)
+same-sign (fin s m e) (fin t n d) h g q k =
+    let A = m * up e * down d in
+    let B = n * up d * down e in
+    same-value t n d (fin s m e) g h (k, eqb-true A B (first (eqb A B) (Bool·beq s t || eqb A 0) q))
 
 -- ---- what fits is rounded to itself
 own-exact : (s : Bool) (m : ℕ) (e : ℤ) → T (fits binary32 (fin s m e)) → HasValue (round binary32 s (m * up e) (down e)) s (m * up e) (down e)

@@ -21,12 +21,14 @@ pub fn abs(x: f32) -> f32
     }
 }
 
-// The smaller of two.
+// The smaller of two; of two zeros -0 if either is.
 pub fn min(a: f32, b: f32) -> f32
     ensures { λ r. ⌜ r ≡ minOf a b ⌝ }
 {
     if b < a {
         b
+    } else if b == a {
+        if f32::to_bits(b) < 0x8000_0000 { a } else { b }
     } else if a != a {
         b
     } else {
@@ -34,12 +36,14 @@ pub fn min(a: f32, b: f32) -> f32
     }
 }
 
-// The larger of two.
+// The larger of two; of two zeros +0 if either is.
 pub fn max(a: f32, b: f32) -> f32
     ensures { λ r. ⌜ r ≡ maxOf a b ⌝ }
 {
     if a < b {
         b
+    } else if a == b {
+        if f32::to_bits(a) < 0x8000_0000 { a } else { b }
     } else if a != a {
         b
     } else {

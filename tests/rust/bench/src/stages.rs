@@ -3,6 +3,7 @@
 use crate::scenes::{moved, segments, Kind, Scene, KINDS};
 use crate::{measured, row, timed, Times};
 use cases::commands::{Command, OURS, RUST};
+use cases::memory::one_zero;
 use cases::Rng;
 use oracle::{BumpAllocators, PathSegment, SegmentCount, Tile};
 use std::hint::black_box;
@@ -160,7 +161,7 @@ fn one_fill(n: usize, even_odd: u32, rounds: usize) -> Times {
         || timed(|| (0..again).for_each(|_| oracle::raw::fill(black_box(&mut theirs), &records, words, 0.0, 0.0))),
         || timed(|| (0..again).for_each(|_| assert_eq!(ours::fill(&list, 0, n as u32, even_odd, 1, 0.0, 0.0, black_box(&mut mine)), 0))),
     );
-    assert_eq!(theirs.map(f32::to_bits), mine.map(f32::to_bits));
+    assert_eq!(theirs.map(|a| one_zero(a.to_bits())), mine.map(|a| one_zero(a.to_bits())));
     times
 }
 

@@ -21,6 +21,17 @@ pub fn near(rng: &mut Rng, x: f32, most: i64) -> f32 {
     ulps(x, rng.range(-most, most))
 }
 
+/// Zeros, subnormals, infinities and NaNs, the neighbours of each, and those of 1; with both signs.
+pub fn corners() -> Vec<u32> {
+    let zero = [0, 1, 2];
+    let subnormal = [0x0040_0000, 0x007f_fffe, 0x007f_ffff, 0x0080_0000, 0x0080_0001];
+    let one = [0x3f7f_ffff, 0x3f80_0000, 0x3f80_0001];
+    let infinity = [0x7f7f_fffe, 0x7f7f_ffff, 0x7f80_0000];
+    let nan = [0x7f80_0001, 0x7fbf_ffff, 0x7fc0_0000, 0x7fff_ffff];
+    let plus = zero.iter().chain(&subnormal).chain(&one).chain(&infinity).chain(&nan);
+    plus.flat_map(|x| [*x, x | 0x8000_0000]).collect()
+}
+
 /// Bits of every class of value.
 pub fn any_bits(rng: &mut Rng) -> u32 {
     let sign = if rng.coin() { 0x8000_0000 } else { 0 };

@@ -103,6 +103,15 @@ pub fn as_f32(words: &[u32]) -> &[f32] {
     unsafe { std::slice::from_raw_parts(words.as_ptr().cast(), words.len()) }
 }
 
+/// Bits with -0 as +0: numbers that compare as equal.
+pub fn one_zero(bits: u32) -> u32 {
+    if bits == 0x8000_0000 {
+        0
+    } else {
+        bits
+    }
+}
+
 /// Bits with every NaN as one.
 pub fn one_nan(bits: u32) -> u32 {
     if f32::from_bits(bits).is_nan() {

@@ -1,8 +1,9 @@
-//! Coverage of a tile, beside the rules and the unchanged Rust; any NaN equals any NaN.
+//! Coverage of a tile, beside the rules and the unchanged Rust; any NaN equals any NaN, and beside the Rust any zero
+//! any zero.
 
 use crate::stage::{hex, same, same_words, Sides, Stage};
 use crate::table::Table;
-use cases::memory::{as_f32, one_nan, Lent};
+use cases::memory::{as_f32, one_nan, one_zero, Lent};
 use cases::{floats, segments, Rng};
 
 #[derive(Clone, Debug)]
@@ -99,7 +100,8 @@ impl Stage for Fill {
                 let words = [c.number << 1 | (c.even_odd != 0) as u32, c.first, c.backdrop as u32];
                 let ran = oracle::fill(as_f32(&case.segments), words, c.x_tile, c.y_tile, by_rust.f32s_mut());
                 same("the Rust panicked", ran.is_err(), false)?;
-                same_words("beside the Rust: area", &seen(&by_rules), &seen(&by_rust))?;
+                let numbers = |l: &Lent| -> Vec<u32> { seen(l).into_iter().map(one_zero).collect() };
+                same_words("beside the Rust: area", &numbers(&by_rules), &numbers(&by_rust))?;
                 table.add("segments the Rust filled too", c.number as u64);
             }
         }

@@ -1,8 +1,9 @@
-//! The float helpers beside Rust's std: bit for bit, any NaN equal to any NaN.
+//! The float helpers beside Rust's std: bit for bit, any NaN equal to any NaN. Of two zeros std leaves open which its
+//! min and max give, so there a zero equals a zero beside std, and beside the rules the sign counts too.
 
 use crate::stage::{hex, Sides, Stage};
 use crate::table::{spaced, Table};
-use cases::memory::one_nan;
+use cases::memory::{one_nan, one_zero};
 use cases::{floats, Rng};
 use std::sync::atomic::{AtomicBool, AtomicU64, Ordering};
 
@@ -10,20 +11,27 @@ fn f(bits: u32) -> f32 {
     f32::from_bits(bits)
 }
 
-/// A helper: its number in the list of floats, its name, whether it gives a float, what Rust's std answers over bits.
+/// A helper: its number in the list of floats, its name, whether it gives a float, what Rust's std answers over bits,
+/// and what the rules do, where std leaves the sign of a zero open.
 pub struct Helper {
     number: u32,
     name: &'static str,
     float: bool,
     std: fn(u32, u32, u32) -> u32,
+    rule: Option<fn(f32, f32) -> f32>,
 }
 
 const fn helper(number: u32, name: &'static str, float: bool, std: fn(u32, u32, u32) -> u32) -> Helper {
-    Helper { number, name, float, std }
+    Helper { number, name, float, std, rule: None }
 }
 
-/// How many of the helpers take one argument; they stand first.
+const fn chosen(number: u32, name: &'static str, std: fn(u32, u32, u32) -> u32, rule: fn(f32, f32) -> f32) -> Helper {
+    Helper { number, name, float: true, std, rule: Some(rule) }
+}
+
+/// How many of the helpers take one argument, and how many two; they stand in this order.
 const ONE: usize = 11;
+const TWO: usize = 3;
 
 /// A NaN made quiet. On Arm, std's min and max give NaN where one operand is a signalling NaN, against their own
 /// document ("handles all NaNs the same way"); ours is held to the document.
@@ -31,7 +39,7 @@ fn quiet(bits: u32) -> f32 {
     f(if f(bits).is_nan() { bits | 0x0040_0000 } else { bits })
 }
 
-/// min and max give the first of two zeros, and clamp with bad ends the value, by our rules.
+/// Clamp with bad ends gives the value, by our rules.
 pub const HELPERS: [Helper; 15] = [
     helper(0x01, "floor", true, |x, _, _| f(x).floor().to_bits()),
     helper(0x02, "ceil", true, |x, _, _| f(x).ceil().to_bits()),
@@ -44,17 +52,13 @@ pub const HELPERS: [Helper; 15] = [
     helper(0x09, "of_u32", true, |x, _, _| (x as f32).to_bits()),
     helper(0x0a, "of_i32", true, |x, _, _| (x as i32 as f32).to_bits()),
     helper(0x0b, "is_finite", false, |x, _, _| f(x).is_finite() as u32),
-    helper(0x10, "min", true, |x, y, _| if zeros(x, y) { x } else { quiet(x).min(quiet(y)).to_bits() }),
-    helper(0x11, "max", true, |x, y, _| if zeros(x, y) { x } else { quiet(x).max(quiet(y)).to_bits() }),
+    chosen(0x10, "min", |x, y, _| quiet(x).min(quiet(y)).to_bits(), rules::floats::min),
+    chosen(0x11, "max", |x, y, _| quiet(x).max(quiet(y)).to_bits(), rules::floats::max),
     helper(0x12, "copysign", true, |x, y, _| f(x).copysign(f(y)).to_bits()),
     helper(0x20, "clamp", true, |x, y, z| if f(y) <= f(z) { f(x).clamp(f(y), f(z)).to_bits() } else { x }),
 ];
 
-fn zeros(x: u32, y: u32) -> bool {
-    f(x) == 0.0 && f(y) == 0.0
-}
-
-/// Our answers over many operands held against std's.
+/// Our answers over many operands held against std's, and against the rules'.
 fn check(h: &Helper, xs: [&[u32]; 3], out: &mut [u32]) -> Result<(), String> {
     ours::many(h.number, xs, out);
     for (k, &got) in out.iter().enumerate() {
@@ -62,10 +66,15 @@ fn check(h: &Helper, xs: [&[u32]; 3], out: &mut [u32]) -> Result<(), String> {
         if h.number == 0x12 && f(y).is_nan() {
             continue; // copysign's sign taken from a NaN is left open
         }
+        let zero = |bits| if h.rule.is_some() { one_zero(bits) } else { bits };
         let wanted = (h.std)(x, y, z);
-        let equal = got == wanted || (h.float && one_nan(got) == one_nan(wanted));
+        let equal = zero(got) == zero(wanted) || (h.float && one_nan(got) == one_nan(wanted));
         if !equal {
             return Err(format!("{}({x:08x}, {y:08x}, {z:08x}) is {got:08x}, not {wanted:08x}", h.name));
+        }
+        let ruled = h.rule.map_or(got, |rule| rule(f(x), f(y)).to_bits());
+        if one_nan(got) != one_nan(ruled) {
+            return Err(format!("{}({x:08x}, {y:08x}) is {got:08x}, and by the rules {ruled:08x}", h.name));
         }
     }
     Ok(())
@@ -127,6 +136,22 @@ impl Stage for Floats {
     fn show(&self, case: &Self::Case) -> String {
         case.iter().map(|c| format!("  {}", hex(c))).collect::<Vec<_>>().join("\n")
     }
+}
+
+/// Every pair of corners through the two-argument helpers.
+pub fn pairs() -> bool {
+    let corners = floats::corners();
+    let xs: Vec<u32> = corners.iter().flat_map(|&x| corners.iter().map(move |_| x)).collect();
+    let ys: Vec<u32> = corners.iter().flat_map(|_| corners.iter().copied()).collect();
+    let (zs, mut out) = (vec![0; xs.len()], vec![0; xs.len()]);
+    for h in &HELPERS[ONE..ONE + TWO] {
+        if let Err(said) = check(h, [&xs, &ys, &zs], &mut out) {
+            println!("DIFFERENT: {said}");
+            return false;
+        }
+    }
+    println!("floats: {} pairs of corners through {TWO} helpers equal", spaced(xs.len() as u64));
+    true
 }
 
 /// Every bit pattern of the one-argument helpers.

@@ -108,6 +108,9 @@ fn stages(args: &Args) -> bool {
         fail(&format!("no stage is named {only}: {}", STAGES.join(", ")));
     }
     let mut well = args.mode == "rules-vs-oracle" || run(&floats::Floats, args, ours::has::FLOATS, 5.0);
+    if ours::has::FLOATS && args.mode != "rules-vs-oracle" && args.only.as_deref().is_none_or(|o| o == "floats") {
+        well &= floats::pairs();
+    }
     well &= run(&backdrop::Backdrop, args, ours::has::BACKDROP, 3.0);
     well &= run(&hand_out::HandOut, args, ours::has::HAND_OUT, 2.0);
     well &= run(&count::Count, args, ours::has::COUNT, 24.0);

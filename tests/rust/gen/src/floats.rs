@@ -4,7 +4,7 @@
 //! single spaces. Lines that begin with `#` are comments. A NaN is written 7fc00000.
 
 use crate::SEED;
-use cases::floats::{any_bits, ulps};
+use cases::floats::{any_bits, corners, ulps};
 use cases::Rng;
 use rules::limits::{COORD_MOST, EDGE_MOST};
 use std::fmt::Write;
@@ -14,8 +14,8 @@ const HEAD: &str = "\
 # A line: helper, operands, answer. 01 floor, 02 ceil, 03 round, 04 trunc, 05 abs, 06 signum, 07 to_u32,
 # 08 to_i32, 09 of_u32, 0a of_i32, 0b is_finite (0 or 1), 10 min, 11 max, 12 copysign, 20 clamp (value, low, high).
 # Every NaN is written 7fc00000. Left out: copysign's sign taken from a NaN.
-# By our own rule, not Rust's: min and max of two zeros of different sign give the first operand (Rust leaves the
-# sign open), and clamp with bad ends (a NaN, or low over high) gives the value (Rust panics).
+# By our own rule, not Rust's: of two zeros of different sign min gives -0 and max +0 (Rust leaves the sign open), and
+# clamp with bad ends (a NaN, or low over high) gives the value (Rust panics).
 ";
 
 type One = (u32, fn(u32) -> u32);
@@ -46,24 +46,18 @@ const ONE: [One; 9] = [
 
 const OF: [One; 2] = [(0x09, |n| b(n as f32)), (0x0a, |n| b(n as i32 as f32))];
 
-fn zeros(x: f32, y: f32) -> bool {
-    x == 0.0 && y == 0.0
+/// Std's answer, and the rules' where that is a zero; the two are one number.
+fn chosen(by_std: f32, by_rules: f32) -> u32 {
+    assert!(by_std == by_rules || (by_std.is_nan() && by_rules.is_nan()));
+    b(if by_std == 0.0 { by_rules } else { by_std })
 }
 
 fn min(x: u32, y: u32) -> u32 {
-    if zeros(f(x), f(y)) {
-        x
-    } else {
-        b(f(x).min(f(y)))
-    }
+    chosen(f(x).min(f(y)), rules::floats::min(f(x), f(y)))
 }
 
 fn max(x: u32, y: u32) -> u32 {
-    if zeros(f(x), f(y)) {
-        x
-    } else {
-        b(f(x).max(f(y)))
-    }
+    chosen(f(x).max(f(y)), rules::floats::max(f(x), f(y)))
 }
 
 fn clamp(x: u32, low: u32, high: u32) -> u32 {
@@ -148,6 +142,14 @@ pub fn list() -> String {
         lines.push(format!("11 {x:08x} {y:08x} {:08x}", max(x, y)));
         if !f(y).is_nan() {
             lines.push(format!("12 {x:08x} {y:08x} {:08x}", b(f(x).copysign(f(y)))));
+        }
+    }
+    let mut all: Vec<u32> = corners().into_iter().map(|x| b(f(x))).collect();
+    all.dedup();
+    for &x in &all {
+        for &y in &all {
+            lines.push(format!("10 {x:08x} {y:08x} {:08x}", min(x, y)));
+            lines.push(format!("11 {x:08x} {y:08x} {:08x}", max(x, y)));
         }
     }
     let ends = [0.0f32, -0.0, 1.0, -1.0, 16.0, f32::INFINITY, f32::NEG_INFINITY, f32::NAN].map(b);

@@ -1,5 +1,6 @@
 //! Coverage: what one pixel's area is, a sum over the segments in order, and a tile of 256.
 
+use crate::floats::{max, min};
 use crate::limits::*;
 
 fn unit(v: f32) -> f32 {
@@ -19,11 +20,11 @@ fn added(s: &[f32], i: usize, j: usize, x_tile: f32, y_tile: f32) -> Option<f32>
         let start = s[0] - x_tile;
         let x0 = start + (y0 - y) * reciprocal * dx;
         let x1 = start + (y1 - y) * reciprocal * dx;
-        let left = (x0.min(x1) - i as f32).min(1.0) - 1.0e-6;
-        let right = x0.max(x1) - i as f32;
-        let b = right.min(1.0);
-        let c = b.max(0.0);
-        let d = left.max(0.0);
+        let left = min(min(x0, x1) - i as f32, 1.0) - 1.0e-6;
+        let right = max(x0, x1) - i as f32;
+        let b = min(right, 1.0);
+        let c = max(b, 0.0);
+        let d = max(left, 0.0);
         let a = (b + 0.5 * (d * d - c * c) - left) / (right - left);
         Some(edge + a * height)
     } else if edge != 0.0 {
@@ -44,7 +45,7 @@ pub fn pixel(segments: &[f32], even_odd: bool, backdrop: i32, i: usize, j: usize
     if even_odd {
         (area - 2.0 * (0.5 * area).round()).abs()
     } else {
-        area.abs().min(1.0)
+        min(area.abs(), 1.0)
     }
 }
 

@@ -1,7 +1,8 @@
 //! The rules of docs/RULES.md once more, in plain Rust, written from the documents and not from our code.
 //!
 //! What a run holds every refusal, and every lent word, against; where the rules accept, the unchanged Rust
-//! is held against too. Made to be read: sums in i64 or i128, one check after another, float methods of std.
+//! is held against too. Made to be read: sums in i64 or i128, one check after another, float methods of std but for min
+//! and max.
 //! Every call has the exported call's parameters, and gives the refusal number.
 
 pub mod backdrop;
@@ -9,6 +10,7 @@ pub mod checks;
 pub mod count;
 pub mod fill;
 pub mod fine;
+pub mod floats;
 pub mod frame;
 pub mod hand_out;
 pub mod limits;

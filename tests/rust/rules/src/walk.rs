@@ -1,6 +1,7 @@
 //! The walk of a line: its numbers, the skip rules, the clip to the box, a step's tile.
 //! "Clipping follows the file line by line", so this stands beside path_count.rs.
 
+use crate::floats::{max, min};
 use crate::limits::*;
 
 pub const TILE_SCALE: f32 = 1.0 / 16.0;
@@ -55,7 +56,7 @@ pub struct Walk {
 
 /// Ceil of the larger less floor of the smaller, at least 1.
 fn span(a: f32, b: f32) -> i64 {
-    (a.max(b).ceil() - a.min(b).floor()).max(1.0) as u32 as i64
+    max(max(a, b).ceil() - min(a, b).floor(), 1.0) as u32 as i64
 }
 
 impl Walk {
@@ -76,7 +77,7 @@ impl Walk {
         let c = s0[0] * sign - xt0;
         let y0 = s0[1].floor();
         let ytop = if s0[1] == s1[1] { s0[1].ceil() } else { y0 + 1.0 };
-        let b = ((dy * c + dx * (ytop - s0[1])) * reciprocal).min(ONE_MINUS_ULP);
+        let b = min((dy * c + dx * (ytop - s0[1])) * reciprocal, ONE_MINUS_ULP);
         let mut a = dx * reciprocal;
         let error = (a * (count as f32 - 1.0) + b).floor() - count_x as f32;
         if error != 0.0 {
@@ -92,7 +93,7 @@ impl Walk {
         let on_a_row = self.dy == 0.0 && self.s0[1].floor() == self.s0[1];
         let below = self.s0[1] >= at.y1 as f32;
         let above = self.s1[1] < at.y0 as f32;
-        let right = self.s0[0].min(self.s1[0]) >= at.x1 as f32;
+        let right = min(self.s0[0], self.s1[0]) >= at.x1 as f32;
         let no_width = at.x1 == at.x0;
         no_length || on_a_row || below || above || right || no_width
     }
@@ -167,8 +168,8 @@ impl Walk {
         let (left, top, right, bottom) = (at.x0 as f32, at.y0 as f32, at.x1 as f32, at.y1 as f32);
         let mut from = if self.s0[1] < top { self.row_step(top) } else { 0 };
         let mut to = if self.s1[1] > bottom { self.row_step(bottom) } else { self.count };
-        let xmin = self.s0[0].min(self.s1[0]);
-        let xmax = self.s0[0].max(self.s1[0]);
+        let xmin = min(self.s0[0], self.s1[0]);
+        let xmax = max(self.s0[0], self.s1[0]);
         let mut rows = (0, 0);
         if xmax < left {
             rows = (row_no(self.s0[1].ceil()), row_no(self.s1[1].ceil()));

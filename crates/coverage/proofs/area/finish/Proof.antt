@@ -13,8 +13,8 @@ abs-requires c κs = search needs
 abs-requires-2 : tie.Need-abs-requires-2
 abs-requires-2 c κs = search needs
 
-min-requires : tie.Need-min-requires
-min-requires c κs = search needs
+up-to-one-requires : tie.Need-up-to-one-requires
+up-to-one-requires c κs = search needs
 
 returns : tie.Need-returns
 unfolding finishOf
@@ -22,8 +22,8 @@ returns c = rw (c .before .before .if1 .taken, c .abs .ensures, c .before .round
 
 returns-2 : tie.Need-returns-2
 unfolding finishOf
-returns-2 c = rw (c .before .before .if1 .left, c .min .ensures, c .before .abs2 .ensures)
+returns-2 c = rw (c .before .before .if1 .left, c .up-to-one .ensures, c .before .abs2 .ensures)
 
 pub finish-spec : {M : Type 1} → statement M
 finish-spec =
-    tie.close (tie.spec round-requires abs-requires abs-requires-2 min-requires returns returns-2)
+    tie.close (tie.spec round-requires abs-requires abs-requires-2 up-to-one-requires returns returns-2)

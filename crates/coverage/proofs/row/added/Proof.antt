@@ -8,17 +8,17 @@ use Rattle.coverage.proofs.row.added.Tie as tie
 int-to-float-i-f : tie.Need-int-to-float-i-f
 int-to-float-i-f c = small _ (search needs)
 
-min-requires : tie.Need-min-requires
-min-requires c κs = search needs
+up-to-one-requires : tie.Need-up-to-one-requires
+up-to-one-requires c κs = search needs
 
-min-requires-2 : tie.Need-min-requires-2
-min-requires-2 c κs = search needs
+up-to-one-requires-2 : tie.Need-up-to-one-requires-2
+up-to-one-requires-2 c κs = search needs
 
-max-requires : tie.Need-max-requires
-max-requires c κs = search needs
+from-zero-requires : tie.Need-from-zero-requires
+from-zero-requires c κs = search needs
 
-max-requires-2 : tie.Need-max-requires-2
-max-requires-2 c κs = search needs
+from-zero-requires-2 : tie.Need-from-zero-requires-2
+from-zero-requires-2 c κs = search needs
 
 returns : tie.Need-returns
 unfolding addedOf
@@ -27,4 +27,10 @@ returns c = cc
 pub added-spec : {M : Type 1} → statement M
 added-spec =
     tie.close
-    (tie.spec int-to-float-i-f min-requires min-requires-2 max-requires max-requires-2 returns)
+    (tie.spec
+    int-to-float-i-f
+    up-to-one-requires
+    up-to-one-requires-2
+    from-zero-requires
+    from-zero-requires-2
+    returns)
