@@ -8,7 +8,7 @@ use Rattle.float32.specs.Meaning.{minOf, absOf, roundOf}
 use Rattle.util.specs.Constants.{half, one, two}
 use Rattle.lists.specs.Grid.{tabulate}
 use Rattle.coverage.specs.Tile.{tileSize}
-use Rattle.coverage.specs.Segment.{segmentAt}
+use Rattle.panel.specs.Segments.{segmentAt}
 use Rattle.coverage.specs.Row.{stepSegment}
 
 -- the area of pixel k after the n segments from the first on, in order, from the area a

@@ -1,6 +1,5 @@
 -- Coverage, a pixel at a time. Definitions only.
 pub mod Tile
-pub mod Segment
 pub mod Row
 pub mod Coverage
 pub mod Fill

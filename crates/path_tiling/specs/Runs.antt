@@ -8,7 +8,7 @@ use Rattle.panel.specs.declared.kinds.Answer.{Answer}
 use Rattle.panel.specs.declared.kinds.Answer.the-variants.{Done, Refused}
 use Rattle.walk.specs.declared.lent.Walked.{Walked}
 use Rattle.path_tiling.specs.Look.{lineAt, packedAt, foundTo}
-use Rattle.path_tiling.specs.Tiling.{putOf}
+use Rattle.panel.specs.Segments.{putOf}
 use Rattle.path_tiling.specs.declared.Ran.{Ran}
 use Rattle.path_tiling.specs.declared.look.Look.{Look}
 use Rattle.path_tiling.specs.declared.look.Look.the-variants.{Put, Empty, Against}

@@ -9,34 +9,20 @@ ghost use Rattle.panel.specs.Widths.{refWords, segmentFloats};
 ghost use Rattle.panel.specs.Paths.{pathsAnswer};
 ghost use Rattle.panel.specs.declared.kinds.Answer.the-variants.{Done};
 ghost use Rattle.path_tiling.specs.Look.{lent, FoundFits, foundTo};
-ghost use Rattle.path_tiling.specs.Tiling.{putOf, one, oneOf, slotsOf, wholeOf, Ready, rangeOf, tiled, rangeTiled, tiledOf};
+ghost use Rattle.path_tiling.specs.Tiling.{one, oneOf, slotsOf, wholeOf, Ready, rangeOf, tiled, rangeTiled, tiledOf};
 ghost use Rattle.path_tiling.specs.Runs.{ranOf, runOf};
 use look::Look;
 use panel::kinds::Answer;
 use panel::kinds::LineNo;
-use panel::kinds::SlotNo;
 use panel::kinds::Verdict;
 use panel::limits::MOST_SLOTS;
 use panel::refusals::NOT_WHOLE;
+use panel::segments::put;
 use panel::widths::LINE_FLOATS;
 use panel::widths::PATH_WORDS;
 use panel::widths::REF_WORDS;
 use panel::widths::SEGMENT_FLOATS;
-use segment::Segment;
 use walk::lent::Walked;
-
-// A segment into its slot.
-fn put(segments: &mut [f32], slot: SlotNo, s: Segment)
-    requires { ⌜ slot .0 * segmentFloats + segmentFloats ≤ length (now segments) ⌝ }
-    ensures { λ r. ⌜ now (segments .exit) ≡ putOf (slot .0) s (now (segments .entry)) ⌝ }
-{
-    let at = (slot.0 as usize) * SEGMENT_FLOATS;
-    segments[at] = s.p0.x;
-    segments[at + 1] = s.p0.y;
-    segments[at + 2] = s.p1.x;
-    segments[at + 3] = s.p1.y;
-    segments[at + 4] = s.y_edge;
-}
 
 // One reference, whose line is as the walk found it.
 fn tile_one(
