@@ -1,4 +1,5 @@
--- A pixel's coverage, as a fold over the segments: fine.rs, lines 51 to 109. Definitions only.
+-- A pixel's coverage, as a fold over the segments: fine.rs, lines 51 to 109. specs/Page.antt has it on one page, in the file's order. Definitions
+-- only.
 use mathlib.Core.Bool.{Bool, true, false}
 use mathlib.Core.List.{List}
 use Prim.Native.Nat.{ℕ, suc, zero, _+_}
