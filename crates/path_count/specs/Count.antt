@@ -139,7 +139,7 @@ counted r b nos coords paths backs counts refs =
     let s = stOf backs counts refs (r .refs) in
     callTold (callAnswer nos coords paths (r .lines) b s) r s (batchTold b (batch nos coords paths (length refs / refWords) (r .lines) b s))
 
--- ---- what the checks of a call leave to lean on
+-- ---- what the checks of a call leave. Only proofs lean on it: no promise of a public call does
 
 -- so many backdrops and tiles are lent, and each path that is there lies among them
 pub record Lent (paths : List ℕ) (backs counts : ℕ) : Type 0 where

@@ -1,4 +1,5 @@
--- A run of references, tiled as long as they name one line, which was found once. Definitions only.
+-- A run of references, tiled as long as they name one line, which was found once: how the code goes over a range. Only proofs lean on this: no
+-- promise of a public call does. Definitions only.
 use Prim.Native.Nat.{ℕ, zero, suc}
 use mathlib.Core.Bool.{cond}
 use mathlib.Core.List.{List}
