@@ -1,4 +1,5 @@
--- A quick test that the code makes before it looks at running sums one by one. No promise of a public call rests on it. Definitions only.
+-- A quick test that the code makes before it looks at running sums one by one. Only proofs lean on this: no promise of a public call does.
+-- Definitions only.
 use mathlib.Core.Bool.{Bool, true, _&&_}
 use mathlib.Core.List.{List}
 use Prim.Native.Nat.{ℕ, zero, suc}

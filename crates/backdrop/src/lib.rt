@@ -30,6 +30,14 @@ fn sum_paths(paths: &[u32], n: u32, backdrops: &mut [i32]) -> Answer
     Answer::Done
 }
 
+// What `backdrop` does once its checks have passed.
+pub fn backdrop_checked(paths: &[u32], backdrops: &mut [i32]) -> Answer
+    requires { ⌜ pathsAnswer (now paths) (length (now backdrops)) ≡ Done ⌝ }
+    ensures { λ r. ⌜ BackdropMet (now (paths .entry)) (now (backdrops .entry)) r (now (backdrops .exit)) ⌝ }
+{
+    sum_paths(paths, (paths.len() / PATH_WORDS) as u32, backdrops)
+}
+
 pub fn backdrop(paths: &[u32], backdrops: &mut [i32]) -> Answer
     ensures { λ r. ⌜ BackdropMet (now (paths .entry)) (now (backdrops .entry)) r (now (backdrops .exit)) ⌝ }
 {
@@ -37,5 +45,5 @@ pub fn backdrop(paths: &[u32], backdrops: &mut [i32]) -> Answer
     let Answer::Done = a else {
         return a;
     };
-    sum_paths(paths, (paths.len() / PATH_WORDS) as u32, backdrops)
+    backdrop_checked(paths, backdrops)
 }

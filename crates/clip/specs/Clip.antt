@@ -1,4 +1,5 @@
--- The clipping of the walk to a box in step numbers, a stage each: what `Page.antt` has in one piece. Definitions only.
+-- The clipping of the walk to a box in step numbers, a stage each, for the functions' own contracts. Only proofs lean on this: what is promised
+-- is `Page.antt`, in one piece and beside the Rust, and `by-parts` there says that the stages make the same. Definitions only.
 use Prim.Native.Nat.{ℕ, min, max}
 use mathlib.Core.Bool.{Bool, cond, Bool·beq}
 use lib.Dec.{ltb}

@@ -1,5 +1,5 @@
 -- The walk clipped to a box. Definitions only.
---     Clip   by stages
---     Page   the same on one page, beside path_count.rs
+--     Page   on one page, beside path_count.rs: this is promised
+--     Clip   the same by stages, for proofs
 pub mod Clip
 pub mod Page

@@ -1,6 +1,6 @@
 -- Lists changed by a command, and what a command that goes on has been checked for. Assumes nothing.
 use mathlib.Core.Path.{_≡_, refl, sym, ap, subst, _∙_}
-use mathlib.Core.Bool.{Bool, true, false}
+use mathlib.Core.Bool.{Bool, true, false, cond}
 use mathlib.Core.List.{List, []}
 use Prim.Native.Nat.{ℕ, _+_, _-_, _/_, _<_, _≤_}
 use native.Mathlib.Omega.{arith}
@@ -17,7 +17,7 @@ use Rattle.panel.specs.Widths.{segmentFloats}
 use Rattle.coverage.specs.Tile.{tileSize}
 use Rattle.coverage.specs.Coverage.{pixelOf, coverageOf}
 use Rattle.coverage.proofs.Laws.{mapi-over}
-use Rattle.commands.specs.Steps.{countOf, pickMove, fillMove, wholeMove, moveOf}
+use Rattle.commands.specs.Steps.{countOf, fillMove, wholeMove, moveOf}
 use Rattle.commands.specs.Numbers.{wordsOf}
 use Rattle.commands.specs.Pixel.{evenOddOf, signedOf, cover, paint, coverAll, paintAll, Within}
 use Rattle.commands.specs.declared.steps.Op.{Op}
@@ -72,7 +72,7 @@ module _ (segs area : List Float) (rgba : List (List Float)) where
   jump-paints = unchanged [] rgba
 
 -- ---- a command that goes on has its segments among those lent
-pick-goes : (b : Bool) (m : Move) (k : ℕ) (a : Act) (n : ℕ) → pickMove b m (Refused k) ≡ Goes a n → (b ≡ true) × (m ≡ Goes a n)
+pick-goes : (b : Bool) (m : Move) (k : ℕ) (a : Act) (n : ℕ) → cond b m (Refused k) ≡ Goes a n → (b ≡ true) × (m ≡ Goes a n)
 pick-goes true m k a n e = (refl, e)
 pick-goes false m k a n e = let z : _≡_ {A = ℕ} 0 1 = cc in absurd (omega arith)
 

@@ -1,5 +1,5 @@
 -- How a tile's commands run: which is where, what each is, where the next one stands, and how they end. No pixels here. Definitions only.
-use mathlib.Core.Bool.{Bool, true, false}
+use mathlib.Core.Bool.{cond}
 use mathlib.Core.List.{List}
 use Prim.Native.Nat.{ℕ, zero, suc, _+_, _-_, _/_}
 use lib.Dec.{leb, eqb}
@@ -18,17 +18,9 @@ use Rattle.commands.specs.declared.steps.Act.the-variants as Does
 use Rattle.commands.specs.declared.steps.Move.{Move}
 use Rattle.commands.specs.declared.steps.Move.the-variants.{Refused, Goes}
 
-abbrev pub pickOp : Bool → Op → Op → Op
-pickOp true a b = a
-pickOp false a b = b
-
-abbrev pub pickMove : Bool → Move → Move → Move
-pickMove true a b = a
-pickMove false a b = b
-
 -- what a command's first word asks for
 unfoldable pub opOf : ℕ → Op
-opOf tag = pickOp (eqb tag fillNo) Fill (pickOp (eqb tag solidNo) Solid (pickOp (eqb tag colorNo) Color (pickOp (eqb tag jumpNo) Jump Unknown)))
+opOf tag = cond (eqb tag fillNo) Fill (cond (eqb tag solidNo) Solid (cond (eqb tag colorNo) Color (cond (eqb tag jumpNo) Jump Unknown)))
 
 -- a fill's number of segments
 abbrev pub countOf : ℕ → ℕ
@@ -39,7 +31,7 @@ unfoldable pub fillMove : List ℕ → ℕ → ℕ → Move
 fillMove ws room at =
     let rule = getD ws (at + 1) 0 in
     let first = getD ws (at + 2) 0 in
-    pickMove (leb (first + countOf rule) room) (Goes (Does.Fill rule first (getD ws (at + 3) 0)) (at + fillWords)) (Refused pastEnd)
+    cond (leb (first + countOf rule) room) (Goes (Does.Fill rule first (getD ws (at + 3) 0)) (at + fillWords)) (Refused pastEnd)
 
 -- a command whose words are all there
 unfoldable pub wholeMove : Op → List ℕ → ℕ → ℕ → Move
@@ -51,7 +43,7 @@ wholeMove Unknown ws room at = Refused unknown
 
 -- the command at `at`, where a word stands: 14, then 13 for its other words, then 13 for its segments. An unknown one has no other words
 unfoldable pub moveOf : Op → List ℕ → ℕ → ℕ → Move
-moveOf o ws room at = pickMove (leb (wordsOf o) (length ws - at)) (wholeMove o ws room at) (Refused pastEnd)
+moveOf o ws room at = cond (leb (wordsOf o) (length ws - at)) (wholeMove o ws room at) (Refused pastEnd)
 
 -- a tile's commands, in order: what each does, and how they end
 pub data Trace : Type 0 where
@@ -62,14 +54,10 @@ abbrev pub onMove : Move → (Act → ℕ → Trace) → Trace
 onMove (Refused n) f = ends (Against n)
 onMove (Goes a next) f = f a next
 
-abbrev pub pickTrace : Bool → Trace → Trace → Trace
-pickTrace true a b = a
-pickTrace false a b = b
-
 -- 13 where no word stands, END, or else a command
 abbrev pub onLook : Look → (ℕ → Trace) → Trace
 onLook Past f = ends (Against pastEnd)
-onLook (Word w) f = pickTrace (eqb w endNo) (ends Fine) (f w)
+onLook (Word w) f = cond (eqb w endNo) (ends Fine) (f w)
 
 -- the commands from `at` on, at most n before END, with so many segments lent
 unfoldable pub traceOf : ℕ → List ℕ → ℕ → ℕ → Trace

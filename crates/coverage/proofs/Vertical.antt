@@ -13,7 +13,7 @@ use borrow.Author.Tests.{le-ltb}
 use Rattle.float32.specs.Meaning.{signumOf, clampOf}
 use Rattle.util.specs.Constants as Number
 use Rattle.coverage.specs.Row.{wayOf, rowOf}
-use Rattle.coverage.specs.declared.segment.Segment.{Segment}
+use Rattle.panel.specs.declared.segments.Segment.{Segment}
 
 none-left : (s : Bool) (a c : ℕ) → 0 < c → sum binary32 s a (not s) a c ≡ Number.zero
 unfolding sum ofBits round
@@ -37,7 +37,7 @@ vertical-sign s xt e t = ap (λ (x : Float). signumOf (sub binary32 x (s .p0 .x)
 
 -- what y_edge adds to the row yi: 1 times how much of the row lies below it
 pub vertical-edge : (s : Segment) (xt yt : Float) (yi : ℕ) → s .p1 .x ≡ s .p0 .x → T (finite (s .p0 .x))
-    → rowOf (wayOf s xt) yt yi .edge ≡ mul binary32 Number.one (clampOf (add binary32 (sub binary32 (add binary32 yt (ofInt binary32 (pos yi))) (s .edge)) Number.one) Number.zero Number.one)
+    → rowOf (wayOf s xt) yt yi .edge ≡ mul binary32 Number.one (clampOf (add binary32 (sub binary32 (add binary32 yt (ofInt binary32 (pos yi))) (s .«y_edge»)) Number.one) Number.zero Number.one)
 unfolding rowOf wayOf
 vertical-edge s xt yt yi e t =
-    ap (λ (x : Float). mul binary32 x (clampOf (add binary32 (sub binary32 (add binary32 yt (ofInt binary32 (pos yi))) (s .edge)) Number.one) Number.zero Number.one)) (vertical-sign s xt e t)
+    ap (λ (x : Float). mul binary32 x (clampOf (add binary32 (sub binary32 (add binary32 yt (ofInt binary32 (pos yi))) (s .«y_edge»)) Number.one) Number.zero Number.one)) (vertical-sign s xt e t)

@@ -1,4 +1,5 @@
--- A pixel's coverage, as a fold over the segments: fine.rs, lines 51 to 109. Definitions only.
+-- A pixel's coverage, as a fold over the segments: fine.rs, lines 51 to 109. specs/Page.antt has it on one page, in the file's order. Definitions
+-- only.
 use mathlib.Core.Bool.{Bool, true, false}
 use mathlib.Core.List.{List}
 use Prim.Native.Nat.{ℕ, suc, zero, _+_}
@@ -8,7 +9,7 @@ use Rattle.float32.specs.Meaning.{minOf, absOf, roundOf}
 use Rattle.util.specs.Constants.{half, one, two}
 use Rattle.lists.specs.Grid.{tabulate}
 use Rattle.coverage.specs.Tile.{tileSize}
-use Rattle.coverage.specs.Segment.{segmentAt}
+use Rattle.panel.specs.Segments.{segmentAt}
 use Rattle.coverage.specs.Row.{stepSegment}
 
 -- the area of pixel k after the n segments from the first on, in order, from the area a

@@ -1,6 +1,8 @@
 -- Coverage, a pixel at a time. Definitions only.
+--     Row, Coverage   by parts
+--     Page            the same on one page, beside fine.rs
 pub mod Tile
-pub mod Segment
 pub mod Row
 pub mod Coverage
+pub mod Page
 pub mod Fill

@@ -6,7 +6,7 @@ use lib.Ieee.{Float, binary32, ofInt, add, sub, mul, div, ne}
 use Rattle.float32.specs.Meaning.{minOf, maxOf, clampOf, signumOf}
 use Rattle.util.specs.Constants.{zero, half, one, epsilon}
 use Rattle.coverage.specs.Tile.{tileWidth}
-use Rattle.coverage.specs.declared.segment.Segment.{Segment}
+use Rattle.panel.specs.declared.segments.Segment.{Segment}
 use Rattle.coverage.specs.declared.row.Way.{Way}
 use Rattle.coverage.specs.declared.row.Row.{Row}
 use Rattle.coverage.specs.declared.row.Reach.{Reach}
@@ -16,7 +16,7 @@ unfoldable pub wayOf : Segment → Float → Way
 wayOf s x-tile =
     let dx = sub binary32 (s .p1 .x) (s .p0 .x) in
     let dy = sub binary32 (s .p1 .y) (s .p0 .y) in
-    record { x = sub binary32 (s .p0 .x) x-tile; y = s .p0 .y; dx = dx; dy = dy; recip = div binary32 one dy; sign = signumOf dx; edge = s .edge }
+    record { x = sub binary32 (s .p0 .x) x-tile; y = s .p0 .y; dx = dx; dy = dy; recip = div binary32 one dy; sign = signumOf dx; edge = s .«y_edge» }
 
 -- the row yi: y, y0, y1, dy and y_edge
 unfoldable pub rowOf : Way → Float → ℕ → Row

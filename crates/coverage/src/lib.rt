@@ -2,7 +2,6 @@
 // with refusals 1 and 13 before it. docs/RULES.md, "Coverage and colour".
 pub mod area;
 pub mod row;
-pub mod segment;
 pub mod tile;
 
 use area::fill_path;

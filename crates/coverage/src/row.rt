@@ -1,10 +1,10 @@
 // What a segment does to one row of pixels, and to one pixel of it: fine.rs, lines 60 to 90. The
 // divisions and signs that are the same in every row stand before the rows.
-use crate::segment::Segment;
 use float32::clamp;
 use float32::max;
 use float32::min;
 use float32::signum;
+use panel::segments::Segment;
 ghost use mathlib.Core.Path.{_≡_};
 ghost use Prim.Native.Nat.{_<_};
 ghost use Rattle.float32.specs.Meaning.{minOf, maxOf};
@@ -53,7 +53,7 @@ pub fn way_of(s: Segment, xt: f32) -> Way
         dy,
         recip: 1.0 / dy,
         sign,
-        edge: s.edge,
+        edge: s.y_edge,
     }
 }
 

@@ -164,14 +164,6 @@ pub fn is_whole(x: f32) -> bool
     }
 }
 
-// The smallest whole number that is at least x, of an x whose negative is below NEAR in size.
-pub fn ceil_near(x: f32) -> f32
-    requires { ⌜ Within (Ieee.neg x) ⌝ }
-    ensures { λ r. ⌜ r ≡ ceilOf x ⌝ }
-{
-    -floor_near(-x)
-}
-
 // The smallest whole number that is at least x.
 pub fn ceil(x: f32) -> f32
     ensures { λ r. ⌜ r ≡ ceilOf x ⌝ }

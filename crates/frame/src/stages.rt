@@ -1,8 +1,10 @@
 // The stages of a frame over what is lent, one after another.
 ghost use mathlib.Core.Path.{_≡_};
 ghost use Prim.Native.Nat.{_+_, min};
+ghost use lib.ListN.{length};
 ghost use Rattle.panel.specs.Limits.{mostLines};
-ghost use Rattle.path_tiling.specs.Tiling.{slotsOf};
+ghost use Rattle.panel.specs.Paths.{pathsAnswer};
+ghost use Rattle.panel.specs.declared.kinds.Answer.the-variants.{Done};
 ghost use Rattle.frame.specs.Frame.{outOf, placedOf, drawnOf};
 use super::clears::clear_backdrops;
 use super::clears::clear_tiles;
@@ -11,21 +13,7 @@ use super::kinds::Stage;
 use panel::kinds::Answer;
 use panel::kinds::Running;
 use panel::limits::MOST_LINES;
-use panel::limits::MOST_SLOTS;
-use panel::widths::SEGMENT_FLOATS;
 use path_count::Counted;
-
-// The slots that so many floats have room for.
-fn room_of(floats: usize) -> u32
-    ensures { λ r. ⌜ r ≡ slotsOf floats ⌝ }
-{
-    let room = floats / SEGMENT_FLOATS;
-    if room < (MOST_SLOTS as usize) {
-        room as u32
-    } else {
-        MOST_SLOTS
-    }
-}
 
 // Up to which line is counted: all of them, and no further than the first whose number is over the
 // limit, at which counting stops.
@@ -51,19 +39,29 @@ fn place(
     refs: &[u32],
     segments: &mut [f32],
 ) -> Framed
+    requires { ⌜ (pathsAnswer (now paths) (length (now tiles)) ≡ Done) × (length (now backdrops) ≡ length (now tiles)) ⌝ }
     ensures { λ r. ⌜ outOf r (now (backdrops .exit)) (now (tiles .exit)) (now (tally .exit)) (now (refs .entry)) (now (segments .exit))
         ≡ placedOf s (now («path_nos» .entry)) (now (coords .entry)) (now (paths .entry)) (now (backdrops .entry)) (now (tiles .entry)) (now (tally .entry)) (now (refs .entry)) (now (segments .entry)) ⌝ }
 {
-    let summed = backdrop::backdrop(paths, backdrops);
+    let summed = backdrop::backdrop_checked(paths, backdrops);
     if let Answer::Refused(why, item) = summed {
         return Framed::Refused(Stage::Backdrop, why, item, s);
     }
-    let room = room_of(segments.len());
+    let room = path_tiling::slots_of(segments.len());
     let handed = hand_out::hand_out(tiles, tally, room);
     if let Answer::Refused(why, item) = handed {
         return Framed::Refused(Stage::HandOut, why, item, s);
     }
-    let tiled = path_tiling::tile(0, s.refs, path_nos, coords, paths, tiles, refs, segments);
+    let tiled = path_tiling::tile_checked(
+        0,
+        s.refs,
+        path_nos,
+        coords,
+        paths,
+        tiles,
+        refs,
+        segments,
+    );
     if let Answer::Refused(why, item) = tiled {
         return Framed::Refused(Stage::Tile, why, item, s);
     }
@@ -81,6 +79,7 @@ pub(crate) fn draw(
     refs: &mut [u32],
     segments: &mut [f32],
 ) -> Framed
+    requires { ⌜ (pathsAnswer (now paths) (length (now tiles)) ≡ Done) × (length (now backdrops) ≡ length (now tiles)) ⌝ }
     ensures { λ r. ⌜ outOf r (now (backdrops .exit)) (now (tiles .exit)) (now (tally .exit)) (now (refs .exit)) (now (segments .exit))
         ≡ drawnOf (now («path_nos» .entry)) (now (coords .entry)) (now (paths .entry)) (now (backdrops .entry)) (now (tiles .entry)) (now (tally .entry)) (now (refs .entry)) (now (segments .entry)) ⌝ }
 {
@@ -88,7 +87,7 @@ pub(crate) fn draw(
     clear_tiles(tiles);
     let none = Running { lines: 0, refs: 0 };
     let end = end_of(path_nos.len());
-    match path_count::count(none, end, path_nos, coords, paths, backdrops, tiles, refs) {
+    match path_count::count_checked(none, end, path_nos, coords, paths, backdrops, tiles, refs) {
         Counted::Done(s) => {
             place(
                 s,

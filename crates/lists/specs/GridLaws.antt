@@ -150,19 +150,11 @@ mapFrom-replicate j (suc n) f b = ap (_∷_ (f j b)) (mapFrom-replicate (suc j) 
 pub mapi-replicate : {A B : Type 0} (n : ℕ) (f : ℕ → A → B) (b : A) → mapi f (replicate n b) ≡ tabulate n (λ k. f k b)
 mapi-replicate n f b = mapFrom-replicate 0 n f b
 
-length-tabFrom : {A : Type 0} (j n : ℕ) (f : ℕ → A) → length (tabFrom j n f) ≡ n
-unfolding tabFrom
-length-tabFrom j zero f = refl
-length-tabFrom j (suc n) f = ap suc (length-tabFrom (suc j) n f)
-
 getD-tabFrom : {A : Type 0} (j n : ℕ) (f : ℕ → A) (k : ℕ) (d : A) → k < n → getD (tabFrom j n f) k d ≡ f (j + k)
 unfolding tabFrom
 getD-tabFrom j zero f k d h = absurd (not-suc-le-zero h)
 getD-tabFrom j (suc n) f zero d h = ap f (sym (add-zero j))
 getD-tabFrom j (suc n) f (suc k) d h = getD-tabFrom (suc j) n f k d (le-of-suc-le-suc h) ∙ ap f (suc-add j k ∙ sym (add-suc j k))
-
-pub length-tabulate : {A : Type 0} (n : ℕ) (f : ℕ → A) → length (tabulate n f) ≡ n
-length-tabulate n f = length-tabFrom 0 n f
 
 pub getD-tabulate : {A : Type 0} (n : ℕ) (f : ℕ → A) (k : ℕ) (d : A) → k < n → getD (tabulate n f) k d ≡ f k
 getD-tabulate n f k d h = getD-tabFrom 0 n f k d h ∙ ap f (zero-add k)

@@ -1,14 +1,14 @@
 -- How often a number stands in a list, over the native numbers (mathlib's `count` counts in its own). Assumes nothing.
-use mathlib.Core.Path.{_≡_, refl, sym, ap, _∙_, subst}
+use mathlib.Core.Path.{_≡_, refl}
 use mathlib.Core.Logic.{_≢_}
 use mathlib.Core.Bool.{Bool, true, false}
-use mathlib.Core.List.{List, [], _∷_, _++_}
-use Prim.Native.Nat.{ℕ, zero, suc, _+_, _-_, _≤_, _<_}
+use mathlib.Core.List.{List, [], _∷_}
+use Prim.Native.Nat.{ℕ, zero, suc, _+_, _-_, _<_}
 use native.Mathlib.Nat.{not-suc-le-zero, le-of-suc-le-suc}
-use native.Mathlib.Decide.{ℕ-discrete, decLt}
+use native.Mathlib.Decide.{ℕ-discrete}
 use native.Mathlib.Omega.{arith}
 use lib.Dec.{eqb, eqb→eq, eqb-refl, T}
-use lib.ListN.{length, getD, set, take, drop}
+use lib.ListN.{length, getD, take}
 use Rattle.lists.specs.Run.{All}
 
 abbrev pub bit : Bool → ℕ
@@ -42,20 +42,10 @@ abbrev pub occ : ℕ → List ℕ → ℕ
 occ t [] = 0
 occ t (x ∷ xs) = is x t + occ t xs
 
-pub occ-append : (t : ℕ) (l r : List ℕ) → occ t (l ++ r) ≡ occ t l + occ t r
-occ-append t [] r = omega arith
-occ-append t (x ∷ l) r = omega (arith, occ-append t l r)
-
 -- t is none of them
 pub occ-none : (t : ℕ) (l : List ℕ) → All (λ x. x ≢ t) l → occ t l ≡ 0
 occ-none t [] h = refl
 occ-none t (x ∷ l) h = omega (arith, is-other x t (h .0), occ-none t l (h .1))
-
--- at a place where t stands, the count of those before goes up by one; elsewhere it stays
-pub occ-take-suc : (t : ℕ) (l : List ℕ) (i : ℕ) → i < length l → occ t (take (suc i) l) ≡ occ t (take i l) + is (getD l i 0) t
-occ-take-suc t [] i h = absurd (not-suc-le-zero h)
-occ-take-suc t (x ∷ l) zero h = omega arith
-occ-take-suc t (x ∷ l) (suc i) h = omega (arith, occ-take-suc t l i (le-of-suc-le-suc h))
 
 -- of two places where t stands, the later has more before it
 pub occ-take-lt : (t : ℕ) (l : List ℕ) (i j : ℕ) → i < j → i < length l → getD l i 0 ≡ t → occ t (take i l) < occ t (take j l)

@@ -1,15 +1,14 @@
 -- The order of the lines does not matter to the counts, nor to the backdrops: what each line adds, it adds by sums at places, and such sums
 -- can be made in any order. Assumes nothing.
 use mathlib.Core.Path.{_≡_, refl, sym, ap, _∙_}
-use mathlib.Core.Logic.{∥∥₁-elim, _≢_}
-use mathlib.Core.List.{List, [], _∷_, _++_, Perm, List·Permᴰ, List·Permᴰ·nil, List·Permᴰ·cons, List·Permᴰ·swap, List·Permᴰ·trans, List·isSet}
+use mathlib.Core.Logic.{∥∥₁-elim}
+use mathlib.Core.List.{List, [], _∷_, Perm, List·Permᴰ, List·Permᴰ·nil, List·Permᴰ·cons, List·Permᴰ·swap, List·Permᴰ·trans, List·isSet}
 use Prim.Native.Nat.{ℕ, zero, suc, _+_}
 use native.Mathlib.Nat.{ℕ-set}
 use native.Mathlib.Omega.{arith}
-use lib.ListN.{length, getD, set}
-use lib.Seq.{getD-set-other}
-use lib.IntN.{ℤ, pos, negsuc, _+ℤ_, +ℤ-assoc, +ℤ-comm, ℤ-set}
-use Rattle.lists.specs.Run.{Step, taken, Ran, done, run, actAll, run-view, All}
+use lib.ListN.{getD, set}
+use lib.IntN.{ℤ, pos, _+ℤ_, +ℤ-assoc, +ℤ-comm, ℤ-set}
+use Rattle.lists.specs.Run.{actAll}
 use Rattle.lists.specs.Tally.{bump, tally}
 
 -- ---- actions that commute
@@ -46,12 +45,6 @@ module _ {B : Type 0} (z : B) (_⊕_ : B → B → B) where
 
   abbrev pub addAll : List (ℕ × B) → List B → List B
   addAll ms l = actAll addAt ms l
-
-  -- a place that no mark names is as it was
-  pub addAll-outside : (ms : List (ℕ × B)) (t : ℕ) (l : List B) → All (λ m. t ≢ m .0) ms → getD (addAll ms l) t z ≡ getD l t z
-  addAll-outside [] t l h = refl
-  addAll-outside (m ∷ ms) t l h =
-      addAll-outside ms t (addAt m l) (h .1) ∙ getD-set-other l (m .0) t (_⊕_ (getD l (m .0) z) (m .1)) z (h .0)
 
   module _ (swap : (a v w : B) → _⊕_ (_⊕_ a v) w ≡ _⊕_ (_⊕_ a w) v) where
     place-comm : (l : List B) (i j : ℕ) (v w : B) → addAt (i, v) (addAt (j, w) l) ≡ addAt (j, w) (addAt (i, v) l)
@@ -101,12 +94,3 @@ counts-any-order tilesOf p l =
 pub backs-any-order : {A : Type 0} (marksOf : A → List (ℕ × ℤ)) {xs ys : List A} → Perm xs ys → (l : List ℤ)
     → actAll (λ x. mark (marksOf x)) xs l ≡ actAll (λ x. mark (marksOf x)) ys l
 backs-any-order marksOf p l = sums-any-order (pos 0) _+ℤ_ ℤ-swap marksOf ℤ-set p l
-
--- T5. A walk over lines that can refuse, in two orders of which neither is refused: a part of the state that moves by actions which commute
--- is the same.
-pub view-any-order : {A S R W : Type 0} (step : A → S → Step S R) (view : S → W) (act : A → W → W) → IsSet W
-    → ((x y : A) (w : W) → act x (act y w) ≡ act y (act x w))
-    → ((x : A) (s s′ : S) → step x s ≡ taken s′ → view s′ ≡ act x (view s))
-    → {xs ys : List A} → Perm xs ys → (s s₁ s₂ : S) → run step xs s ≡ done s₁ → run step ys s ≡ done s₂ → view s₁ ≡ view s₂
-view-any-order step view act st comm h {xs} {ys} p s s₁ s₂ e₁ e₂ =
-    run-view step view act h xs s s₁ e₁ ∙ actAll-perm act comm st p (view s) ∙ sym (run-view step view act h ys s s₂ e₂)

@@ -1,15 +1,15 @@
 -- Counting into tiles. `ts` is the tile of each reference, in order; the tiles' counts are a list, and each reference adds one to its tile's.
 -- A reference's slice number is its tile's count before. Assumes nothing.
-use mathlib.Core.Path.{_≡_, refl, sym, ap, ap₂, _∙_}
+use mathlib.Core.Path.{_≡_, refl, sym, ap, _∙_}
 use mathlib.Core.Logic.{_≢_}
-use mathlib.Core.List.{List, [], _∷_, _++_, map}
-use Prim.Native.Nat.{ℕ, zero, suc, _+_, _-_, _≤_, _<_}
+use mathlib.Core.List.{List, [], _∷_, _++_}
+use Prim.Native.Nat.{ℕ, zero, suc, _+_, _-_, _<_}
 use native.Mathlib.Nat.{not-suc-le-zero, le-of-suc-le-suc, zero-add, add-zero}
 use native.Mathlib.Numerals.{add-one}
 use native.Mathlib.Decide.{ℕ-discrete}
 use native.Mathlib.Omega.{arith}
-use lib.ListN.{length, getD, set, take, drop, replicate, length-set, length-replicate}
-use lib.Seq.{getD-set-same, getD-set-other, set-set, set-getD}
+use lib.ListN.{length, getD, set, take, replicate, length-set, length-replicate}
+use lib.Seq.{getD-set-same, getD-set-other}
 use Rattle.lists.specs.Run.{All}
 use Rattle.lists.specs.Sums.{sum, sum-set, sum-replicate-zero, from}
 use Rattle.lists.specs.Occ.{is, occ, is-same, is-other}
@@ -33,18 +33,10 @@ abbrev pub Below : ℕ → List ℕ → Type 0
 Below n [] = Unit {0}
 Below n (t ∷ ts) = (t < n) × Below n ts
 
-pub below-append : (n : ℕ) (xs ys : List ℕ) → Below n xs → Below n ys → Below n (xs ++ ys)
-below-append n [] ys b c = c
-below-append n (x ∷ xs) ys b c = (b .0, below-append n xs ys (b .1) c)
-
 pub below-at : (n : ℕ) (ts : List ℕ) (i : ℕ) → Below n ts → i < length ts → getD ts i 0 < n
 below-at n [] i b h = absurd (not-suc-le-zero h)
 below-at n (t ∷ ts) zero b h = b .0
 below-at n (t ∷ ts) (suc i) b h = below-at n ts i (b .1) (le-of-suc-le-suc h)
-
-pub below-of-at : (n : ℕ) (ts : List ℕ) → ((i : ℕ) → i < length ts → getD ts i 0 < n) → Below n ts
-below-of-at n [] f = tt
-below-of-at n (t ∷ ts) f = (f 0 (omega arith), below-of-at n ts (λ i h. f (suc i) (omega arith)))
 
 -- ---- batches
 
@@ -72,41 +64,11 @@ bump-at l x t h = go (ℕ-discrete x t)
     go (yes e) = rw (e, getD-set-same l t (getD l t 0 + 1) 0 h) (omega (arith, is-same t t refl))
     go (no e) = rw (getD-set-other l x t (getD l x 0 + 1) 0 (λ q. e (sym q)), is-other x t e) (omega arith)
 
--- ---- a line that is refused half way: its counts are taken back, last first
-
-abbrev pub unbump : List ℕ → ℕ → List ℕ
-unbump l t = set l t (getD l t 0 - 1)
-
-pub unbump-bump : (l : List ℕ) (t : ℕ) → t < length l → unbump (bump l t) t ≡ l
-unbump-bump l t h =
-    let v : getD l t 0 + 1 - 1 ≡ getD l t 0 = omega arith in
-    rw (getD-set-same l t (getD l t 0 + 1) 0 h, v, set-set) (set-getD l t 0)
-
--- ts from the last to the first
-abbrev pub untally : List ℕ → List ℕ → List ℕ
-untally l [] = l
-untally l (t ∷ ts) = unbump (untally l ts) t
-
-pub untally-tally : (l ts : List ℕ) → Below (length l) ts → untally (tally l ts) ts ≡ l
-untally-tally l [] b = refl
-untally-tally l (t ∷ ts) b =
-    ap (λ (r : List ℕ). unbump r t) (untally-tally (bump l t) ts (rw length-set (b .1))) ∙ unbump-bump l t (b .0)
-
--- ---- a line whose tiles all differ: each slice number is the count that stood there before the line
+-- ---- tiles that all differ
 
 abbrev pub Distinct : List ℕ → Type 0
 Distinct [] = Unit {0}
 Distinct (t ∷ ts) = All (λ u. u ≢ t) ts × Distinct ts
-
-after-bump : (l : List ℕ) (t : ℕ) (ts : List ℕ) → All (λ u. u ≢ t) ts → map (λ u. getD (bump l t) u 0) ts ≡ map (λ u. getD l u 0) ts
-after-bump l t [] h = refl
-after-bump l t (u ∷ ts) h =
-    ap₂ (λ (a : ℕ) (r : List ℕ). a ∷ r) (getD-set-other l t u (getD l t 0 + 1) 0 (h .0)) (after-bump l t ts (h .1))
-
-pub slices-distinct : (l ts : List ℕ) → Distinct ts → slices l ts ≡ map (λ t. getD l t 0) ts
-slices-distinct l [] d = refl
-slices-distinct l (t ∷ ts) d =
-    ap (λ (r : List ℕ). getD l t 0 ∷ r) (slices-distinct (bump l t) ts (d .1) ∙ after-bump l t ts (d .0))
 
 -- T2. Each tile's count grows by the number of references whose tile it is
 pub tally-at : (l ts : List ℕ) (t : ℕ) → t < length l → getD (tally l ts) t 0 ≡ getD l t 0 + occ t ts

@@ -4,3 +4,4 @@ pub mod LimitLaws
 pub mod CheckLaws
 pub mod PathLaws
 pub mod KindLaws
+pub mod SegmentLaws

@@ -3,14 +3,10 @@ use Prim.Native.Nat.{ℕ, _+_}
 use mathlib.Core.List.{List, [], _∷_}
 use Rattle.panel.specs.Refusals.{doneNo}
 use Rattle.panel.specs.declared.kinds.Running.{Running}
-use Rattle.panel.specs.declared.kinds.LineNo.{LineNo}
 use Rattle.panel.specs.declared.kinds.TileNo.{TileNo}
 use Rattle.panel.specs.declared.kinds.SlotNo.{SlotNo}
 use Rattle.panel.specs.declared.kinds.Answer.{Answer}
 use Rattle.panel.specs.declared.kinds.Answer.the-variants.{Done, Refused}
-
-abbrev pub lineNoOf : ℕ → LineNo
-lineNoOf n = record { 0 = n }
 
 abbrev pub tileNoOf : ℕ → TileNo
 tileNoOf n = record { 0 = n }

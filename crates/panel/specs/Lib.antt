@@ -7,3 +7,4 @@ pub mod Checks
 pub mod Paths
 pub mod Slots
 pub mod Signed
+pub mod Segments

@@ -5,4 +5,5 @@ pub mod checks;
 pub mod kinds;
 pub mod limits;
 pub mod refusals;
+pub mod segments;
 pub mod widths;

@@ -37,7 +37,7 @@ use Rattle.acts.specs.Line.{Plan, planActs, planStep, haltIf}
 use Rattle.acts.proofs.Plans.{plan-visits, plan-marks}
 use Rattle.acts.proofs.Lines.{plan-far, plan-full, plan-refused, plan-fine, plan-done}
 use Rattle.acts.proofs.Whole.{plan-made}
-use Rattle.path_count.specs.Steps.{OnTiles}
+use Rattle.path_count.specs.Notes.{OnTiles}
 use Rattle.path_count.specs.Count.{rowsBy, planBy, planOf, walkedStep, lineStep, lineRan, tallyRan, unwalkedOf, Lent, Walkable, Clipped}
 use Rattle.path_count.specs.declared.kinds.Tallied.{Tallied}
 use Rattle.path_count.specs.declared.kinds.Tallied.the-variants.{On, Against as TallyAgainst}

@@ -31,7 +31,8 @@ use Rattle.panel.specs.Refusals.{outside}
 use Rattle.acts.specs.Acts.{Hit, on, off, checkNo, stepActs, stepsActs}
 use Rattle.acts.proofs.Laws.{check-off, steps-same}
 use Rattle.acts.proofs.Plans.{Apart}
-use Rattle.path_count.specs.Steps.{hitOf, hitAt, seenOf, wordOf, notedOf, notedBy, hitsBy, Told, Notes, noteWords, notedTo, OnTiles}
+use Rattle.path_count.specs.Steps.{hitOf, hitAt}
+use Rattle.path_count.specs.Notes.{seenOf, wordOf, notedOf, notedBy, hitsBy, Told, Notes, noteWords, notedTo, OnTiles}
 use Rattle.path_count.specs.declared.kinds.Noted.{Noted}
 use Rattle.path_count.specs.declared.kinds.Noted.the-variants.{Passed as NotedPassed, Against as NotedAgainst}
 use Rattle.path_count.specs.declared.kinds.Seen.{Seen}

@@ -143,7 +143,7 @@ counted r b nos coords paths backs counts refs =
 abbrev pub CountMet : Running → ℕ → (nos : List ℕ) (coords : List Float) (paths : List ℕ) (bs : List ℤ) (cs rs : List ℕ) → Counted → (bs′ : List ℤ) (cs′ rs′ : List ℕ) → Type 0
 CountMet running end nos coords paths bs cs rs r bs′ cs′ rs′ = toldOf (paperOf r) (stOf bs′ cs′ rs′ (madeOf r)) ≡ counted running end nos coords paths bs cs rs
 
--- ---- what the checks of a call leave to lean on
+-- ---- what the checks of a call leave. Only proofs lean on it: no promise of a public call does
 
 -- so many backdrops and tiles are lent, and each path that is there lies among them
 pub record Lent (paths : List ℕ) (backs counts : ℕ) : Type 0 where

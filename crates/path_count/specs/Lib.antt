@@ -1,5 +1,7 @@
 -- Counting. Definitions only.
 --     Steps   where a walk's steps fall
---     Count   a line, a batch, a call
+--     Notes   what the functions tell each other of the steps; only proofs lean on it
+--     Count   a line, a batch, a call; what the checks of a call leave, at its end, is for proofs
 pub mod Steps
+pub mod Notes
 pub mod Count

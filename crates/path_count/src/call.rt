@@ -4,6 +4,8 @@ ghost use Prim.Native.Nat.{_*_, _/_, _≤_};
 ghost use lib.ListN.{length};
 ghost use Rattle.panel.specs.Widths.{refWords, lineFloats};
 ghost use Rattle.panel.specs.Checks.{firstNo};
+ghost use Rattle.panel.specs.Paths.{pathsAnswer};
+ghost use Rattle.panel.specs.declared.kinds.Answer.the-variants.{Done};
 ghost use Rattle.acts.specs.Acts.{stOf};
 ghost use Rattle.path_count.specs.Count.{numberOf, batch, paperOf, madeOf, toldOf, batchTold, lentChecks, CountMet, Lent};
 use super::kinds::Counted;
@@ -95,6 +97,45 @@ fn check_lent(nn: usize, nc: usize, nb: usize, nt: usize, nr: usize, a: u32, b: 
     Verdict::Fine
 }
 
+// What `count` does over paths that are checked.
+pub fn count_checked(
+    running: Running,
+    end: u32,
+    path_nos: &[u32],
+    coords: &[f32],
+    paths: &[u32],
+    backdrops: &mut [i32],
+    counts: &mut [u32],
+    refs: &mut [u32],
+) -> Counted
+    requires { ⌜ pathsAnswer (now paths) (length (now counts)) ≡ Done ⌝ }
+    ensures { λ r. ⌜ CountMet running end (now («path_nos» .entry)) (now (coords .entry)) (now (paths .entry)) (now (backdrops .entry)) (now (counts .entry)) (now (refs .entry))
+        r (now (backdrops .exit)) (now (counts .exit)) (now (refs .exit)) ⌝ }
+{
+    let v = check_lent(
+        path_nos.len(),
+        coords.len(),
+        backdrops.len(),
+        counts.len(),
+        refs.len(),
+        running.lines,
+        end,
+    );
+    if let Verdict::Against(why) = v {
+        return Counted::Refused(why, 0, running);
+    }
+    count_batch(
+        running,
+        end,
+        path_nos,
+        coords,
+        paths,
+        backdrops,
+        counts,
+        refs,
+    )
+}
+
 // Counts the lines from the lines so far up to end.
 pub fn count(
     running: Running,
@@ -125,7 +166,7 @@ pub fn count(
     if let Answer::Refused(why, item) = a {
         return Counted::Refused(why, item, running);
     }
-    count_batch(
+    count_checked(
         running,
         end,
         path_nos,

@@ -7,6 +7,7 @@ mod line;
 mod writes;
 
 pub use call::count;
+pub use call::count_checked;
 pub use kinds::Counted;
 pub use kinds::Tallied;
 pub use line::count_line;

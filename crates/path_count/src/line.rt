@@ -11,7 +11,8 @@ ghost use Rattle.acts.specs.Acts.{stOf, runActs, checkNo, stepsActs, isDone, de
 ghost use Rattle.acts.specs.Line.{planActs, planStep};
 ghost use Rattle.panel.specs.declared.kinds.Verdict.the-variants.{Fine};
 ghost use Rattle.exact.specs.Reach.{Starts};
-ghost use Rattle.path_count.specs.Steps.{hitAt, noteWords, notedTo, Notes, OnTiles};
+ghost use Rattle.path_count.specs.Steps.{hitAt};
+ghost use Rattle.path_count.specs.Notes.{noteWords, notedTo, Notes, OnTiles};
 ghost use Rattle.path_count.specs.Count.{rowsBy, planBy, planOf, lineRan, tallyRan, unwalkedOf, lineStep, Clipped, Walkable, Lent, There};
 use super::checks::check_steps;
 use super::checks::note_steps;

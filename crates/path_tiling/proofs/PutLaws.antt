@@ -3,11 +3,9 @@ use Prim.Native.Nat.{ℕ, suc, _+_, _*_, _≤_, _<_}
 use native.Mathlib.Omega.{arith}
 use mathlib.Core.Path.{_≡_, refl, sym, ap, _∙_}
 use mathlib.Core.Bool.{Bool, true, false, cond}
-use mathlib.Core.List.{List, [], _∷_}
+use mathlib.Core.List.{List}
 use lib.Dec.{ltb}
-use lib.ListN.{getD, set}
-use lib.Seq.{sets}
-use lib.Ieee.{Float}
+use lib.ListN.{getD}
 use borrow.Author.Tests.{ltb-false}
 use Rattle.panel.specs.Slots.{skips, slotOf}
 use Rattle.panel.specs.Kinds.{slotNoOf}
@@ -20,7 +18,7 @@ use Rattle.walk.specs.declared.step.Step.the-variants as On
 use Rattle.walk.specs.declared.lent.Walked.{Walked}
 use Rattle.walk.specs.declared.lent.Walked.the-variants as Found
 use Rattle.segment.specs.Clips.{InTile, pieceOf}
-use Rattle.segment.specs.declared.Segment.{Segment}
+use Rattle.panel.specs.declared.segments.Segment.{Segment}
 use Rattle.segment.specs.declared.Piece.{Piece}
 use Rattle.segment.specs.declared.Piece.the-variants.{Kept, Crooked}
 use Rattle.segment.proofs.Within.{kept-in}
@@ -66,13 +64,3 @@ module _ {slot : SlotNo} {s : Segment} where
       step-put xs slots w (stepNo packed) (sliceNo packed) (stepOf (w .pace) p (stepNo packed)) e
   put-good xs slots packed Found.Skipped e = let z : _≡_ {A = ℕ} 0 1 = cc in absurd (omega arith)
   put-good xs slots packed (Found.Refused why) e = let z : _≡_ {A = ℕ} 0 1 = cc in absurd (omega arith)
-
--- five stores, one after another
-pub five-stores : (l : List Float) (k : ℕ) (a b c d e : Float)
-    → set (set (set (set (set l k a) (k + 1) b) (k + 2) c) (k + 3) d) (k + 4) e ≡ sets l k (a ∷ b ∷ c ∷ d ∷ e ∷ [])
-five-stores l k a b c d e =
-    let one : k + 1 ≡ suc k = omega arith in
-    let two : k + 2 ≡ suc (suc k) = omega arith in
-    let three : k + 3 ≡ suc (suc (suc k)) = omega arith in
-    let four : k + 4 ≡ suc (suc (suc (suc k))) = omega arith in
-    rw (one, two, three, four)

@@ -32,7 +32,8 @@ use Rattle.walk.proofs.Boxes.{fits-boxed}
 use Rattle.walk.proofs.Lines.{skipped}
 use Rattle.walk.proofs.Walks.{line-starts}
 use Rattle.path_tiling.specs.Look.{Lent, lent, lineAt, packedAt, FoundFits, foundOf, foundTo, lookOf}
-use Rattle.path_tiling.specs.Tiling.{Range, range, lookThen, rangeOf, floatsOf, One, one, oneOf, tiled, rangeTiled, slotsOf}
+use Rattle.panel.specs.Segments.{floatsOf}
+use Rattle.path_tiling.specs.Tiling.{Range, range, lookThen, rangeOf, One, one, oneOf, tiled, rangeTiled, slotsOf}
 use Rattle.path_tiling.specs.declared.look.Look.{Look}
 use Rattle.path_tiling.specs.declared.look.Look.the-variants.{Put, Empty, Against}
 

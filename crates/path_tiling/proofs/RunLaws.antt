@@ -22,7 +22,8 @@ use Rattle.panel.specs.declared.kinds.Verdict.{Verdict}
 use Rattle.panel.specs.declared.kinds.Verdict.the-variants as Verdict
 use Rattle.walk.specs.declared.lent.Walked.{Walked}
 use Rattle.path_tiling.specs.Look.{Lent, lineAt, packedAt, foundOf, foundTo, lookOf}
-use Rattle.path_tiling.specs.Tiling.{Range, range, lookThen, rangeOf, putOf, floatsOf, One, one, oneOf, Tiled, tiled, rangeTiled, slotsOf}
+use Rattle.panel.specs.Segments.{putOf, floatsOf}
+use Rattle.path_tiling.specs.Tiling.{Range, range, lookThen, rangeOf, One, one, oneOf, Tiled, tiled, rangeTiled, slotsOf}
 use Rattle.path_tiling.specs.Runs.{Run, run, lookOn, runOf}
 use Rattle.path_tiling.specs.declared.look.Look.{Look}
 use Rattle.path_tiling.specs.declared.look.Look.the-variants.{Put, Empty, Against}

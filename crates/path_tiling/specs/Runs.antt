@@ -1,4 +1,5 @@
--- A run of references, tiled as long as they name one line, which was found once. Definitions only.
+-- A run of references, tiled as long as they name one line, which was found once: how the code goes over a range. Only proofs lean on this: no
+-- promise of a public call does. Definitions only.
 use Prim.Native.Nat.{ℕ, zero, suc}
 use mathlib.Core.Bool.{cond}
 use mathlib.Core.List.{List}
@@ -8,7 +9,7 @@ use Rattle.panel.specs.declared.kinds.Answer.{Answer}
 use Rattle.panel.specs.declared.kinds.Answer.the-variants.{Done, Refused}
 use Rattle.walk.specs.declared.lent.Walked.{Walked}
 use Rattle.path_tiling.specs.Look.{lineAt, packedAt, foundTo}
-use Rattle.path_tiling.specs.Tiling.{putOf}
+use Rattle.panel.specs.Segments.{putOf}
 use Rattle.path_tiling.specs.declared.Ran.{Ran}
 use Rattle.path_tiling.specs.declared.look.Look.{Look}
 use Rattle.path_tiling.specs.declared.look.Look.the-variants.{Put, Empty, Against}

@@ -6,7 +6,6 @@ use mathlib.Core.Bool.{Bool, cond, _&&_}
 use mathlib.Core.List.{List, [], _∷_, _++_}
 use lib.Dec.{leb, eqb}
 use lib.ListN.{length, getD}
-use lib.Seq.{sets}
 use lib.Ieee.{Float}
 use Rattle.lists.specs.Run.{actAll}
 use Rattle.panel.specs.Limits.{mostSlots}
@@ -18,7 +17,8 @@ use Rattle.panel.specs.declared.kinds.Answer.{Answer}
 use Rattle.panel.specs.declared.kinds.Answer.the-variants.{Done, Refused}
 use Rattle.panel.specs.declared.kinds.Verdict.{Verdict}
 use Rattle.panel.specs.declared.kinds.Verdict.the-variants as Verdict
-use Rattle.segment.specs.declared.Segment.{Segment}
+use Rattle.panel.specs.Segments.{putOf}
+use Rattle.panel.specs.declared.segments.Segment.{Segment}
 use Rattle.path_tiling.specs.Look.{Lent, lineAt, lookOf}
 use Rattle.path_tiling.specs.declared.look.Look.{Look}
 use Rattle.path_tiling.specs.declared.look.Look.the-variants.{Put, Empty, Against}
@@ -58,13 +58,7 @@ rangeOf L slots (suc n) k = lookThen L k (lookOf L slots k) (rangeOf L slots n (
 abbrev pub slotsOf : ℕ → ℕ
 slotsOf floats = min (floats / segmentFloats) mostSlots
 
--- a segment's floats, and a write applied
-abbrev pub floatsOf : Segment → List Float
-floatsOf s = s .p0 .x ∷ s .p0 .y ∷ s .p1 .x ∷ s .p1 .y ∷ s .«y_edge» ∷ []
-
-abbrev pub putOf : ℕ → Segment → List Float → List Float
-putOf slot s segs = sets segs (slot * segmentFloats) (floatsOf s)
-
+-- writes applied
 abbrev pub applied : List Write → List Float → List Float
 applied ws segs = actAll (λ w. putOf (w .slot) (w .segment)) ws segs
 

@@ -6,35 +6,23 @@ ghost use mathlib.Core.Path.{_≡_};
 ghost use Prim.Native.Nat.{_+_, _-_, _*_, _/_, _≤_};
 ghost use lib.ListN.{length};
 ghost use Rattle.panel.specs.Widths.{refWords, segmentFloats};
+ghost use Rattle.panel.specs.Paths.{pathsAnswer};
+ghost use Rattle.panel.specs.declared.kinds.Answer.the-variants.{Done};
 ghost use Rattle.path_tiling.specs.Look.{lent, FoundFits, foundTo};
-ghost use Rattle.path_tiling.specs.Tiling.{putOf, one, oneOf, slotsOf, wholeOf, Ready, rangeOf, tiled, rangeTiled, TileMet};
+ghost use Rattle.path_tiling.specs.Tiling.{one, oneOf, slotsOf, wholeOf, Ready, rangeOf, tiled, rangeTiled, TileMet};
 ghost use Rattle.path_tiling.specs.Runs.{ranOf, runOf};
 use look::Look;
 use panel::kinds::Answer;
 use panel::kinds::LineNo;
-use panel::kinds::SlotNo;
 use panel::kinds::Verdict;
 use panel::limits::MOST_SLOTS;
 use panel::refusals::NOT_WHOLE;
+use panel::segments::put;
 use panel::widths::LINE_FLOATS;
 use panel::widths::PATH_WORDS;
 use panel::widths::REF_WORDS;
 use panel::widths::SEGMENT_FLOATS;
-use segment::Segment;
 use walk::lent::Walked;
-
-// A segment into its slot.
-fn put(segments: &mut [f32], slot: SlotNo, s: Segment)
-    requires { ⌜ slot .0 * segmentFloats + segmentFloats ≤ length (now segments) ⌝ }
-    ensures { λ r. ⌜ now (segments .exit) ≡ putOf (slot .0) s (now (segments .entry)) ⌝ }
-{
-    let at = (slot.0 as usize) * SEGMENT_FLOATS;
-    segments[at] = s.p0.x;
-    segments[at + 1] = s.p0.y;
-    segments[at + 2] = s.p1.x;
-    segments[at + 3] = s.p1.y;
-    segments[at + 4] = s.y_edge;
-}
 
 // One reference, whose line is as the walk found it.
 fn tile_one(
@@ -58,7 +46,7 @@ fn tile_one(
 }
 
 // The slots that so many floats have room for.
-fn slots_of(floats: usize) -> u32
+pub fn slots_of(floats: usize) -> u32
     ensures { λ r. ⌜ r ≡ slotsOf floats ⌝ }
 {
     let room = floats / SEGMENT_FLOATS;
@@ -162,6 +150,34 @@ fn whole(
         & ((to as usize) <= refs / REF_WORDS)
 }
 
+// What `tile` does over paths that are checked.
+pub fn tile_checked(
+    from: u32,
+    to: u32,
+    path_nos: &[u32],
+    coords: &[f32],
+    paths: &[u32],
+    indices: &[u32],
+    refs: &[u32],
+    segments: &mut [f32],
+) -> Answer
+    requires { ⌜ pathsAnswer (now paths) (length (now indices)) ≡ Done ⌝ }
+    ensures { λ r. ⌜ TileMet from to (lent (now («path_nos» .entry)) (now (coords .entry)) (now (paths .entry)) (now (indices .entry)) (now (refs .entry))) (now (segments .entry)) r (now (segments .exit)) ⌝ }
+{
+    if !whole(
+        from,
+        to,
+        path_nos.len(),
+        coords.len(),
+        paths.len(),
+        refs.len(),
+        segments.len(),
+    ) {
+        return Answer::Refused(NOT_WHOLE, 0);
+    }
+    tile_range(from, to, path_nos, coords, paths, indices, refs, segments)
+}
+
 // A segment for each of the references from `from` up to `to`. It stops before the first refused,
 // with its number. Lines are given by their path numbers and their coordinates, the tiles by what
 // hand-out left in them.
@@ -192,5 +208,5 @@ pub fn tile(
     if let Answer::Refused(why, item) = checked {
         return Answer::Refused(why, item);
     }
-    tile_range(from, to, path_nos, coords, paths, indices, refs, segments)
+    tile_checked(from, to, path_nos, coords, paths, indices, refs, segments)
 }

@@ -1,6 +1,6 @@
 -- The reader's laws.
 pub mod Held
-pub mod Steps
+pub mod NumberLaws
 pub mod Parts
 pub mod Headers
 pub mod Answers

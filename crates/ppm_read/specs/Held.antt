@@ -1,7 +1,7 @@
 -- What the reader's inner functions promise. Once a number is over the limit the code takes no more of
 -- its digits in, so that no file makes it wrap: what the code has and what is meant are equal under
--- `held`, which tells numbers over the limit from the others and not from each other.
--- Definitions only.
+-- `held`, which tells numbers over the limit from the others and not from each other. Only proofs lean on
+-- this: no promise of a public call does. Definitions only.
 use Prim.Native.Nat.{ℕ, _+_, _≤_, _<_}
 use mathlib.Core.List.{List}
 use mathlib.Core.Bool.{cond}

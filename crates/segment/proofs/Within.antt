@@ -9,7 +9,7 @@ use Rattle.util.specs.declared.Vec2.{Vec2}
 use Rattle.walk.specs.declared.setup.Walk.{Walk}
 use Rattle.panel.proofs.BoolLaws.{both}
 use Rattle.segment.specs.Clips.{InTile, heldOf, segmentOf, pieceOf}
-use Rattle.segment.specs.declared.Segment.{Segment}
+use Rattle.panel.specs.declared.segments.Segment.{Segment}
 use Rattle.segment.specs.declared.Piece.{Piece}
 use Rattle.segment.specs.declared.Piece.the-variants.{Kept, Crooked}
 

@@ -12,7 +12,7 @@ use Rattle.util.specs.declared.Vec2.{Vec2}
 use Rattle.walk.specs.Num.{float}
 use Rattle.walk.specs.Step.{zAt}
 use Rattle.walk.specs.declared.setup.Walk.{Walk}
-use Rattle.segment.specs.declared.Segment.{Segment}
+use Rattle.panel.specs.declared.segments.Segment.{Segment}
 use Rattle.segment.specs.declared.Piece.{Piece}
 use Rattle.segment.specs.declared.Piece.the-variants.{Kept, Crooked}
 

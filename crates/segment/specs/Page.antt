@@ -10,7 +10,7 @@ use Rattle.util.specs.Vec.{newOf, addOf, subOf}
 use Rattle.util.specs.declared.Vec2.{Vec2}
 use Rattle.walk.specs.Num.{float}
 use Rattle.walk.specs.declared.setup.Walk.{Walk}
-use Rattle.segment.specs.declared.Segment.{Segment}
+use Rattle.panel.specs.declared.segments.Segment.{Segment}
 
 unfoldable pub pageOf : Walk → ℕ → Float → ℕ → ℕ → Segment
 pageOf w i z x y =

@@ -6,6 +6,7 @@ ghost use Prim.Native.Nat.{_≤_, _<_};
 ghost use Rattle.panel.specs.Limits.{edgeMost};
 ghost use Rattle.panel.specs.Widths.{stepRange};
 ghost use Rattle.segment.specs.Clips.{cornerOf, farOf, atRowOf, atColOf, clipOf, makeOf, edgeOf, offOf, turnOf, heldOf, firstOf, lastOf, segmentOf, pieceOf};
+use panel::segments::Segment;
 use util::Vec2;
 use util::pick;
 use walk::setup::Walk;
@@ -17,13 +18,6 @@ pub const NUDGE: f32 = 1e-3;
 pub const EPSILON: f32 = 1e-6;
 
 pub const NO_EDGE: f32 = 1e9;
-
-// A segment, relative to its tile.
-pub struct Segment {
-    pub p0: Vec2,
-    pub p1: Vec2,
-    pub y_edge: f32,
-}
 
 // The upper left corner of the tile in column x and row y, and from it the lower right one.
 pub fn corner(x: u32, y: u32) -> Vec2

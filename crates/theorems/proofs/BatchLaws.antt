@@ -26,7 +26,8 @@ use Rattle.path_count.specs.declared.kinds.Counted.the-variants.{Done}
 use Rattle.path_count.proofs.Batches.{batches}
 use Rattle.panel.specs.Kinds as Kinds
 use Rattle.path_tiling.specs.Look.{Lent}
-use Rattle.path_tiling.specs.Tiling.{Range, applied, putOf, callOf, Tiled, tiled, rangeTiled, tiledOf, thenOn, thenRange}
+use Rattle.panel.specs.Segments.{putOf}
+use Rattle.path_tiling.specs.Tiling.{Range, applied, callOf, Tiled, tiled, rangeTiled, tiledOf, thenOn, thenRange}
 use Rattle.path_tiling.proofs.WriteLaws.{calls-join}
 use Rattle.theorems.specs.Drawn.{Drawn, drawnAt, marksOf}
 use Rattle.theorems.specs.Events.{eventsOf, tilesEv}

@@ -1,7 +1,7 @@
 -- Refusals are exact: 13, 14 and 15 of a screen tile's commands. Assumes nothing.
 use mathlib.Core.Path.{_≡_, refl, sym, ap, _∙_}
 use mathlib.Core.Logic.{_≢_, _↔_, _⊎_, inl, inr}
-use mathlib.Core.Bool.{Bool, true, false}
+use mathlib.Core.Bool.{Bool, true, false, cond}
 use mathlib.Core.List.{List}
 use Prim.Native.Nat.{ℕ, zero, suc, _+_, _-_, _/_, _≤_, _<_}
 use native.Mathlib.Decide.{decLt, ℕ-discrete}
@@ -14,7 +14,7 @@ use Rattle.panel.specs.Refusals.{pastEnd, tooLong}
 use Rattle.panel.specs.declared.kinds.Verdict.the-variants.{Fine, Against}
 use Rattle.reader.specs.Look.{lookAt}
 use Rattle.commands.specs.Numbers.{endNo, wordsOf}
-use Rattle.commands.specs.Steps.{pickMove, opOf, countOf, fillMove, wholeMove, moveOf, Trace, ends, does, onMove, onLook, traceOf, endOf}
+use Rattle.commands.specs.Steps.{opOf, countOf, fillMove, wholeMove, moveOf, Trace, ends, does, onMove, onLook, traceOf, endOf}
 use Rattle.commands.specs.declared.steps.Op.{Op}
 use Rattle.commands.specs.declared.steps.Op.the-variants.{Fill, Solid, Color, Jump, Unknown}
 use Rattle.commands.specs.declared.steps.Act.{Act}
@@ -29,7 +29,7 @@ use Rattle.theorems.proofs.Exact.{no-clash}
 
 -- ---- one command
 
-fill-why : (b : Bool) (a : Act) (next n : ℕ) → pickMove b (Goes a next) (Refused pastEnd) ≡ Refused n → (n ≡ pastEnd) × (b ≡ false)
+fill-why : (b : Bool) (a : Act) (next n : ℕ) → cond b (Goes a next) (Refused pastEnd) ≡ Refused n → (n ≡ pastEnd) × (b ≡ false)
 fill-why true a next n e = no-clash cc
 fill-why false a next n e = (cc, refl)
 
@@ -55,7 +55,7 @@ move-why : (o : Op) (ws : List ℕ) (room at n : ℕ) → moveOf o ws room at �
 unfolding moveOf
 move-why o ws room at n e = go (leb (wordsOf o) (length ws - at)) refl e
   where
-    go : (b : Bool) → leb (wordsOf o) (length ws - at) ≡ b → pickMove b (wholeMove o ws room at) (Refused pastEnd) ≡ Refused n → MoveWhy o ws room at n
+    go : (b : Bool) → leb (wordsOf o) (length ws - at) ≡ b → cond b (wholeMove o ws room at) (Refused pastEnd) ≡ Refused n → MoveWhy o ws room at n
     go true q d = inr (leb-true (wordsOf o) (length ws - at) q, whole-why o ws room at n d)
     go false q d = inl (cc, leb-false (wordsOf o) (length ws - at) q)
 

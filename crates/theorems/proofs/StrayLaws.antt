@@ -4,17 +4,15 @@ use mathlib.Core.Logic.{_≢_}
 use mathlib.Core.Bool.{Bool, true, false, cond}
 use mathlib.Core.List.{List, [], _∷_, map}
 use Prim.Native.Nat.{ℕ, zero, suc, _+_, _-_, _*_, _/_, _≤_, _<_}
-use native.Mathlib.Decide.{decLt}
 use native.Mathlib.Omega.{arith}
 use lib.Dec.{ltb}
 use lib.ListN.{length, getD, length-replicate}
 use lib.Seq.{length-sets}
 use lib.IntN.{ℤ}
-use lib.Ieee.{Float, nan}
+use lib.Ieee.{Float}
 use Rattle.lists.specs.Run.{All}
 use Rattle.lists.specs.Sums.{sum, first, from}
 use Rattle.lists.specs.Tally.{zeros, Below, below-at, length-tally, Distinct}
-use Rattle.lists.specs.Cells.{getD-sets-after, getD-sets-before, getD-sets-in}
 use Rattle.panel.specs.Limits.{mostSlots}
 use Rattle.panel.specs.Refusals.{notWhole, noSuch, noRoom}
 use Rattle.panel.specs.Widths.{segmentFloats}
@@ -35,11 +33,13 @@ use Rattle.walk.specs.declared.step.Step.the-variants as On
 use Rattle.walk.specs.declared.lent.Walked.{Walked}
 use Rattle.walk.specs.declared.lent.Walked.the-variants as Found
 use Rattle.segment.specs.Clips.{pieceOf}
-use Rattle.segment.specs.declared.Segment.{Segment}
+use Rattle.panel.specs.declared.segments.Segment.{Segment}
 use Rattle.segment.specs.declared.Piece.{Piece}
 use Rattle.segment.specs.declared.Piece.the-variants.{Kept, Crooked}
 use Rattle.path_tiling.specs.Look.{Lent, lent, lineAt, packedAt, stepNo, sliceNo, pieceTo, wordTo, stepTo, foundTo, foundOf, lookOf}
-use Rattle.path_tiling.specs.Tiling.{Write, Range, range, lookThen, rangeOf, slotsOf, floatsOf, putOf, applied, checksOf, checkedThen, callOf, Made}
+use Rattle.panel.specs.Segments.{floatsOf, putOf, segmentAt}
+use Rattle.panel.proofs.SegmentLaws.{reads-put, reads-other}
+use Rattle.path_tiling.specs.Tiling.{Write, Range, range, lookThen, rangeOf, slotsOf, applied, checksOf, checkedThen, callOf, Made}
 use Rattle.path_tiling.specs.declared.look.Look as L
 use Rattle.path_tiling.specs.declared.look.Look.the-variants.{Put, Empty, Against}
 use Rattle.path_tiling.proofs.PutLaws.{Good}
@@ -47,7 +47,7 @@ use Rattle.path_tiling.proofs.CallLaws as CallLaws
 use Rattle.path_tiling.proofs.WriteLaws.{range-made, range-good}
 use Rattle.theorems.specs.Events.{Event, tilesEv, sliceOf, slotOf}
 use Rattle.theorems.specs.Refs.{stepTile, walkTile, AllCounted}
-use Rattle.theorems.specs.Stray.{writtenTo, writtenFrom, slotFloat, OwnWrite, NoStray}
+use Rattle.theorems.specs.Stray.{writtenTo, writtenFrom, OwnWrite, NoStray}
 use Rattle.theorems.proofs.Slots.{slice-below, slots-once, slots-differ}
 use Rattle.theorems.proofs.SumLaws.{sums, passed, events, whole, Whole, tiles-below, ref-line, ref-step, ref-slice, ref-tile, owned, event-tile, eventAt}
 use Rattle.theorems.proofs.Counting.{length-tiles}
@@ -103,23 +103,11 @@ found-put xs slots packed first t (Found.Line w b) e o h g =
 
 -- ---- writes at slots that differ
 
-put-other : (slot k : ℕ) (s : Segment) (segs : List Float) → k ≢ slot → (j : ℕ) → j < segmentFloats → slotFloat (putOf slot s segs) k j ≡ slotFloat segs k j
-put-other slot k s segs h j q = go (decLt k slot)
-  where
-    go : Dec (k < slot) → slotFloat (putOf slot s segs) k j ≡ slotFloat segs k j
-    go (yes p) = getD-sets-before (floatsOf s) segs (slot * segmentFloats) (k * segmentFloats + j) nan (omega arith)
-    go (no p) = getD-sets-after (floatsOf s) segs (slot * segmentFloats) (k * segmentFloats + j) nan (omega arith)
-
-put-same : (slot : ℕ) (s : Segment) (segs : List Float) → slot < length segs / segmentFloats → (j : ℕ) → j < segmentFloats
-    → slotFloat (putOf slot s segs) slot j ≡ getD (floatsOf s) j nan
-put-same slot s segs h j q = getD-sets-in (floatsOf s) segs (slot * segmentFloats) j nan (omega arith) (omega arith)
-
 -- a slot that none of them goes to
-applied-other : (ws : List Write) (segs : List Float) (k : ℕ) → All (λ w. k ≢ w .slot) ws → (j : ℕ) → j < segmentFloats
-    → slotFloat (applied ws segs) k j ≡ slotFloat segs k j
-applied-other [] segs k h j q = refl
-applied-other (w ∷ ws) segs k h j q =
-    applied-other ws (putOf (w .slot) (w .segment) segs) k (h .1) j q ∙ put-other (w .slot) k (w .segment) segs (h .0) j q
+applied-other : (ws : List Write) (segs : List Float) (k : ℕ) → All (λ w. k ≢ w .slot) ws → segmentAt (applied ws segs) k ≡ segmentAt segs k
+applied-other [] segs k h = refl
+applied-other (w ∷ ws) segs k h =
+    applied-other ws (putOf (w .slot) (w .segment) segs) k (h .1) ∙ reads-other (w .slot) (w .segment) segs k (h .0)
 
 none-later : (ws : List Write) (k : ℕ) → All (λ u. u ≢ k) (writtenTo ws) → All (λ w. k ≢ w .slot) ws
 none-later [] k h = tt
@@ -127,10 +115,10 @@ none-later (w ∷ ws) k h = ((λ e. h .0 (sym e)), none-later ws k (h .1))
 
 -- the slots written hold what was written there
 applied-kept : (ws : List Write) (segs : List Float) → Distinct (writtenTo ws) → All (λ w. w .slot < length segs / segmentFloats) ws
-    → All (λ w. (j : ℕ) → j < segmentFloats → slotFloat (applied ws segs) (w .slot) j ≡ getD (floatsOf (w .segment)) j nan) ws
+    → All (λ w. segmentAt (applied ws segs) (w .slot) ≡ w .segment) ws
 applied-kept [] segs d h = tt
 applied-kept (w ∷ ws) segs d h = (
-  (λ j q. applied-other ws segs′ (w .slot) (none-later ws (w .slot) (d .0)) j q ∙ put-same (w .slot) (w .segment) segs (h .0) j q),
+  applied-other ws segs′ (w .slot) (none-later ws (w .slot) (d .0)) ∙ reads-put (w .slot) (w .segment) segs (omega (arith, h .0)),
   applied-kept ws segs′ (d .1) (grown ws (h .1)),
 )
   where
@@ -283,7 +271,7 @@ module _ (b : ℕ) (nos : List ℕ) (coords : List Float) (paths : List ℕ) (n 
             let f : length (r .writes) ≡ length (tilesEv es) = omega (arith, t .whole e, long) in
             rw (t .to, f) (slots-once n (tilesEv es) box k (omega (arith, long)));
         kept = applied-kept (r .writes) segs d (within (r .writes) g);
-        others = λ k f j q. applied-other (r .writes) segs k f j q;
+        others = λ k f. applied-other (r .writes) segs k f;
       }
     where
       within : (us : List Write) → All (λ w. Good (slotsOf (length segs)) (w .slot) (w .segment)) us → All (λ w. w .slot < length segs / segmentFloats) us

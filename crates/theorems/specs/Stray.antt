@@ -2,19 +2,19 @@
 use mathlib.Core.Path.{_≡_}
 use mathlib.Core.Logic.{_≢_}
 use mathlib.Core.List.{List, map}
-use Prim.Native.Nat.{ℕ, _+_, _*_, _≤_, _<_}
+use Prim.Native.Nat.{ℕ, _+_, _≤_, _<_}
 use lib.ListN.{length, getD}
-use lib.Ieee.{Float, nan}
+use lib.Ieee.{Float}
 use Rattle.lists.specs.Run.{All}
 use Rattle.lists.specs.Sums.{first, from}
 use Rattle.lists.specs.Occ.{occ}
 use Rattle.lists.specs.Tally.{Distinct}
-use Rattle.panel.specs.Widths.{segmentFloats}
 use Rattle.panel.specs.Paths.{pathAt, pathCount, endOf}
 use Rattle.panel.specs.declared.kinds.Answer.the-variants.{Done, Refused}
 use Rattle.segment.specs.Clips.{InTile}
 use Rattle.path_tiling.specs.Look.{lineAt}
-use Rattle.path_tiling.specs.Tiling.{Write, Range, applied, floatsOf}
+use Rattle.panel.specs.Segments.{segmentAt}
+use Rattle.path_tiling.specs.Tiling.{Write, Range, applied}
 use Rattle.theorems.specs.Refs.{refTile}
 
 -- the slots that writes go to, and the references they come from, in order
@@ -23,10 +23,6 @@ writtenTo ws = map (λ w. w .slot) ws
 
 abbrev pub writtenFrom : List Write → List ℕ
 writtenFrom ws = map (λ w. w .ref) ws
-
--- float j of slot k
-abbrev pub slotFloat : List Float → ℕ → ℕ → Float
-slotFloat segs k j = getD segs (k * segmentFloats + j) nan
 
 -- a write is its own path's: it comes from one of the m references that counting made, of that reference's line and that line's path; the
 -- reference's tile lies in that path's range, and the slot in that tile's; both ends lie in the tile
@@ -53,6 +49,6 @@ pub record NoStray (nos : List ℕ) (coords : List Float) (paths : List ℕ) (cs
   -- no slot is written twice; and where no reference was refused, each slot below their number is written once
   pub apart : Distinct (writtenTo (r .writes))
   pub once : r .answer ≡ Done → (k : ℕ) → k < m → occ k (writtenTo (r .writes)) ≡ 1
-  -- afterwards each slot written holds its segment, and every other slot what it held
-  pub kept : All (λ w. (j : ℕ) → j < segmentFloats → slotFloat (applied (r .writes) segs) (w .slot) j ≡ getD (floatsOf (w .segment)) j nan) (r .writes)
-  pub others : (k : ℕ) → All (λ w. k ≢ w .slot) (r .writes) → (j : ℕ) → j < segmentFloats → slotFloat (applied (r .writes) segs) k j ≡ slotFloat segs k j
+  -- afterwards coverage reads at each slot written its segment, and at every other slot what it held
+  pub kept : All (λ w. segmentAt (applied (r .writes) segs) (w .slot) ≡ w .segment) (r .writes)
+  pub others : (k : ℕ) → All (λ w. k ≢ w .slot) (r .writes) → segmentAt (applied (r .writes) segs) k ≡ segmentAt segs k

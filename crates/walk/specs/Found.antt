@@ -1,4 +1,5 @@
--- The edges of the columns and rows that a line is in, as whole numbers taken once. Definitions only.
+-- The edges of the columns and rows that a line is in, as whole numbers taken once: how the code sets a line up. Only proofs lean on this: no
+-- promise of a public call does. Definitions only.
 use Prim.Native.Nat.{ℕ, _+_, _-_, _≤_}
 use mathlib.Core.Path.{_≡_}
 use mathlib.Core.Bool.{false, cond}

@@ -8,7 +8,7 @@ use lib.ListN.{getD}
 use lib.Ieee.{Float, nan}
 use Rattle.util.specs.declared.Vec2.{Vec2}
 use Rattle.exact.specs.Reach.{inReach}
-use Rattle.panel.specs.Refusals.{doneNo, coordinate, noSuch}
+use Rattle.panel.specs.Refusals.{coordinate, noSuch}
 use Rattle.panel.specs.Widths.{lineFloats}
 use Rattle.panel.specs.Paths.{pathAt, pathCount}
 use Rattle.panel.specs.declared.kinds.Path.{Path}
@@ -49,9 +49,3 @@ walkAt nos coords paths l =
     cond (reachedOf (line .p0) (line .p1))
     (cond (ltb path (pathCount paths)) (walkedOf (line .p0) (line .p1) (pathAt paths path)) (Refused noSuch))
     (Refused coordinate)
-
--- the number of a refusal
-abbrev pub numberOf : Walked → ℕ
-numberOf (Refused n) = n
-numberOf Skipped = doneNo
-numberOf (Line w b) = doneNo

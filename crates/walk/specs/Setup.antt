@@ -1,4 +1,6 @@
--- The walk's numbers, line by line as path_count.rs has them, a stage each: what `Page.antt` has in one piece. Definitions only.
+-- The walk's numbers, line by line as path_count.rs has them, a stage each, for the functions' own contracts. Only proofs lean on this, but for
+-- `endsOf`, which the skip rules cite: what is promised is `Page.antt`, in one piece and beside the Rust, and `by-parts` there says that the stages
+-- make the same. Definitions only.
 use Prim.Native.Nat.{ℕ, _+_, _-_}
 use mathlib.Core.Bool.{Bool, cond}
 use lib.Ieee.{Float, binary32, add, sub, mul, div, le, eq, ne}

@@ -3,11 +3,10 @@ ghost use mathlib.Core.Path.{_≡_};
 ghost use Prim.Native.Nat.{_+_, _*_, _≤_};
 ghost use lib.ListN.{length};
 ghost use Rattle.panel.specs.Widths.{lineFloats};
-ghost use Rattle.walk.specs.Lent.{lineAt, reachedOf, numberOf};
+ghost use Rattle.walk.specs.Lent.{lineAt, reachedOf};
 use super::setup::Walk;
 use panel::kinds::Path;
 use panel::limits::COORD_MOST;
-use panel::refusals::DONE;
 use panel::widths::LINE_FLOATS;
 use util::Vec2;
 
@@ -46,15 +45,4 @@ pub fn reached(p0: Vec2, p1: Vec2) -> bool
 {
     ((float32::abs(p0.x) <= COORD_MOST) & (float32::abs(p0.y) <= COORD_MOST))
         & ((float32::abs(p1.x) <= COORD_MOST) & (float32::abs(p1.y) <= COORD_MOST))
-}
-
-// The number of a refusal, which `let .. else` can't bind.
-pub fn number(w: Walked) -> u32
-    ensures { λ r. ⌜ r ≡ numberOf w ⌝ }
-{
-    match w {
-        Walked::Refused(n) => n,
-        Walked::Skipped => DONE,
-        Walked::Line(_, _) => DONE,
-    }
 }

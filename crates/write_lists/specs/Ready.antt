@@ -1,4 +1,5 @@
--- What the code leans on between its functions: what the checks of a call leave, a tile's weight, and the room that a pen has. Definitions only.
+-- What the writer's functions tell each other: what the checks of a call leave, a tile's weight, and the room that a pen has. Only proofs lean on
+-- this: no promise of a public call does. Definitions only.
 use mathlib.Core.Path.{_≡_}
 use mathlib.Core.Bool.{Bool, true, _&&_}
 use mathlib.Core.List.{List}

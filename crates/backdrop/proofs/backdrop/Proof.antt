@@ -1,11 +1,8 @@
 -- `backdrop::backdrop` meets its contract: by what the checks of the paths answer.
 -- Assumes nothing.
-use mathlib.Core.Path.{refl, sym, _∙_}
-use native.Mathlib.Omega.{arith}
+use mathlib.Core.Path.{sym, _∙_}
 use borrow.Author.Needs.{needs}
-use lib.ListN.{length}
-use Rattle.panel.proofs.PathLaws.{checked}
-use Rattle.backdrop.proofs.PathSums.{call-done, call-no}
+use Rattle.backdrop.proofs.PathSums.{call-no}
 use Rattle.backdrop.proofs.backdrop.Statement.{statement}
 use Rattle.backdrop.proofs.backdrop.Tie as tie
 
@@ -23,22 +20,14 @@ returns c =
     let a = c .before .before .before .before .args in
     call-no (a .paths .now) (a .backdrops .now) (c .before .before .check-paths .result) (c .enum-told2 .given .1) (c .before .before .check-paths .ensures)
 
-cast-sum-paths : tie.Need-cast-sum-paths
-cast-sum-paths c =
-    let a = c .before .before .before .before .args in
-    let k = checked (a .paths .now) (length (a .backdrops .now)) (sym (c .before .before .check-paths .ensures) ∙ c .enum-told .given .1) in
-    record { fits = omega (arith, k .few) }
-
-sum-paths-requires : tie.Need-sum-paths-requires
-sum-paths-requires c κs = (refl, sym (c .before .before .before .check-paths .ensures) ∙ c .before .enum-told .given .1)
+backdrop-checked-requires : tie.Need-backdrop-checked-requires
+backdrop-checked-requires c κs = sym (c .before .before .before .check-paths .ensures) ∙ c .before .enum-told .given .1
 
 same-length : tie.Need-same-length
 same-length c = search needs
 
 returns-2 : tie.Need-returns-2
-returns-2 c =
-    let a = c .before .before .before .before .before .before .before .args in
-    c .before .sum-paths .ensures ∙ sym (call-done (a .paths .now) (a .backdrops .now) (sym (c .before .before .before .before .before .check-paths .ensures) ∙ c .before .before .before .enum-told .given .1))
+returns-2 c = c .before .backdrop-checked .ensures
 
 pub backdrop-spec : {M : Type 1} → statement M
 backdrop-spec =
@@ -48,7 +37,6 @@ backdrop-spec =
     enum-told
     enum-told-2
     returns
-    cast-sum-paths
-    sum-paths-requires
+    backdrop-checked-requires
     same-length
     returns-2)

@@ -1,8 +1,8 @@
--- `path_tiling::tile` meets its contract: a check that fails, or the range. Assumes nothing.
+-- `path_tiling::tile` meets its contract: a check that fails, or `tile_checked`. Assumes nothing.
 use mathlib.Core.Path.{_≡_, sym, _∙_}
 use borrow.Author.Needs.{needs}
 use borrow.Author.Tests.{not-true, not-false}
-use Rattle.path_tiling.proofs.CallLaws.{not-whole, bad-paths, ready, called}
+use Rattle.path_tiling.proofs.CallLaws.{not-whole, bad-paths}
 use Rattle.path_tiling.proofs.tile.Statement.{statement}
 use Rattle.path_tiling.proofs.tile.Tie as tie
 
@@ -19,19 +19,16 @@ returns-2 c =
 enum-told : tie.Need-enum-told
 enum-told c = search needs
 
-tile-range-requires : tie.Need-tile-range-requires
-tile-range-requires c κs =
-    ready _ _ _ (c .before .before .before .before .before .before .before .before .before .before .before .before .args .segments .now) (sym (c .before .before .before .before .before .whole .ensures) ∙ not-false _ (c .before .before .before .before .if1 .left)) (sym (c .before .before .before .check-paths .ensures) ∙ c .before .enum-told .given .1)
+tile-checked-requires : tie.Need-tile-checked-requires
+tile-checked-requires c κs = sym (c .before .before .before .check-paths .ensures) ∙ c .before .enum-told .given .1
 
 same-length : tie.Need-same-length
 same-length c = search needs
 
 returns-3 : tie.Need-returns-3
-returns-3 c =
-    c .before .before .tile-range .ensures
-    ∙ called _ _ _ _ (sym (c .before .before .before .before .before .before .before .before .whole .ensures) ∙ not-false _ (c .before .before .before .before .before .before .before .if1 .left)) (sym (c .before .before .before .before .before .before .check-paths .ensures) ∙ c .before .before .before .before .enum-told .given .1)
+returns-3 c = c .before .before .tile-checked .ensures
 
 pub tile-spec : {M : Type 1} → statement M
 tile-spec =
     tie.close
-    (tie.spec (λ c κs. tt) returns (λ c κs. tt) enum-known-checked returns-2 enum-told tile-range-requires same-length returns-3)
+    (tie.spec (λ c κs. tt) returns (λ c κs. tt) enum-known-checked returns-2 enum-told tile-checked-requires same-length returns-3)

@@ -8,7 +8,7 @@ use borrow.Author.Needs.{needs}
 use Rattle.ppm_read.specs.declared.Stage.the-variants.{Start}
 use Rattle.ppm_read.specs.Header.{numberFrom}
 use Rattle.ppm_read.specs.Held.{heldGot}
-use Rattle.ppm_read.proofs.Steps.{number-turn, number-end}
+use Rattle.ppm_read.proofs.NumberLaws.{number-turn, number-end}
 use Rattle.ppm_read.proofs.read_number.Statement.{statement}
 use Rattle.ppm_read.proofs.read_number.Tie as tie
 use Rattle.ppm_read.proofs.read_number.Reads as reads

@@ -1,6 +1,6 @@
 -- `commands::run::run` meets its contract. The invariant: what is left to do, from the present place with the commands left, gives what the whole gives. Assumes nothing.
 use mathlib.Core.Path.{_≡_, refl, sym, ap, _∙_}
-use mathlib.Core.Bool.{Bool, true, false}
+use mathlib.Core.Bool.{Bool, true, false, cond}
 use mathlib.Core.List.{List}
 use Prim.Native.Nat.{ℕ, suc, _-_, _+_, _/_, _≤_, _<_}
 use lib.Dec.{ltb}
@@ -13,7 +13,7 @@ use Rattle.panel.specs.Limits.{mostCommands}
 use Rattle.panel.specs.Widths.{segmentFloats}
 use Rattle.panel.specs.declared.kinds.Verdict.{Verdict}
 use Rattle.coverage.specs.Tile.{tileSize}
-use Rattle.reader.specs.Look.{lookAt, pick}
+use Rattle.reader.specs.Look.{lookAt}
 use Rattle.reader.specs.declared.Look.the-variants.{Word, Past}
 use Rattle.commands.specs.Steps.{Trace, ends, does, traceOf}
 use Rattle.commands.specs.Pixel.{coverAll, paintAll, noArea, ran, runOf}
@@ -29,7 +29,7 @@ use Rattle.commands.proofs.run.run.Tie as tie
 found : (ws : List ℕ) (at w : ℕ) → lookAt ws at ≡ Word w → at < length ws
 found ws at w e = ltb-true at (length ws) (go (ltb at (length ws)) e)
   where
-    go : (b : Bool) → pick b (Word (getD ws at 0)) Past ≡ Word w → b ≡ true
+    go : (b : Bool) → cond b (Word (getD ws at 0)) Past ≡ Word w → b ≡ true
     go true f = refl
     go false f = let z : _≡_ {A = ℕ} 0 1 = cc in absurd (omega arith)
 

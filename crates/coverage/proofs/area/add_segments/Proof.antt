@@ -8,10 +8,10 @@ use denote.Ref.{now}
 use lib.Ieee.{Float, nan}
 use Rattle.lists.specs.Grid.{mapi}
 use Rattle.lists.specs.GridLaws.{mapi-mapi, mapi-is, length-mapi}
-use Rattle.coverage.specs.Segment.{segmentAt}
+use Rattle.panel.specs.Segments.{segmentAt}
 use Rattle.coverage.specs.Row.{wayOf, stepWay, stepSegment}
 use Rattle.coverage.specs.Coverage.{areaAfter}
-use Rattle.coverage.specs.declared.segment.Segment.{Segment}
+use Rattle.panel.specs.declared.segments.Segment.{Segment}
 use Rattle.coverage.specs.declared.row.Way.{Way}
 use native.Mathlib.Omega.{arith}
 use borrow.Author.Needs.{needs}

@@ -1,5 +1,10 @@
 -- `frame::call::frame` meets its contract: by what the checks find.
 -- Assumes nothing.
+use mathlib.Core.Path.{sym, _∙_}
+use lib.ListN.{length}
+use borrow.Author.Tests.{eqb-true}
+use Rattle.panel.proofs.CheckLaws.{all-ok}
+use Rattle.frame.specs.Frame.{lentChecks}
 use Rattle.frame.proofs.FrameLaws.{frame-no, frame-path, frame-goes}
 use borrow.Author.Needs.{needs}
 use Rattle.frame.proofs.call.frame.Statement.{statement}
@@ -31,8 +36,12 @@ returns-2 c =
 enum-told-2 : tie.Need-enum-told-2
 enum-told-2 c = search needs
 
+-- the paths are checked, for as many backdrops as tiles
 draw-requires : tie.Need-draw-requires
-draw-requires c κs = search needs
+draw-requires c κs =
+    let a = c .before .before .before .before .before .before .before .before .before .before .before .before .before .before .before .before .before .before .args in
+    let fine = all-ok (lentChecks (length (a .path-nos .now)) (length (a .coords .now)) (length (a .backdrops .now)) (length (a .tiles .now)) (length (a .tally .now)) (length (a .refs .now)) (length (a .segments .now))) (sym (c .before .before .before .before .before .before .before .before .before .before .check-lent .ensures) ∙ c .before .before .before .before .before .before .before .before .enum-told .given .1) in
+    (sym (c .before .before .before .before .before .before .before .check-paths .ensures) ∙ c .before .before .before .before .before .enum-told2 .given .1, eqb-true (length (a .backdrops .now)) (length (a .tiles .now)) (fine .1 .1 .0))
 
 same-length : tie.Need-same-length
 same-length c = search needs

@@ -1,7 +1,7 @@
 -- `frame::stages::draw` meets its contract: by what counting answers.
 -- Assumes nothing.
 use Rattle.frame.proofs.FrameLaws.{drawn-no, drawn-on}
-use mathlib.Core.Path.{_∙_}
+use mathlib.Core.Path.{sym, _∙_}
 use borrow.Author.Needs.{needs}
 use Rattle.frame.proofs.stages.draw.Statement.{statement}
 use Rattle.frame.proofs.stages.draw.Tie as tie
@@ -15,14 +15,19 @@ clear-tiles-requires c κs = search needs
 end-of-requires : tie.Need-end-of-requires
 end-of-requires c κs = search needs
 
-count-requires : tie.Need-count-requires
-count-requires c κs = search needs
+-- the paths are checked for as many tiles as are cleared
+count-checked-requires : tie.Need-count-checked-requires
+count-checked-requires c κs = rw (c .before .before .before .before .before .tiles .given) (c .before .before .before .before .before .before .before .before .before .before .before .before .before .before .before .before .before .before .pre .0)
 
 enum-known-s : tie.Need-enum-known-s
 enum-known-s c = search needs
 
+-- and counting leaves as many, and as many backdrops
 place-requires : tie.Need-place-requires
-place-requires c κs = search needs
+place-requires c κs =
+    let tiles = c .before .before .before .before .before .before .before .before .before .before .before .tiles2 .given ∙ c .before .before .before .before .before .before .before .before .before .before .before .before .before .before .before .before .before .before .before .tiles .given in
+    let backs = c .before .before .before .before .before .before .before .before .before .before .before .before .backdrops2 .given ∙ c .before .before .before .before .before .before .before .before .before .before .before .before .before .before .before .before .before .before .before .before .before .before .backdrops .given in
+    (rw tiles (c .before .before .before .before .before .before .before .before .before .before .before .before .before .before .before .before .before .before .before .before .before .before .before .before .before .before .before .before .before .before .before .before .pre .0), backs ∙ c .before .before .before .before .before .before .before .before .before .before .before .before .before .before .before .before .before .before .before .before .before .before .before .before .before .before .before .before .before .before .before .before .pre .1 ∙ sym tiles)
 
 enum-known-why : tie.Need-enum-known-why
 enum-known-why c = search needs
@@ -44,7 +49,9 @@ same-length-5 c = search needs
 
 returns : tie.Need-returns
 returns c =
-    drawn-on _ _ _ _ _ _ _ _ _ _ _ (c .before .before .before .before .before .before .before .before .before .before .before .before .before .before .before .before .before .before .before .before .before .before .before .before .before .before .before .before .before .before .before .clear-backdrops .ensures) (c .before .before .before .before .before .before .before .before .before .before .before .before .before .before .before .before .before .before .before .before .before .before .before .before .before .before .before .before .clear-tiles .ensures) (c .before .before .before .before .before .before .before .before .before .before .before .before .before .before .before .before .before .before .before .before .before .before .before .before .before .end-of .ensures) (c .before .before .before .before .before .before .before .before .before .before .before .before .before .before .before .before .before .before .before .before .before .count .result) _ _ _ (c .before .before .before .before .before .before .before .before .before .before .before .before .before .before .before .before .before .before .before .before .before .count .ensures) _ _ (c .before .before .before .before .before .before .before .before .before .before .before .before .before .before .s .given .1) (c .before .before .before .before .before .before .before .place .ensures)
+    let k = c .before .before .before .before .before .before .before .before .before .before .before .before .before .before .before .before .before .before .before .before .before .count-checked in
+    drawn-on _ _ _ _ _ _ _ _ _ _ _ (c .before .before .before .before .before .before .before .before .before .before .before .before .before .before .before .before .before .before .before .before .before .before .before .before .before .before .before .before .before .before .before .clear-backdrops .ensures) (c .before .before .before .before .before .before .before .before .before .before .before .before .before .before .before .before .before .before .before .before .before .before .before .before .before .before .before .before .clear-tiles .ensures) (c .before .before .before .before .before .before .before .before .before .before .before .before .before .before .before .before .before .before .before .before .before .before .before .before .before .end-of .ensures) (k .result) _ _ _ (k .ensures)
+    _ _ (c .before .before .before .before .before .before .before .before .before .before .before .before .before .before .s .given .1) (c .before .before .before .before .before .before .before .place .ensures)
 
 same-length-6 : tie.Need-same-length-6
 same-length-6 c = search needs
@@ -57,7 +64,9 @@ same-length-8 c = search needs
 
 returns-2 : tie.Need-returns-2
 returns-2 c =
-    drawn-no _ _ _ _ _ _ _ _ _ _ _ (c .before .before .before .before .before .before .before .before .before .before .before .before .before .before .before .before .before .before .clear-backdrops .ensures) (c .before .before .before .before .before .before .before .before .before .before .before .before .before .before .before .clear-tiles .ensures) (c .before .before .before .before .before .before .before .before .before .before .before .before .end-of .ensures) (c .before .before .before .before .before .before .before .before .count .result) _ _ _ (c .before .before .before .before .before .before .before .before .count .ensures) _ _ _ (c .before .why .given .1)
+    let k = c .before .before .before .before .before .before .before .before .count-checked in
+    drawn-no _ _ _ _ _ _ _ _ _ _ _ (c .before .before .before .before .before .before .before .before .before .before .before .before .before .before .before .before .before .before .clear-backdrops .ensures) (c .before .before .before .before .before .before .before .before .before .before .before .before .before .before .before .clear-tiles .ensures) (c .before .before .before .before .before .before .before .before .before .before .before .before .end-of .ensures) (k .result) _ _ _ (k .ensures)
+    _ _ _ (c .before .why .given .1)
 
 pub draw-spec : {M : Type 1} → statement M
 draw-spec =
@@ -66,7 +75,7 @@ draw-spec =
     clear-backdrops-requires
     clear-tiles-requires
     end-of-requires
-    count-requires
+    count-checked-requires
     enum-known-s
     place-requires
     enum-known-why

@@ -5,8 +5,9 @@ use borrow.Author.Needs.{needs}
 use Rattle.frame.proofs.stages.place.Statement.{statement}
 use Rattle.frame.proofs.stages.place.Tie as tie
 
-backdrop-requires : tie.Need-backdrop-requires
-backdrop-requires c κs = search needs
+-- the paths are checked for as many backdrops as tiles
+backdrop-checked-requires : tie.Need-backdrop-checked-requires
+backdrop-checked-requires c κs = rw (c .before .before .before .before .before .before .before .before .pre .1) (c .before .before .before .before .before .before .before .before .pre .0)
 
 enum-known-summed : tie.Need-enum-known-summed
 enum-known-summed c = search needs
@@ -16,13 +17,14 @@ same-length c = search needs
 
 returns : tie.Need-returns
 returns c =
-    summed-no _ _ _ _ _ _ _ _ _ (c .before .before .before .before .backdrop .result) _ (c .before .before .before .before .backdrop .ensures) _ _ (c .before .summed .given .1)
+    let b = c .before .before .before .before .backdrop-checked in
+    summed-no _ _ _ _ _ _ _ _ _ (b .result) _ (b .ensures) _ _ (c .before .summed .given .1)
 
 enum-told : tie.Need-enum-told
 enum-told c = search needs
 
-room-of-requires : tie.Need-room-of-requires
-room-of-requires c κs = search needs
+slots-of-requires : tie.Need-slots-of-requires
+slots-of-requires c κs = search needs
 
 hand-out-requires : tie.Need-hand-out-requires
 hand-out-requires c κs = search needs
@@ -41,13 +43,17 @@ same-length-4 c = search needs
 
 returns-2 : tie.Need-returns-2
 returns-2 c =
-    handed-no _ _ _ _ _ _ _ _ _ (c .before .before .before .before .before .before .before .before .before .before .before .before .before .before .backdrop .result) _ (c .before .before .before .before .before .before .before .before .before .before .before .before .before .before .backdrop .ensures) (c .before .before .before .before .before .before .before .before .before .before .before .enum-told .given .1) _ (c .before .before .before .before .before .before .before .before .before .before .room-of .ensures) (c .before .before .before .before .before .before .before .hand-out .result) _ _ (c .before .before .before .before .before .before .before .hand-out .ensures) _ _ (c .before .handed .given .1)
+    let b = c .before .before .before .before .before .before .before .before .before .before .before .before .before .before .backdrop-checked in
+    let h = c .before .before .before .before .before .before .before .hand-out in
+    handed-no _ _ _ _ _ _ _ _ _ (b .result) _ (b .ensures) (c .before .before .before .before .before .before .before .before .before .before .before .enum-told .given .1) _ (c .before .before .before .before .before .before .before .before .before .before .slots-of .ensures)
+    (h .result) _ _ (h .ensures) _ _ (c .before .handed .given .1)
 
 enum-told-2 : tie.Need-enum-told-2
 enum-told-2 c = search needs
 
-tile-requires : tie.Need-tile-requires
-tile-requires c κs = search needs
+-- hand-out leaves as many tiles
+tile-checked-requires : tie.Need-tile-checked-requires
+tile-checked-requires c κs = rw (c .before .before .before .before .before .before .before .tiles .given) (c .before .before .before .before .before .before .before .before .before .before .before .before .before .before .before .before .before .before .before .before .before .before .before .before .pre .0)
 
 enum-known-tiled : tie.Need-enum-known-tiled
 enum-known-tiled c = search needs
@@ -66,7 +72,11 @@ same-length-8 c = search needs
 
 returns-3 : tie.Need-returns-3
 returns-3 c =
-    tiled-no _ _ _ _ _ _ _ _ _ (c .before .before .before .before .before .before .before .before .before .before .before .before .before .before .before .before .before .before .before .before .before .backdrop .result) _ (c .before .before .before .before .before .before .before .before .before .before .before .before .before .before .before .before .before .before .before .before .before .backdrop .ensures) (c .before .before .before .before .before .before .before .before .before .before .before .before .before .before .before .before .before .before .enum-told .given .1) _ (c .before .before .before .before .before .before .before .before .before .before .before .before .before .before .before .before .before .room-of .ensures) (c .before .before .before .before .before .before .before .before .before .before .before .before .before .before .hand-out .result) _ _ (c .before .before .before .before .before .before .before .before .before .before .before .before .before .before .hand-out .ensures) (c .before .before .before .before .before .before .before .before .enum-told2 .given .1) (c .before .before .before .before .before .tile .result) _ (c .before .before .before .before .before .tile .ensures) _ _ (c .before .tiled .given .1)
+    let b = c .before .before .before .before .before .before .before .before .before .before .before .before .before .before .before .before .before .before .before .before .before .backdrop-checked in
+    let h = c .before .before .before .before .before .before .before .before .before .before .before .before .before .before .hand-out in
+    let t = c .before .before .before .before .before .tile-checked in
+    tiled-no _ _ _ _ _ _ _ _ _ (b .result) _ (b .ensures) (c .before .before .before .before .before .before .before .before .before .before .before .before .before .before .before .before .before .before .enum-told .given .1) _ (c .before .before .before .before .before .before .before .before .before .before .before .before .before .before .before .before .before .slots-of .ensures)
+    (h .result) _ _ (h .ensures) (c .before .before .before .before .before .before .before .before .enum-told2 .given .1) (t .result) _ (t .ensures) _ _ (c .before .tiled .given .1)
 
 enum-told-3 : tie.Need-enum-told-3
 enum-told-3 c = search needs
@@ -85,18 +95,22 @@ same-length-12 c = search needs
 
 returns-4 : tie.Need-returns-4
 returns-4 c =
-    all-done _ _ _ _ _ _ _ _ _ (c .before .before .before .before .before .before .before .before .before .before .before .before .before .before .before .before .before .before .before .before .backdrop .result) _ (c .before .before .before .before .before .before .before .before .before .before .before .before .before .before .before .before .before .before .before .before .backdrop .ensures) (c .before .before .before .before .before .before .before .before .before .before .before .before .before .before .before .before .before .enum-told .given .1) _ (c .before .before .before .before .before .before .before .before .before .before .before .before .before .before .before .before .room-of .ensures) (c .before .before .before .before .before .before .before .before .before .before .before .before .before .hand-out .result) _ _ (c .before .before .before .before .before .before .before .before .before .before .before .before .before .hand-out .ensures) (c .before .before .before .before .before .before .before .enum-told2 .given .1) (c .before .before .before .before .tile .result) _ (c .before .before .before .before .tile .ensures) (c .enum-told3 .given .1)
+    let b = c .before .before .before .before .before .before .before .before .before .before .before .before .before .before .before .before .before .before .before .before .backdrop-checked in
+    let h = c .before .before .before .before .before .before .before .before .before .before .before .before .before .hand-out in
+    let t = c .before .before .before .before .tile-checked in
+    all-done _ _ _ _ _ _ _ _ _ (b .result) _ (b .ensures) (c .before .before .before .before .before .before .before .before .before .before .before .before .before .before .before .before .before .enum-told .given .1) _ (c .before .before .before .before .before .before .before .before .before .before .before .before .before .before .before .before .slots-of .ensures)
+    (h .result) _ _ (h .ensures) (c .before .before .before .before .before .before .before .enum-told2 .given .1) (t .result) _ (t .ensures) (c .enum-told3 .given .1)
 
 pub place-spec : {M : Type 1} → statement M
 place-spec =
     tie.close
     (tie.spec
-    backdrop-requires
+    backdrop-checked-requires
     enum-known-summed
     same-length
     returns
     enum-told
-    room-of-requires
+    slots-of-requires
     hand-out-requires
     enum-known-handed
     same-length-2
@@ -104,7 +118,7 @@ place-spec =
     same-length-4
     returns-2
     enum-told-2
-    tile-requires
+    tile-checked-requires
     enum-known-tiled
     same-length-5
     same-length-6

@@ -14,7 +14,8 @@ use Rattle.panel.specs.Signed.{inI32}
 use Rattle.acts.specs.Acts.{on, deltaOf}
 use Rattle.acts.proofs.Signs.{told}
 use Rattle.acts.proofs.Laws.{check-off, check-full, check-marked, check-passes}
-use Rattle.path_count.specs.Steps.{hitAt, zOf, seenOf}
+use Rattle.path_count.specs.Steps.{hitAt}
+use Rattle.path_count.specs.Notes.{zOf, seenOf}
 use Rattle.path_count.specs.declared.kinds.Seen.{Seen}
 use Rattle.path_count.specs.declared.kinds.Seen.the-variants.{Passed}
 use Rattle.walk.proofs.Tiles.{step-told, tile-in}

@@ -9,7 +9,8 @@ use Rattle.panel.specs.declared.kinds.Verdict.{Verdict}
 use Rattle.walk.specs.Step.{lastZ}
 use Rattle.acts.specs.Acts.{checkNo, stepsActs, deltaOf}
 use Rattle.acts.proofs.Laws.{steps-turn, steps-end, check-goes, check-stops, check-ends}
-use Rattle.path_count.specs.Steps.{hitAt, zOf, seenOf}
+use Rattle.path_count.specs.Steps.{hitAt}
+use Rattle.path_count.specs.Notes.{zOf, seenOf}
 use Rattle.path_count.specs.declared.kinds.Seen.{Seen}
 use Rattle.exact.proofs.Limits.{far}
 use Rattle.walk.proofs.Counts.{in-float}

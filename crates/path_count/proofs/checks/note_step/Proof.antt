@@ -14,7 +14,8 @@ use Rattle.panel.specs.Signed.{inI32}
 use Rattle.acts.specs.Acts.{on, deltaOf, checkNo, stepActs}
 use Rattle.acts.proofs.Signs.{told}
 use Rattle.acts.proofs.Laws.{check-off, check-full, check-passes}
-use Rattle.path_count.specs.Steps.{hitAt, zOf, wordOf, notedOf, notedBy}
+use Rattle.path_count.specs.Steps.{hitAt}
+use Rattle.path_count.specs.Notes.{zOf, wordOf, notedOf, notedBy}
 use Rattle.path_count.specs.declared.kinds.Noted.{Noted}
 use Rattle.path_count.specs.declared.kinds.Seen.{Seen}
 use Rattle.path_count.specs.declared.kinds.Noted.the-variants.{Passed}

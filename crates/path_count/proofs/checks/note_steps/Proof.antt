@@ -10,7 +10,8 @@ use Rattle.panel.specs.Widths.{stepRange}
 use Rattle.walk.specs.Step.{lastZ}
 use Rattle.acts.specs.Acts.{checkNo, stepsActs, deltaOf}
 use Rattle.acts.proofs.Laws.{steps-turn, steps-end, check-goes, check-stops, check-ends}
-use Rattle.path_count.specs.Steps.{hitAt, Told, Notes}
+use Rattle.path_count.specs.Steps.{hitAt}
+use Rattle.path_count.specs.Notes.{Told, Notes}
 use Rattle.exact.proofs.Limits.{far}
 use Rattle.walk.proofs.Counts.{in-float}
 use Rattle.walk.proofs.Walks.{last-z}

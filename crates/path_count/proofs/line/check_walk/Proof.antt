@@ -6,7 +6,8 @@ use native.Mathlib.Omega.{arith}
 use borrow.Author.Needs.{needs}
 use lib.ListN.{length}
 use Rattle.acts.proofs.Laws.{steps-halves, check-goes, check-stops}
-use Rattle.path_count.specs.Steps.{hitAt, noteWords, notedTo, Notes}
+use Rattle.path_count.specs.Steps.{hitAt}
+use Rattle.path_count.specs.Notes.{noteWords, notedTo, Notes}
 use Rattle.path_count.proofs.Steps.{noted-end, not-fine}
 use Rattle.path_count.proofs.line.check_walk.Statement.{statement}
 use Rattle.path_count.proofs.line.check_walk.Tie as tie

@@ -12,7 +12,8 @@ use Rattle.acts.specs.Line.{planActs}
 use Rattle.acts.specs.Rows.{RowsIn, rowsActs}
 use Rattle.acts.specs.declared.rows.Rows.{Rows}
 use Rattle.acts.proofs.Laws.{rows-done, rows-out, run-first, run-goes}
-use Rattle.path_count.specs.Steps.{OnTiles, hitAt, notedTo, Notes}
+use Rattle.path_count.specs.Steps.{hitAt}
+use Rattle.path_count.specs.Notes.{OnTiles, notedTo, Notes}
 use Rattle.path_count.specs.Count.{rowsBy, planBy}
 use Rattle.path_count.proofs.Lines.{rows-in}
 use Rattle.path_count.proofs.line.write_line.Statement.{statement}

@@ -6,7 +6,7 @@ use Prim.Native.Nat.{_/_, _%_}
 use lib.Dec.{eqb}
 use borrow.Author.Needs.{needs}
 use Rattle.acts.proofs.Laws.{write-count, write-bump, write-hit}
-use Rattle.path_count.specs.Steps.{hitBy}
+use Rattle.path_count.specs.Notes.{hitBy}
 use Rattle.path_count.proofs.Steps.{word-next}
 use Rattle.path_count.proofs.writes.write_noted.Statement.{statement}
 use Rattle.path_count.proofs.writes.write_noted.Tie as tie

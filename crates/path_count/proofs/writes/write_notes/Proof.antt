@@ -9,7 +9,7 @@ use borrow.Author.Needs.{needs}
 use Rattle.lists.specs.Run.{done}
 use Rattle.acts.specs.Acts.{isDone, runActs, stOf, stepsActs, deltaOf}
 use Rattle.acts.proofs.Laws.{steps-turn, steps-end, run-goes, run-first, run-ends}
-use Rattle.path_count.specs.Steps.{hitsBy}
+use Rattle.path_count.specs.Notes.{hitsBy}
 use Rattle.path_count.proofs.writes.write_notes.Statement.{statement}
 use Rattle.path_count.proofs.writes.write_notes.Tie as tie
 use Rattle.path_count.proofs.writes.write_notes.Reads as reads

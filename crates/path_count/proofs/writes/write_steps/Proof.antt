@@ -11,7 +11,8 @@ use Rattle.panel.specs.Widths.{stepRange}
 use Rattle.walk.specs.Step.{lastZ}
 use Rattle.acts.specs.Acts.{isDone, runActs, stOf, stepsActs, deltaOf}
 use Rattle.acts.proofs.Laws.{steps-turn, steps-end, run-goes, run-first, run-ends}
-use Rattle.path_count.specs.Steps.{hitAt, OnTiles}
+use Rattle.path_count.specs.Steps.{hitAt}
+use Rattle.path_count.specs.Notes.{OnTiles}
 use Rattle.exact.proofs.Limits.{far}
 use Rattle.walk.proofs.Counts.{in-float}
 use Rattle.walk.proofs.Walks.{last-z}

@@ -1,11 +1,12 @@
+-- `panel::segments::put` meets its contract: five stores. Assumes nothing.
 use Prim.Native.Nat.{_*_}
 use borrow.Author.Needs.{needs}
 use native.Mathlib.Omega.{arith}
 use lib.ListN.{length-set}
 use Rattle.panel.specs.Widths.{segmentFloats}
-use Rattle.path_tiling.proofs.PutLaws.{five-stores}
-use Rattle.path_tiling.proofs.put.Statement.{statement}
-use Rattle.path_tiling.proofs.put.Tie as tie
+use Rattle.panel.proofs.SegmentLaws.{five-stores}
+use Rattle.panel.proofs.segments.put.Statement.{statement}
+use Rattle.panel.proofs.segments.put.Tie as tie
 
 cast-at : tie.Need-cast-at
 cast-at c = search needs

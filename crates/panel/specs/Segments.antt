@@ -1,0 +1,27 @@
+-- A segment's floats among those lent: tiling writes them, coverage reads them. docs/RULES.md, "Records". Definitions only.
+use mathlib.Core.List.{List, [], _∷_}
+use Prim.Native.Nat.{ℕ, _+_, _*_}
+use lib.ListN.{getD}
+use lib.Seq.{sets}
+use lib.Ieee.{Float, nan}
+use Rattle.util.specs.Vec.{newOf}
+use Rattle.panel.specs.Widths.{segmentFloats}
+use Rattle.panel.specs.declared.segments.Segment.{Segment}
+
+-- point0.x, point0.y, point1.x, point1.y, y_edge
+abbrev pub floatsOf : Segment → List Float
+floatsOf s = s .p0 .x ∷ s .p0 .y ∷ s .p1 .x ∷ s .p1 .y ∷ s .«y_edge» ∷ []
+
+-- into its slot
+abbrev pub putOf : ℕ → Segment → List Float → List Float
+putOf slot s segs = sets segs (slot * segmentFloats) (floatsOf s)
+
+-- and out of slot k
+unfoldable pub segmentAt : List Float → ℕ → Segment
+segmentAt l k =
+    let b = segmentFloats * k in
+    record {
+      p0 = newOf (getD l b nan) (getD l (b + 1) nan);
+      p1 = newOf (getD l (b + 2) nan) (getD l (b + 3) nan);
+      «y_edge» = getD l (b + 4) nan;
+    }

@@ -1,0 +1,23 @@
+-- `path_tiling::tile_checked` meets its contract: a length that fails, or the range. Assumes nothing.
+use mathlib.Core.Path.{_≡_, sym, _∙_}
+use borrow.Author.Needs.{needs}
+use borrow.Author.Tests.{not-true, not-false}
+use Rattle.path_tiling.proofs.CallLaws.{not-whole, ready, called}
+use Rattle.path_tiling.proofs.tile_checked.Statement.{statement}
+use Rattle.path_tiling.proofs.tile_checked.Tie as tie
+
+returns : tie.Need-returns
+returns c = not-whole _ _ _ _ (sym (c .before .whole .ensures) ∙ not-true _ (c .if1 .taken))
+
+tile-range-requires : tie.Need-tile-range-requires
+tile-range-requires c κs =
+    ready _ _ _ (c .before .before .before .before .before .before .before .before .before .args .segments .now) (sym (c .before .before .whole .ensures) ∙ not-false _ (c .before .if1 .left)) (c .before .before .before .before .before .before .before .before .before .pre)
+
+same-length : tie.Need-same-length
+same-length c = search needs
+
+returns-2 : tie.Need-returns-2
+returns-2 c = c .before .before .tile-range .ensures ∙ called _ _ _ _ (sym (c .before .before .before .before .before .whole .ensures) ∙ not-false _ (c .before .before .before .before .if1 .left)) (c .before .before .before .before .before .before .before .before .before .before .before .before .pre)
+
+pub tile-checked-spec : {M : Type 1} → statement M
+tile-checked-spec = tie.close (tie.spec (λ c κs. tt) returns tile-range-requires same-length returns-2)
