@@ -3,16 +3,16 @@
 use mathlib.Core.Path.{_≡_}
 use mathlib.Core.Logic.{_⊎_}
 use mathlib.Core.Bool.{Bool, true, false}
-use mathlib.Core.List.{List, [], _∷_}
+use mathlib.Core.List.{List, _++_}
 use Prim.Native.Nat.{ℕ, _+_, _-_, _*_, _/_, _≤_, _<_, min}
 use lib.IntN.{ℤ, pos}
-use lib.ListN.{length, replicate}
+use lib.ListN.{length, replicate, drop}
 use lib.Ieee.{Float}
 use Rattle.lists.specs.Run.{done}
 use Rattle.lists.specs.Sums.{sum}
 use Rattle.lists.specs.Tally.{zeros}
-use Rattle.panel.specs.Limits.{mostTiles, mostSlots, mostCommands}
-use Rattle.panel.specs.Refusals.{notWhole, tooMany, noRoom, sumOver, tooLong}
+use Rattle.panel.specs.Limits.{mostTiles, mostSlots, mostCommands, sideMost}
+use Rattle.panel.specs.Refusals.{notWhole, tooMany, noRoom, sumOver, tooLong, badSize, badFile}
 use Rattle.panel.specs.Widths.{refWords, segmentFloats}
 use Rattle.panel.specs.Kinds.{runningOf}
 use Rattle.panel.specs.Checks.{Check, firstNo}
@@ -43,6 +43,13 @@ use Rattle.write_lists.specs.Pairs.{Tables}
 use Rattle.write_lists.specs.Layout.{written}
 use Rattle.write_lists.specs.Lists as Lists
 use Rattle.write_lists.specs.Lists.{listsOf}
+use Rattle.ppm_write.specs.Bytes.{pixelBytes}
+use Rattle.ppm_write.specs.File.{fileOf}
+use Rattle.ppm_write.specs.declared.Written.{Written}
+use Rattle.ppm_write.specs.declared.Written.the-variants as Written
+use Rattle.ppm_read.specs.Grammar.{IsHeader}
+use Rattle.ppm_read.specs.declared.Answer as Read
+use Rattle.ppm_read.specs.declared.Answer.the-variants as Reading
 use Rattle.theorems.specs.Refusing.{RowWhy, PathsWhy, LineWhy, LookWhy, BackdropWhy}
 use Rattle.theorems.specs.Commands.{TraceWhy}
 use Rattle.theorems.specs.Framing.{tiledAs}
@@ -187,3 +194,33 @@ pub data FrameWay (nos : List ℕ) (coords : List Float) (paths : List ℕ) (bac
   frame-tiled : (a : Answer) (s : Running) (marks : List ℤ) → x ≡ tiledAs a s → Passes (frameRow nos coords backs tiles tally refs segs) paths (length tiles)
       → FrameCounts nos coords paths (length tiles) refs (Counted.Done s) marks ks rs → BackdropWay paths marks Done bs → s .refs ≤ slotsOf (length segs) → ts ≡ hand 0 ks
       → TileWay 0 (s .refs) (lent nos coords paths ts rs) segs a sg → FrameWay nos coords paths backs tiles tally refs segs x bs ts ks rs sg
+
+-- ---- a picture, written and read
+
+-- a width or a height outside 1 to the limit
+abbrev pub BadSide : ℕ → Type 0
+BadSide n = (n < 1) ⊎ (sideMost < n)
+
+abbrev pub BadSides : ℕ → ℕ → Type 0
+BadSides w h = BadSide w ⊎ BadSide h
+
+pub data WriteWay (pixels : List ℕ) (w h : ℕ) (out : List ℕ) (x : Written) (out′ : List ℕ) : Type 0 where
+  -- 17: a side. 1: the pixels aren't as many. 9: the file has no room. Nothing changes
+  bad-size : x ≡ Written.Refused badSize → BadSides w h → out′ ≡ out → WriteWay pixels w h out x out′
+  miscounted : x ≡ Written.Refused notWhole → (BadSides w h → ⊥) → (length pixels ≡ w * h → ⊥) → out′ ≡ out → WriteWay pixels w h out x out′
+  no-place : x ≡ Written.Refused noRoom → (BadSides w h → ⊥) → length pixels ≡ w * h → length out < length (fileOf pixels w h) → out′ ≡ out → WriteWay pixels w h out x out′
+  -- the file stands at the front
+  file-written : x ≡ Written.Done (length (fileOf pixels w h)) → (BadSides w h → ⊥) → length pixels ≡ w * h → length (fileOf pixels w h) ≤ length out
+      → out′ ≡ fileOf pixels w h ++ drop (length (fileOf pixels w h)) out → WriteWay pixels w h out x out′
+
+pub data ReadWay (file out : List ℕ) (x : Read.Answer) (out′ : List ℕ) : Type 0 where
+  -- 18: no header that the grammar has. 17: a side. 18: raster bytes missing or left over. 9: no room for them. Nothing changes
+  no-header : x ≡ Reading.Refused badFile → ((w h : ℕ) (raster : List ℕ) → IsHeader file w h raster → ⊥) → out′ ≡ out → ReadWay file out x out′
+  bad-sides : (w h : ℕ) (raster : List ℕ) → IsHeader file w h raster → x ≡ Reading.Refused badSize → BadSides w h → out′ ≡ out → ReadWay file out x out′
+  bad-raster : (w h : ℕ) (raster : List ℕ) → IsHeader file w h raster → x ≡ Reading.Refused badFile → (BadSides w h → ⊥) → (length raster ≡ w * h * pixelBytes → ⊥)
+      → out′ ≡ out → ReadWay file out x out′
+  no-bytes : (w h : ℕ) (raster : List ℕ) → IsHeader file w h raster → x ≡ Reading.Refused noRoom → (BadSides w h → ⊥) → length raster ≡ w * h * pixelBytes
+      → length out < length raster → out′ ≡ out → ReadWay file out x out′
+  -- the raster stands at the front
+  picture-read : (w h : ℕ) (raster : List ℕ) → IsHeader file w h raster → x ≡ Reading.Done w h → (BadSides w h → ⊥) → length raster ≡ w * h * pixelBytes
+      → length raster ≤ length out → out′ ≡ raster ++ drop (length raster) out → ReadWay file out x out′
