@@ -1,6 +1,6 @@
 -- Refusals are exact: each number is given where its ground holds, and nowhere else. Assumes nothing.
 use mathlib.Core.Path.{_≡_, refl, sym, ap, _∙_}
-use mathlib.Core.Logic.{_≢_, _↔_, inl, inr}
+use mathlib.Core.Logic.{_≢_, _↔_, _⊎_, inl, inr}
 use mathlib.Core.Bool.{Bool, true, false, cond}
 use mathlib.Core.List.{List, [], _∷_}
 use Prim.Native.Nat.{ℕ, _+_, _-_, _≤_, _<_, min}
@@ -34,7 +34,8 @@ use Rattle.acts.specs.Line.{Plan, planActs, haltIf, tooFar, planStep}
 use Rattle.acts.proofs.Lines.{plan-far, plan-full, plan-runs}
 use Rattle.path_count.specs.Count.{planOf, walkedStep, lineStep}
 use Rattle.path_count.proofs.Lines.{is-far, not-far}
-use Rattle.theorems.specs.Refusing.{RowWhy, HandExact, Walks, StopsAt, ActWhy, LineWhy, five, six, seven, eight, nine, stops}
+use Rattle.theorems.specs.Refusing.{RowWhy, HandExact, Walks, StopsAt, ActWhy, LineWhy, five, six, seven, eight, nine, ten, stops}
+use Rattle.theorems.proofs.Grounds.{ends-exact, ends-good, good-ends, plan-hit, plan-stops, plan-halts}
 
 pub no-clash : {A : Type 0} → _≡_ {A = ℕ} 0 1 → A
 no-clash z = absurd (omega arith)
@@ -122,26 +123,27 @@ hand-exact room ns kept = go (hand-case room ns kept)
 -- ---- a line
 
 -- an act that can't be done
-act-why : (δ : ℤ) (l : ℕ) (a : Act) (u : St) (n : ℕ) → act δ l a u ≡ halted n → ActWhy δ u a n
-act-why δ l (mark t) u n e = go (inI32 (getD (u .backs) t (pos 0) +ℤ δ)) (marked δ t u) refl e
+act-why : (δ : ℤ) (l : ℕ) (a : Act) (u : St) (n : ℕ) → act δ l a u ≡ halted n → ActWhy δ u a n ⊎ ((m : ℕ) × (a ≡ stop m) × (m ≡ n))
+act-why δ l (mark t) u n e = inl (go (inI32 (getD (u .backs) t (pos 0) +ℤ δ)) (marked δ t u) refl e)
   where
     go : (b : Bool) (v : St) → inI32 (getD (u .backs) t (pos 0) +ℤ δ) ≡ b → takeIf b v sumOver ≡ halted n → ActWhy δ u (mark t) n
     go true v q f = no-clash cc
     go false v q f = (cc, q)
-act-why δ l (visit t i) u n e = go (ltb (getD (u .counts) t 0) mostCount) (visited l t i u) refl e
+act-why δ l (visit t i) u n e = inl (go (ltb (getD (u .counts) t 0) mostCount) (visited l t i u) refl e)
   where
     go : (b : Bool) (v : St) → ltb (getD (u .counts) t 0) mostCount ≡ b → takeIf b v countOver ≡ halted n → ActWhy δ u (visit t i) n
     go true v q f = no-clash cc
     go false v q f = (cc, ltb-false (getD (u .counts) t 0) mostCount q)
-act-why δ l (stop m) u n e = cc
+act-why δ l (stop m) u n e = inr (m, refl, cc)
 
 act-halts : (δ : ℤ) (l : ℕ) (a : Act) (u : St) (n : ℕ) → ActWhy δ u a n → act δ l a u ≡ halted n
 act-halts δ l (mark t) u n e = rw (e .0, e .1)
 act-halts δ l (visit t i) u n e = rw (e .0, le-ltb (getD (u .counts) t 0) mostCount (e .1))
-act-halts δ l (stop m) u n e = rw e
+act-halts δ l (stop m) u n e = absurd e
 
 -- a run of acts that is refused
-run-why : (δ : ℤ) (l : ℕ) (xs : List Act) (s u : St) (n : ℕ) → runActs δ l xs s ≡ refused u n → (a : Act) × StopsAt δ l xs s u a × ActWhy δ u a n
+run-why : (δ : ℤ) (l : ℕ) (xs : List Act) (s u : St) (n : ℕ) → runActs δ l xs s ≡ refused u n
+    → (a : Act) × StopsAt δ l xs s u a × (ActWhy δ u a n ⊎ ((m : ℕ) × (a ≡ stop m) × (m ≡ n)))
 unfolding runActs
 run-why δ l xs s u n e =
     let w = run-refused (act δ l) xs s u n e in
@@ -185,7 +187,15 @@ module _ (nos : List ℕ) (coords : List Float) (paths : List ℕ) (room l : ℕ
       go false f false g h =
           let o = none-halts (runActs (deltaOf (planOf w b .up)) l (planActs (planOf w b)) s) h in
           let r = run-why (deltaOf (planOf w b .up)) l (planActs (planOf w b)) s (o .0) n (o .1) in
-          stops w b k (not-far (planOf w b .imin) (planOf w b .imax) f) (ltb-false (min room mostSlots) after g) (o .0) (r .0) (r .1) (r .2)
+          why (o .0) (r .0) (r .1) (r .2)
+        where
+          why : (u : St) (a : Act) → StopsAt (deltaOf (planOf w b .up)) l (planActs (planOf w b)) s u a
+              → ActWhy (deltaOf (planOf w b .up)) u a n ⊎ ((m : ℕ) × (a ≡ stop m) × (m ≡ n)) → LineWhy nos coords paths room l s n
+          why u a st (inl c) = stops w b k (not-far (planOf w b .imin) (planOf w b .imax) f) (ltb-false (min room mostSlots) after g) u a st c
+          why u a st (inr c) =
+              let t = plan-stops (planOf w b) (deltaOf (planOf w b .up)) l s u (c .0) (rw (c .1) at st) in
+              ten (sym (c .2) ∙ t .number) w b k (not-far (planOf w b .imin) (planOf w b .imax) f) (ltb-false (min room mostSlots) after g) u (t .step) (t .low) (t .high) (t .ran)
+              (plan-hit w b (t .step) .0 (t .is-off))
 
   -- what the walk of a line as it is lent tells, refused
   walk-why : (m : ℕ) → l < mostLines → walkAt nos coords paths l ≡ Found.Refused m → m ≡ n → LineWhy nos coords paths room l s n
@@ -197,8 +207,8 @@ module _ (nos : List ℕ) (coords : List Float) (paths : List ℕ) (room l : ℕ
       go : (x : Bool) → reachedOf (lineAt coords l .p0) (lineAt coords l .p1) ≡ x → (y : Bool) → ltb (getD nos l 0) (pathCount paths) ≡ y
           → (v : Walked) → walkedOf (lineAt coords l .p0) (lineAt coords l .p1) (pathAt paths (getD nos l 0)) ≡ v
           → cond x (cond y v (Found.Refused noSuch)) (Found.Refused coordinate) ≡ Found.Refused m → LineWhy nos coords paths room l s n
-      go false f y g v i j = let z : coordinate ≡ m = cc in six (sym q ∙ sym z) h f
-      go true f false g v i j = let z : noSuch ≡ m = cc in seven (sym q ∙ sym z) h f (ltb-false (getD nos l 0) (pathCount paths) g)
+      go false f y g v i j = let z : coordinate ≡ m = cc in six (sym q ∙ sym z) h (ends-exact (lineAt coords l) .0 f)
+      go true f false g v i j = let z : noSuch ≡ m = cc in seven (sym q ∙ sym z) h (good-ends (lineAt coords l) f) (ltb-false (getD nos l 0) (pathCount paths) g)
       go true f true g v i j = absurd (never (lineAt coords l .p0) (lineAt coords l .p1) (pathAt paths (getD nos l 0)) m (i ∙ j))
 
   found-no : (m : ℕ) → n ≡ m → (x : Bool) → reachedOf (lineAt coords l .p0) (lineAt coords l .p1) ≡ x → (x ≡ false) × (m ≡ coordinate) → walkAt nos coords paths l ≡ Found.Refused n
@@ -237,10 +247,13 @@ module _ (nos : List ℕ) (coords : List Float) (paths : List ℕ) (room l : ℕ
 
       halts : LineWhy nos coords paths room l s n → lineStep nos coords paths room l l s ≡ halted n
       halts (five q h) = over-line h ∙ ap halted (sym q)
-      halts (six q h e) = by-walk h (Found.Refused n) (found-no coordinate q false e (refl, refl))
-      halts (seven q h e f) = by-walk h (Found.Refused n) (found-seven q e f)
+      halts (six q h e) = by-walk h (Found.Refused n) (found-no coordinate q false (ends-exact (lineAt coords l) .1 e) (refl, refl))
+      halts (seven q h e f) = by-walk h (Found.Refused n) (found-seven q (ends-good (lineAt coords l) e) f)
       halts (eight q w b k f g) = by-walk (k .0) (Found.Line w b) (k .1) ∙ plan-far room l (planOf w b) s f g ∙ ap halted (sym q)
       halts (nine q w b k f g) = by-walk (k .0) (Found.Line w b) (k .1) ∙ plan-full room l (planOf w b) s f g ∙ ap halted (sym q)
+      halts (ten q w b k f g u i low high ran c) =
+          by-walk (k .0) (Found.Line w b) (k .1) ∙ plan-runs room l (planOf w b) s f g
+          ∙ ap allOrNone (plan-halts (planOf w b) (deltaOf (planOf w b .up)) l s u i low high ran (plan-hit w b i .1 c)) ∙ ap halted (sym q)
       halts (stops w b k f g u a c d) =
           by-walk (k .0) (Found.Line w b) (k .1) ∙ plan-runs room l (planOf w b) s f g
           ∙ ap allOrNone (run-halts (deltaOf (planOf w b .up)) l (planActs (planOf w b)) s u n a c d)

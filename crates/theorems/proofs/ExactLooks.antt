@@ -26,7 +26,8 @@ use Rattle.segment.specs.declared.Piece.the-variants.{Kept, Crooked}
 use Rattle.path_tiling.specs.Look as Look
 use Rattle.path_tiling.specs.Look.{Lent, packedAt, stepNo, sliceNo, pieceTo, wordTo, stepTo, foundTo, foundOf, lookOf}
 use Rattle.path_tiling.specs.declared.look.Look.the-variants.{Empty, Against}
-use Rattle.theorems.specs.Refusing.{RefWalks, RefOn, LookWhy, sevenLine, sixLine, sevenPath, sevenSkipped, ten, nineSlot, twelve}
+use Rattle.theorems.specs.Refusing.{RefWalks, RefOn, LookWhy, sevenLine, sixLine, sevenPath, sevenSkipped, tenStep, nineSlot, twelve}
+use Rattle.theorems.proofs.Grounds.{ends-exact, ends-good, good-ends, step-exact, piece-exact}
 use Rattle.theorems.proofs.Exact.{no-clash, never}
 
 -- a tile's word
@@ -53,8 +54,8 @@ module _ (L : Lent) (slots k n : ℕ) where
   step-why w b h (On.Tile t x y z) e f =
       let r = word-why slots (getD (L .indices) (t .0) 0) (sliceNo (packedAt (L .refs) k)) (pieceOf w (stepNo (packedAt (L .refs) k)) z x y) n f in
       let o : RefOn L k w b = record { tile = t; x = x; y = y; z = z; fell = e; handed = r .0 } in
-      ⊎-elim (λ q. nineSlot (q .0) w b h o (q .1)) (λ q. twelve (q .0) w b h o (q .1) (q .2)) (r .1)
-  step-why w b h On.Refused e f = ten (cc) w b h e
+      ⊎-elim (λ q. nineSlot (q .0) w b h o (q .1)) (λ q. twelve (q .0) w b h o (q .1) (piece-exact w (stepNo (packedAt (L .refs) k)) z x y .0 (q .2))) (r .1)
+  step-why w b h On.Refused e f = tenStep (cc) w b h (step-exact (w .pace) b (stepNo (packedAt (L .refs) k)) .0 e)
 
   found-why : Look.lineAt (L .refs) k < length (L .pathNos) → (x : Walked) → walkAt (L .pathNos) (L .coords) (L .paths) (Look.lineAt (L .refs) k) ≡ x
       → foundTo (L .indices) slots (packedAt (L .refs) k) x ≡ Against n → LookWhy L slots k n
@@ -76,8 +77,10 @@ module _ (L : Lent) (slots k n : ℕ) where
       go : (x : Bool) → reachedOf p0 p1 ≡ x → (y : Bool) → ltb (getD (L .pathNos) (Look.lineAt (L .refs) k) 0) (pathCount (L .paths)) ≡ y
           → (v : Walked) → walkedOf p0 p1 (pathAt (L .paths) (getD (L .pathNos) (Look.lineAt (L .refs) k) 0)) ≡ v
           → cond x (cond y v (Found.Refused noSuch)) (Found.Refused coordinate) ≡ Found.Refused m → LookWhy L slots k n
-      go false g y i v j d = let z : coordinate ≡ m = cc in sixLine (sym same ∙ sym z) h g
-      go true g false i v j d = let z : noSuch ≡ m = cc in sevenPath (sym same ∙ sym z) h g (ltb-false (getD (L .pathNos) (Look.lineAt (L .refs) k) 0) (pathCount (L .paths)) i)
+      go false g y i v j d = let z : coordinate ≡ m = cc in sixLine (sym same ∙ sym z) h (ends-exact (lineAt (L .coords) (Look.lineAt (L .refs) k)) .0 g)
+      go true g false i v j d =
+          let z : noSuch ≡ m = cc in
+          sevenPath (sym same ∙ sym z) h (good-ends (lineAt (L .coords) (Look.lineAt (L .refs) k)) g) (ltb-false (getD (L .pathNos) (Look.lineAt (L .refs) k) 0) (pathCount (L .paths)) i)
       go true g true i v j d = absurd (never p0 p1 (pathAt (L .paths) (getD (L .pathNos) (Look.lineAt (L .refs) k) 0)) m (j ∙ d))
 
   -- and back
@@ -144,9 +147,12 @@ module _ (L : Lent) (slots k n : ℕ) where
 
       halts : LookWhy L slots k n → lookOf L slots k ≡ Against n
       halts (sevenLine q h) = no-line h ∙ ap Against (sym q)
-      halts (sixLine q h e) = no-walk coordinate h (walk-six e) ∙ ap Against (sym q)
-      halts (sevenPath q h e f) = no-walk noSuch h (walk-seven e f) ∙ ap Against (sym q)
+      halts (sixLine q h e) = no-walk coordinate h (walk-six (ends-exact (lineAt (L .coords) (Look.lineAt (L .refs) k)) .1 e)) ∙ ap Against (sym q)
+      halts (sevenPath q h e f) = no-walk noSuch h (walk-seven (ends-good (lineAt (L .coords) (Look.lineAt (L .refs) k)) e) f) ∙ ap Against (sym q)
       halts (sevenSkipped q h e) = no-skip h e ∙ ap Against (sym q)
-      halts (ten q w b h e) = step-ten w b h e ∙ ap Against (sym q)
+      halts (tenStep q w b h e) = step-ten w b h (step-exact (w .pace) b (stepNo (packedAt (L .refs) k)) .1 e) ∙ ap Against (sym q)
       halts (nineSlot q w b h o f) = by-word w b h o ∙ word-nine (getD (L .indices) (o .tile .0) 0) (sliceNo (packedAt (L .refs) k)) _ (o .handed) f ∙ ap Against (sym q)
-      halts (twelve q w b h o f e) = by-word w b h o ∙ word-twelve (getD (L .indices) (o .tile .0) 0) (sliceNo (packedAt (L .refs) k)) _ (o .handed) f e ∙ ap Against (sym q)
+      halts (twelve q w b h o f e) =
+          by-word w b h o
+          ∙ word-twelve (getD (L .indices) (o .tile .0) 0) (sliceNo (packedAt (L .refs) k)) _ (o .handed) f (piece-exact w (stepNo (packedAt (L .refs) k)) (o .z) (o .x) (o .y) .1 e)
+          ∙ ap Against (sym q)

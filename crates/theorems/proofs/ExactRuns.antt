@@ -1,22 +1,17 @@
--- Refusals are exact: a batch of counting stops before the first line refused; the only stop in a walk is 10; backdrop stops before the first path
--- with 11. Assumes nothing.
+-- Refusals are exact: a batch of counting stops before the first line refused. Assumes nothing.
 use mathlib.Core.Path.{_≡_, refl, sym, ap, _∙_}
 use mathlib.Core.Logic.{_↔_}
-use mathlib.Core.Bool.{true, false}
-use mathlib.Core.List.{List, [], _∷_, _++_}
+use mathlib.Core.List.{List}
 use Prim.Native.Nat.{ℕ, zero, suc, _+_, _-_, _<_}
 use native.Mathlib.Omega.{arith}
-use lib.IntN.{ℤ}
 use lib.Ieee.{Float}
-use Rattle.lists.specs.Run.{Step, taken, halted, Ran, done, refused, run, onStep, andThen, All, all-append}
+use Rattle.lists.specs.Run.{Step, taken, halted, Ran, done, refused, run, onStep, andThen}
 use Rattle.lists.specs.Sums.{from}
-use Rattle.panel.specs.Refusals.{outside}
-use Rattle.acts.specs.Acts.{St, Act, mark, visit, stop, Hit, on, off, rowActs, stepActs, stepsActs}
-use Rattle.acts.specs.Rows.{rowsActs}
-use Rattle.acts.specs.Line.{Plan, planActs, Refusal, atLine, batchOf}
+use Rattle.acts.specs.Acts.{St}
+use Rattle.acts.specs.Line.{Refusal, atLine, batchOf}
 use Rattle.acts.proofs.Lines.{batch-append}
 use Rattle.path_count.specs.Count.{lineStep, batch}
-use Rattle.theorems.specs.Refusing.{StopsAt, BatchWhy}
+use Rattle.theorems.specs.Refusing.{BatchWhy}
 use Rattle.theorems.proofs.Exact.{no-clash}
 
 -- ---- a batch
@@ -96,36 +91,3 @@ module _ (nos : List ℕ) (coords : List Float) (paths : List ℕ) (room a b : �
           let w : record { no = why .no; line = a + (why .line - a) } ≡ why = λ i. record { no = why .no; line = z i } in
           batch-halts f (b - a) a (why .line - a) s u (why .no) (omega (arith, r .from-a, r .below-b)) (r .ran) (rw z (r .halts))
           ∙ ap (refused u) w
-
--- ---- the only stop
-
-abbrev StopOut : Act → Type 0
-StopOut (mark t) = Unit {0}
-StopOut (visit t i) = Unit {0}
-StopOut (stop n) = n ≡ outside
-
-rows-out : (first top width k y : ℕ) → All StopOut (rowActs first top width k y)
-unfolding rowActs
-rows-out first top width zero y = tt
-rows-out first top width (suc k) y = (tt, rows-out first top width k (suc y))
-
-step-out : (h : Hit) (i : ℕ) → All StopOut (stepActs h i)
-step-out (on t true) i = (tt, (tt, tt))
-step-out (on t false) i = (tt, tt)
-step-out off i = (refl, tt)
-
-steps-out : (f : ℕ → Hit) (k i : ℕ) → All StopOut (stepsActs f k i)
-unfolding stepsActs
-steps-out f zero i = tt
-steps-out f (suc k) i = all-append StopOut (stepActs (f i) i) (stepsActs f k (suc i)) (step-out (f i) i) (steps-out f k (suc i))
-
-all-in : (xs : List Act) (a : Act) (ys : List Act) → All StopOut (xs ++ a ∷ ys) → StopOut a
-all-in [] a ys h = h .0
-all-in (x ∷ xs) a ys h = all-in xs a ys (h .1)
-
--- a line's walk stops with 10 alone
-pub stop-is-outside : (p : Plan) (δ : ℤ) (l : ℕ) (s u : St) (n : ℕ) → StopsAt δ l (planActs p) s u (stop n) → n ≡ outside
-stop-is-outside p δ l s u n w =
-    all-in (w .before) (stop n) (w .after)
-    (rw (w .split) at (all-append StopOut (rowsActs (p .rows)) (stepsActs (p .hit) (p .imax - p .imin) (p .imin))
-    (rows-out (p .rows .first) (p .rows .top) (p .rows .width) (p .rows .high - p .rows .low) (p .rows .low)) (steps-out (p .hit) (p .imax - p .imin) (p .imin))))

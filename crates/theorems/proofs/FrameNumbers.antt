@@ -15,6 +15,7 @@ use Rattle.panel.specs.declared.kinds.Running.{Running}
 use Rattle.panel.specs.Slots.{slotOf}
 use Rattle.panel.specs.declared.kinds.TileNo.{TileNo}
 use Rattle.walk.specs.Step.{stepOf}
+use Rattle.walk.specs.Lent as WalkLent
 use Rattle.walk.specs.Lent.{walkAt}
 use Rattle.walk.specs.declared.step.Step.the-variants as On
 use Rattle.walk.specs.declared.lent.Walked.the-variants.{Line}
@@ -32,13 +33,13 @@ use Rattle.frame.specs.declared.kinds.Framed.the-variants.{Refused}
 use Rattle.theorems.specs.Drawn.{actsBy, walkOf, drawnAt}
 use Rattle.theorems.specs.Events.{Event, EventOwn, eventsIn, eventsOf, tilesEv, sliceOf}
 use Rattle.theorems.specs.Refs.{AllCounted}
-use Rattle.theorems.specs.Refusing.{StopsAt, ActWhy, LineWhy, five, six, seven, eight, nine, stops, RangeWhy, LookWhy, sevenLine, sixLine, sevenPath, sevenSkipped, ten, nineSlot, twelve}
+use Rattle.theorems.specs.Refusing.{StopsAt, ActWhy, LineWhy, five, six, seven, eight, nine, ten, stops, RangeWhy, LookWhy, sevenLine, sixLine, sevenPath, sevenSkipped, tenStep, nineSlot, twelve}
 use Rattle.theorems.proofs.Slots.{slice-below}
 use Rattle.theorems.proofs.SumLaws.{noEvent, eventAt, all-at, in-list, events, whole, Whole, tiles-below, owned, ref-line, ref-step, ref-slice, event-tile, sums}
 use Rattle.theorems.proofs.Counting.{length-tiles}
 use Rattle.theorems.proofs.StrayLaws.{word-back}
 use Rattle.theorems.proofs.Exact.{no-clash, line-exact}
-use Rattle.theorems.proofs.ExactRuns.{stop-is-outside}
+use Rattle.theorems.proofs.Grounds.{good-ends, step-exact}
 use Rattle.theorems.proofs.ExactLooks.{look-exact}
 use Rattle.theorems.proofs.Framing.{frame-refused, frame-why, frame-line, frame-slots, frame-no-sums}
 
@@ -51,12 +52,13 @@ line-number nos coords paths room l s n (six e h r) = (omega arith, omega arith)
 line-number nos coords paths room l s n (seven e h r p) = (omega arith, omega arith)
 line-number nos coords paths room l s n (eight e w b h i j) = (omega arith, omega arith)
 line-number nos coords paths room l s n (nine e w b h i j) = (omega arith, omega arith)
+line-number nos coords paths room l s n (ten e w b h i j u k p q r o) = (omega arith, omega arith)
 line-number nos coords paths room l s n (stops w b h i j u a st q) = go a st q
   where
     go : (a : Act) → StopsAt (deltaOf (planOf w b .up)) l (planActs (planOf w b)) s u a → ActWhy (deltaOf (planOf w b .up)) u a n → (4 < n) × (n < 12)
     go (mark t) st q = let e = q .0 in (omega arith, omega arith)
     go (visit t i) st q = let e = q .0 in (omega arith, omega arith)
-    go (stop m) st q = let e = stop-is-outside (planOf w b) (deltaOf (planOf w b .up)) l s u m st in (omega arith, omega arith)
+    go (stop m) st q = absurd q
 
 -- ---- tiling
 
@@ -111,16 +113,15 @@ module _ (b : ℕ) (nos : List ℕ) (coords : List Float) (paths : List ℕ) (n 
 
   no-other : (why : ℕ) → LookWhy (lent nos coords paths (hand 0 cs) rs) slots k why → why ≡ crooked
   no-other why (sevenLine e h) = absurd (omega (arith, line-in))
-  no-other why (sixLine e h r) =
-      let t = line-told nos coords paths (lineAt rs k) (own .walk) (own .box) walked .reached in
-      no-clash cc
+  no-other why (sixLine e h r) = absurd (good-ends (WalkLent.lineAt coords (lineAt rs k)) (line-told nos coords paths (lineAt rs k) (own .walk) (own .box) walked .reached) r)
   no-other why (sevenPath e h r p) = absurd (omega (arith, line-told nos coords paths (lineAt rs k) (own .walk) (own .box) walked .path-in))
   no-other why (sevenSkipped e h z) = let t = walked in no-clash cc
-  no-other why (ten e v c h r) =
+  no-other why (tenStep e v c h r) =
       let s : Line v c ≡ Line (own .walk) (own .box) = sym (h .1) ∙ walked in
       let x : v ≡ own .walk = cc in
       let y : c ≡ own .box = cc in
-      let z : stepOf (own .walk .pace) (own .box) (eventAt es k .step) ≡ On.Refused = rw (x, y, step) at r in
+      let q : stepOf (v .pace) c (stepNo (packedAt rs k)) ≡ On.Refused = step-exact (v .pace) c (stepNo (packedAt rs k)) .1 r in
+      let z : stepOf (own .walk .pace) (own .box) (eventAt es k .step) ≡ On.Refused = rw (x, y, step) at q in
       let f = own .on .fell in
       no-clash cc
   no-other why (nineSlot e v c h o p) =

@@ -68,7 +68,7 @@ paper-said r b nos coords paths bs cs rs =
     go Answer.Done (refused s why) = (Counted.Refused (why .no) (why .line) (runningOf (why .line) (s .made)), refl)
     go (Answer.Refused n item) o = (Counted.Refused n item r, refl)
 
-counts-long : (b : ℕ) (nos : List ℕ) (coords : List Float) (paths : List ℕ) (n : ℕ) (refs : List ℕ) (bs : List ℤ) (cs rs : List ℕ) (m : ℕ)
+pub counts-long : (b : ℕ) (nos : List ℕ) (coords : List Float) (paths : List ℕ) (n : ℕ) (refs : List ℕ) (bs : List ℤ) (cs rs : List ℕ) (m : ℕ)
     → AllCounted b nos coords paths n refs bs cs rs m → length cs ≡ n
 counts-long b nos coords paths n refs bs cs rs m all =
     same-lengths nos coords paths n (passed b nos coords paths n refs bs cs rs m all) (length refs / refWords) 0 b (startOf n refs) (stOf bs cs rs m)
@@ -82,21 +82,21 @@ module _ (nos : List ℕ) (coords : List Float) (paths : List ℕ) (backs : List
   Ways o = Way nos coords paths backs tiles tally refs segs o
 
   module _ (ok : checksOf nos coords paths backs tiles tally refs segs ≡ Answer.Done) where
-    row : AllOk (lentChecks (length nos) (length coords) (length backs) (length tiles) (length tally) (length refs) (length segs)) × (pathsAnswer paths (length tiles) ≡ Answer.Done)
+    pub row : AllOk (lentChecks (length nos) (length coords) (length backs) (length tiles) (length tally) (length refs) (length segs)) × (pathsAnswer paths (length tiles) ≡ Answer.Done)
     unfolding checksOf
     row =
         let cs = lentChecks (length nos) (length coords) (length backs) (length tiles) (length tally) (length refs) (length segs) in
         let u = unless-done (firstNo cs) 0 (pathsAnswer paths (length tiles)) ok in
         (all-ok cs (u .0), u .1)
 
-    paired : length backs ≡ length tiles
+    pub paired : length backs ≡ length tiles
     paired = eqb-true (length backs) (length tiles) (row .0 .1 .1 .0)
 
-    kept : length tiles ≡ length tally
+    pub kept : length tiles ≡ length tally
     kept = eqb-true (length tiles) (length tally) (row .0 .1 .1 .1 .0)
 
     -- so counting's own checks pass
-    call-ok : callAnswer nos coords paths 0 (length nos) (cleared (length tiles) refs) ≡ Answer.Done
+    pub call-ok : callAnswer nos coords paths 0 (length nos) (cleared (length tiles) refs) ≡ Answer.Done
     unfolding callAnswer
     call-ok =
         let z : 0 ≤ length nos = omega arith in

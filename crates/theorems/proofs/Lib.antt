@@ -9,6 +9,7 @@
 --     Calm                  the sums after a count from zeroed tiles are never refused
 --     StarredTable          the starred cases, computed
 --     OneAnswer             one answer only; the cheats
+--     Grounds               the grounds of 6, 10 and 12 in the rules' words
 --     Exact, ExactRuns, ExactLooks, ExactPaths, ExactStops, ExactCommands   refusals are exact
 --     Together                 these put together
 --     Framing               the call for a frame: its ways, what it leaves, isolation between frames, one answer
@@ -27,6 +28,7 @@ pub mod FineBatches
 pub mod Calm
 pub mod StarredTable
 pub mod OneAnswer
+pub mod Grounds
 pub mod Exact
 pub mod ExactRuns
 pub mod ExactLooks

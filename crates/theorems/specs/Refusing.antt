@@ -6,10 +6,13 @@ use mathlib.Core.List.{List, [], _∷_, _++_}
 use Prim.Native.Nat.{ℕ, zero, suc, _+_, _-_, _%_, _≤_, _<_, min}
 use lib.ListN.{length, getD}
 use lib.IntN.{ℤ, pos, _+ℤ_}
-use lib.Ieee.{Float}
+use lib.Signed.{leZ, ltZ}
+use lib.Ieee.{Float, binary32, add, sub, mul, lt, toSigned}
+use lib.Ieee.Scale.{finite}
+use Rattle.float32.specs.Meaning.{absOf}
 use Rattle.lists.specs.Run.{halted, done}
 use Rattle.lists.specs.Sums.{sum}
-use Rattle.panel.specs.Limits.{mostPaths, mostTiles, mostLines, mostSteps, mostCount, mostSlots, edgeMost}
+use Rattle.panel.specs.Limits.{mostPaths, mostTiles, mostLines, mostSteps, mostCount, mostSlots, edgeMost, coordMost}
 use Rattle.panel.specs.Refusals.{doneNo, notWhole, tooMany, badBox, badRange, lineNumber, coordinate, noSuch, countOver, noRoom, outside, sumOver, crooked}
 use Rattle.panel.specs.Widths.{pathWords}
 use Rattle.panel.specs.Checks.{Check}
@@ -21,14 +24,17 @@ use Rattle.panel.specs.declared.kinds.Verdict.the-variants.{Against}
 use Rattle.panel.specs.Paths.{pathsAnswer}
 use Rattle.backdrop.specs.Backdrop as Backdrop
 use Rattle.hand_out.specs.HandOut.{Out}
-use Rattle.walk.specs.Lent.{lineAt, reachedOf, walkAt}
+use Rattle.walk.specs.Num.{float}
+use Rattle.walk.specs.Lent.{lineAt, walkAt}
+use Rattle.walk.specs.declared.lent.LineEnds.{LineEnds}
+use Rattle.walk.specs.declared.setup.Pace.{Pace}
 use Rattle.walk.specs.declared.setup.Walk.{Walk}
 use Rattle.walk.specs.declared.lent.Walked.the-variants.{Line, Skipped}
-use Rattle.walk.specs.Step.{stepOf}
+use Rattle.walk.specs.Step.{zAt, stepOf}
 use Rattle.walk.specs.declared.step.Step.the-variants as On
 use Rattle.panel.specs.declared.kinds.TileNo.{TileNo}
-use Rattle.segment.specs.Clips.{pieceOf}
-use Rattle.segment.specs.declared.Piece.the-variants.{Crooked}
+use Rattle.segment.specs.Clips.{InTile, segmentOf}
+use Rattle.panel.specs.declared.segments.Segment.{Segment}
 use Rattle.path_tiling.specs.Look as Look
 use Rattle.path_tiling.specs.declared.look.Look.the-variants as Looked
 use Rattle.path_tiling.specs.Look.{lookOf}
@@ -36,8 +42,9 @@ use Rattle.fine.specs.Screen.{endsAt}
 use Rattle.fine.specs.Fine.{tilesOf}
 use Rattle.path_tiling.specs.Look.{Lent, packedAt, stepNo, sliceNo}
 use Rattle.panel.specs.Signed.{inI32}
-use Rattle.acts.specs.Acts.{St, Act, mark, visit, stop, runActs, deltaOf}
-use Rattle.acts.specs.Line.{planActs, Refusal}
+use Rattle.acts.specs.Acts.{St, Act, mark, visit, stop, stepsActs, runActs, deltaOf}
+use Rattle.acts.specs.Rows.{rowsActs}
+use Rattle.acts.specs.Line.{Plan, planActs, Refusal}
 use Rattle.path_count.specs.Count.{planOf, lineStep, batch}
 
 -- ---- a row of checks, as each call makes it first (refusals 1, 2, 13 and 16): the ground of refusal n is the first check that fails
@@ -60,6 +67,37 @@ pub record HandExact (room : ℕ) (ns kept : List ℕ) (o : Out) : Type 0 where
   -- a refusal changes nothing
   pub kept-all : o .paper ≢ doneNo ∷ [] → (o .tiles ≡ ns) × (o .tally ≡ kept)
 
+-- ---- 6: a coordinate not finite, or of magnitude over the limit. `reach-exact` of proofs/Grounds.antt says that the panel's test is this
+
+abbrev pub BadCoordinate : Float → Type 0
+BadCoordinate x = (finite x ≡ false) ⊎ (lt coordMost (absOf x) ≡ true)
+
+-- one of a line's four
+abbrev pub BadEnds : LineEnds → Type 0
+BadEnds e = BadCoordinate (e .p0 .x) ⊎ BadCoordinate (e .p0 .y) ⊎ BadCoordinate (e .p1 .x) ⊎ BadCoordinate (e .p1 .y)
+
+-- ---- 10: a step's z not finite, or its tile outside its path's box: its column or its row lies before the first or at or past the end. `step-exact`
+
+abbrev pub zOf : Pace → ℕ → Float
+zOf p i = zAt (p .a) (p .b) (float i)
+
+abbrev pub columnOf : Pace → ℕ → ℤ
+columnOf p i = toSigned 31 (add binary32 (p .x0) (mul binary32 (p .sign) (zOf p i)))
+
+abbrev pub rowOf : Pace → ℕ → ℤ
+rowOf p i = toSigned 31 (sub binary32 (add binary32 (p .y0) (float i)) (zOf p i))
+
+abbrev pub Off : ℤ → ℕ → ℕ → Type 0
+Off v low high = (ltZ v (pos low) ≡ true) ⊎ (leZ (pos high) v ≡ true)
+
+abbrev pub StepOutside : Pace → Path → ℕ → Type 0
+StepOutside p b i = (finite (zOf p i) ≡ false) ⊎ Off (columnOf p i) (b .x0) (b .x1) ⊎ Off (rowOf p i) (b .y0) (b .y1)
+
+-- ---- 12: an end not within the tile, 0 to 16 in x and in y, which a NaN isn't. `piece-exact`
+
+abbrev pub EndOutside : Segment → Type 0
+EndOutside s = (InTile (s .p0) → ⊥) ⊎ (InTile (s .p1) → ⊥)
+
 -- ---- a line, when counting: the ground of refusal n
 
 -- the clipped walk of line l over its path's box, if it has one: l is below the limit, and neither refused by 6 or 7 nor skipped
@@ -73,27 +111,35 @@ pub record StopsAt (δ : ℤ) (l : ℕ) (xs : List Act) (s u : St) (a : Act) : T
   pub split : xs ≡ before ++ a ∷ after
   pub ran : runActs δ l before s ≡ done u
 
--- why it can't: n is 11 for a mark, 8 for a visit; 10 for a step outside, which is the only stop there is
+-- why it can't: n is 11 for a mark, 8 for a visit. A stop is a step outside, whose ground is `ten` below
 abbrev pub ActWhy : ℤ → St → Act → ℕ → Type 0
 ActWhy δ u (mark t) n = (n ≡ sumOver) × (inI32 (getD (u .backs) t (pos 0) +ℤ δ) ≡ false)
 ActWhy δ u (visit t i) n = (n ≡ countOver) × (mostCount ≤ getD (u .counts) t 0)
-ActWhy δ u (stop m) n = n ≡ m
+ActWhy δ u (stop m) n = ⊥
+
+-- what a walk does before its step i: its row marks, and the steps before that one
+abbrev pub actsBefore : Plan → ℕ → List Act
+actsBefore p i = rowsActs (p .rows) ++ stepsActs (p .hit) (i - p .imin) (p .imin)
 
 pub data LineWhy (nos : List ℕ) (coords : List Float) (paths : List ℕ) (room l : ℕ) (s : St) (n : ℕ) : Type 0 where
   -- 5: line number 65,536 or more
   five : n ≡ lineNumber → mostLines ≤ l → LineWhy nos coords paths room l s n
-  -- 6: a coordinate not finite or too large
-  six : n ≡ coordinate → l < mostLines → reachedOf (lineAt coords l .p0) (lineAt coords l .p1) ≡ false → LineWhy nos coords paths room l s n
+  -- 6: a coordinate not finite, or over the limit
+  six : n ≡ coordinate → l < mostLines → BadEnds (lineAt coords l) → LineWhy nos coords paths room l s n
   -- 7: no such path
-  seven : n ≡ noSuch → l < mostLines → reachedOf (lineAt coords l .p0) (lineAt coords l .p1) ≡ true → pathCount paths ≤ getD nos l 0
-      → LineWhy nos coords paths room l s n
+  seven : n ≡ noSuch → l < mostLines → (BadEnds (lineAt coords l) → ⊥) → pathCount paths ≤ getD nos l 0 → LineWhy nos coords paths room l s n
   -- 8: its largest step number is over 65,535
   eight : n ≡ countOver → (w : Walk) (b : Path) → Walks nos coords paths l w b → planOf w b .imin < planOf w b .imax → mostSteps < planOf w b .imax
       → LineWhy nos coords paths room l s n
   -- 9: references so far plus the line's over the room or 16,777,216
   nine : n ≡ noRoom → (w : Walk) (b : Path) → Walks nos coords paths l w b → (planOf w b .imin < planOf w b .imax → planOf w b .imax ≤ mostSteps)
       → min room mostSlots < s .made + (planOf w b .imax - planOf w b .imin) → LineWhy nos coords paths room l s n
-  -- 8, 10, 11: an act of its walk, the first that can't be done: a tile's count is 65,536 already; a step outside; a backdrop that leaves i32
+  -- 10: all before step i is done and leaves u, and the step's z is not finite or its tile outside the box
+  ten : n ≡ outside → (w : Walk) (b : Path) → Walks nos coords paths l w b → (planOf w b .imin < planOf w b .imax → planOf w b .imax ≤ mostSteps)
+      → s .made + (planOf w b .imax - planOf w b .imin) ≤ min room mostSlots
+      → (u : St) (i : ℕ) → planOf w b .imin ≤ i → i < planOf w b .imax → runActs (deltaOf (planOf w b .up)) l (actsBefore (planOf w b) i) s ≡ done u
+      → StepOutside (w .pace) b i → LineWhy nos coords paths room l s n
+  -- 8, 11: an act of its walk, the first that can't be done: a tile's count is 65,536 already; a backdrop that leaves i32
   stops : (w : Walk) (b : Path) → Walks nos coords paths l w b → (planOf w b .imin < planOf w b .imax → planOf w b .imax ≤ mostSteps)
       → s .made + (planOf w b .imax - planOf w b .imin) ≤ min room mostSlots
       → (u : St) (a : Act) → StopsAt (deltaOf (planOf w b .up)) l (planActs (planOf w b)) s u a → ActWhy (deltaOf (planOf w b .up)) u a n
@@ -129,20 +175,20 @@ pub data LookWhy (L : Lent) (slots k n : ℕ) : Type 0 where
   sevenLine : n ≡ noSuch → length (L .pathNos) ≤ Look.lineAt (L .refs) k → LookWhy L slots k n
   -- for its line 6 and 7: a coordinate; no such path
   sixLine : n ≡ coordinate → Look.lineAt (L .refs) k < length (L .pathNos)
-      → reachedOf (lineAt (L .coords) (Look.lineAt (L .refs) k) .p0) (lineAt (L .coords) (Look.lineAt (L .refs) k) .p1) ≡ false → LookWhy L slots k n
+      → BadEnds (lineAt (L .coords) (Look.lineAt (L .refs) k)) → LookWhy L slots k n
   sevenPath : n ≡ noSuch → Look.lineAt (L .refs) k < length (L .pathNos)
-      → reachedOf (lineAt (L .coords) (Look.lineAt (L .refs) k) .p0) (lineAt (L .coords) (Look.lineAt (L .refs) k) .p1) ≡ true
+      → (BadEnds (lineAt (L .coords) (Look.lineAt (L .refs) k)) → ⊥)
       → pathCount (L .paths) ≤ getD (L .pathNos) (Look.lineAt (L .refs) k) 0 → LookWhy L slots k n
   -- 7: a line the walk skips
   sevenSkipped : n ≡ noSuch → Look.lineAt (L .refs) k < length (L .pathNos)
       → walkAt (L .pathNos) (L .coords) (L .paths) (Look.lineAt (L .refs) k) ≡ Skipped → LookWhy L slots k n
   -- 10: its step's z is not finite, or its tile outside the box
-  ten : n ≡ outside → (w : Walk) (b : Path) → RefWalks L k w b → stepOf (w .pace) b (stepNo (packedAt (L .refs) k)) ≡ On.Refused → LookWhy L slots k n
+  tenStep : n ≡ outside → (w : Walk) (b : Path) → RefWalks L k w b → StepOutside (w .pace) b (stepNo (packedAt (L .refs) k)) → LookWhy L slots k n
   -- 9: its slot number plus 1 is over the slots
   nineSlot : n ≡ noRoom → (w : Walk) (b : Path) → RefWalks L k w b → (o : RefOn L k w b) → slots < refSlot L k o + 1 → LookWhy L slots k n
-  -- 12: an end not within 0..16
+  -- 12: an end of its segment not within the tile
   twelve : n ≡ crooked → (w : Walk) (b : Path) → RefWalks L k w b → (o : RefOn L k w b) → refSlot L k o + 1 ≤ slots
-      → pieceOf w (stepNo (packedAt (L .refs) k)) (o .z) (o .x) (o .y) ≡ Crooked → LookWhy L slots k n
+      → EndOutside (segmentOf w (stepNo (packedAt (L .refs) k)) (o .z) (o .x) (o .y)) → LookWhy L slots k n
 
 -- ---- the paths lent with so many tiles: the ground of refusal n at path k
 
