@@ -4,6 +4,7 @@
 //! is held against too. Made to be read: sums in i64 or i128, one check after another, float methods of std.
 //! Every call has the exported call's parameters, and gives the refusal number.
 
+pub mod answers;
 pub mod backdrop;
 pub mod checks;
 pub mod count;
@@ -17,6 +18,7 @@ pub mod picture;
 pub mod tile;
 pub mod walk;
 
+pub use answers::answers;
 pub use backdrop::backdrop;
 pub use count::{count, count_seen, Seen};
 pub use fill::fill;
