@@ -3,22 +3,9 @@
 use crate::calls::{Call, NAMES};
 use cases::Rng;
 
-/// The answers that a call of a kind can give, all of which the hostile runs want to meet. A frame counts into cleared
-/// tiles, at most 65,536 lines: no tile's count and no sum gets over its limit, so it gives neither 8 nor 11.
+/// The answers that a call of a kind can give, all of which the hostile runs want to meet.
 pub fn answers(kind: u32) -> &'static [u32] {
-    match NAMES[kind as usize] {
-        "count" => &[0, 1, 2, 3, 4, 5, 6, 7, 8, 9, 10, 11],
-        "backdrop" => &[0, 1, 2, 3, 4, 11],
-        "hand_out" => &[0, 1, 2, 9],
-        "tile" => &[0, 1, 2, 3, 4, 6, 7, 9, 10, 12],
-        "fill" => &[0, 1, 13],
-        "fine" => &[0, 1, 2, 13, 14, 15, 16],
-        "frame" => &[0, 1, 2, 3, 4, 5, 6, 7, 9, 10, 12],
-        "write_lists" => &[0, 1, 2, 3, 4, 9, 15],
-        "ppm_write" => &[0, 1, 9, 17],
-        "ppm_read" => &[0, 9, 17, 18],
-        name => panic!("which answers can {name} give?"),
-    }
+    rules::answers(NAMES[kind as usize])
 }
 
 fn bits(line: [f32; 4]) -> Vec<u32> {

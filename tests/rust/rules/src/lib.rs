@@ -5,6 +5,7 @@
 //! and max.
 //! Every call has the exported call's parameters, and gives the refusal number.
 
+pub mod answers;
 pub mod backdrop;
 pub mod checks;
 pub mod count;
@@ -19,6 +20,7 @@ pub mod picture;
 pub mod tile;
 pub mod walk;
 
+pub use answers::answers;
 pub use backdrop::backdrop;
 pub use count::{count, count_seen, Seen};
 pub use fill::fill;
