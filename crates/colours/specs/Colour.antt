@@ -1,4 +1,4 @@
--- Colours: lists of four floats, red first, multiplied by their alpha. fine.rs, lines 33 to 49 and 146 to 156. Definitions only.
+-- Colours: lists of four floats, red first, multiplied by their alpha. fine.rs, lines 34 to 49 and 153 to 165. Definitions only.
 use mathlib.Core.List.{List, [], _∷_}
 use Prim.Native.Nat.{ℕ, _+_, _*_, _/_, _%_, _^_}
 use lib.IntN.{pos}

@@ -1,5 +1,5 @@
 // Colours of four floats, red first, multiplied by their alpha: unpacked from a COLOR command's word,
-// laid over a tile's pixels, and packed for the screen. fine.rs, lines 33 to 49 and 146 to 156;
+// laid over a tile's pixels, and packed for the screen. fine.rs, lines 34 to 49 and 153 to 165;
 // docs/RULES.md, "Coverage and colour".
 use coverage::tile::TILE_SIZE;
 use util::pick;

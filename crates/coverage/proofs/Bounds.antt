@@ -5,16 +5,23 @@ use mathlib.Core.List.{List}
 use Prim.Native.Nat.{ℕ, zero, suc, _<_}
 use lib.Dec.{T}
 use lib.IntN.{ℤ}
-use lib.ListN.{getD}
+use lib.ListN.{getD, length}
+use native.Mathlib.Omega.{arith}
 use lib.Ieee.{Float, nan, binary32, le, fits, ne, ofInt, ofBits}
 use lib.Ieee.Fits.{cond-fits, add-fits, ofInt-fits}
 use lib.Ieee.Scale.{finite}
 use Rattle.float32.proofs.Laws.{cover-in}
 use Rattle.util.specs.Constants as Number
+use Rattle.panel.specs.Checks.{firstNo, unless}
+use Rattle.panel.specs.Kinds.{paperOf}
+use Rattle.panel.specs.declared.kinds.Answer.the-variants.{Done}
+use Rattle.panel.specs.declared.kinds.Verdict.{Verdict}
+use Rattle.panel.specs.declared.kinds.Verdict.the-variants.{Fine, Against}
 use Rattle.lists.specs.GridLaws.{getD-tabulate}
 use Rattle.coverage.specs.Tile.{tileSize}
 use Rattle.coverage.specs.Row.{slanted, edged, stepRow, stepWay, stepSegment}
 use Rattle.coverage.specs.Coverage.{areaAfter, finishOf, sumOf, pixelOf, coverageOf}
+use Rattle.coverage.specs.Fill.{fillOf, fillChecks, ifFine}
 use Rattle.coverage.specs.declared.row.Way.{Way}
 use Rattle.coverage.specs.declared.row.Row.{Row}
 use Rattle.coverage.proofs.Even as Even
@@ -69,3 +76,22 @@ module _ (segs : List Float) (first n : ℕ) (z : ℤ) (xt yt : Float) where
 
   pub even-odd-tile : (k : ℕ) → k < tileSize → T (finite (sumOf segs first n z xt yt k)) → InUnit (getD (coverageOf segs first n true z xt yt) k nan)
   even-odd-tile k h t = subst InUnit (sym (cover-at true k h)) (even-odd-pixel k t)
+
+  -- ---- the call `fill`: where it is done, each pixel of the area lent
+  done-new : (v : Verdict) (new old : List Float) → paperOf (unless v 0 Done) ≡ paperOf Done → ifFine v new old ≡ new
+  done-new Fine new old e = refl
+  done-new (Against m) new old e = let z' : _≡_ {A = ℕ} 0 1 = cc in absurd (omega arith)
+
+  pub fill-nonzero : (area : List Float) → fillOf segs first n false z xt yt area .answer ≡ paperOf Done → (k : ℕ) → k < tileSize
+      → InUnit (getD (fillOf segs first n false z xt yt area .area) k nan)
+  unfolding fillOf
+  fill-nonzero area e k h =
+      let v = firstNo (fillChecks (length segs) (length area) first n) in
+      subst (λ (l : List Float). InUnit (getD l k nan)) (sym (done-new v (coverageOf segs first n false z xt yt) area e)) (nonzero-tile k h)
+
+  pub fill-even-odd : (area : List Float) → fillOf segs first n true z xt yt area .answer ≡ paperOf Done → (k : ℕ) → k < tileSize
+      → T (finite (sumOf segs first n z xt yt k)) → InUnit (getD (fillOf segs first n true z xt yt area .area) k nan)
+  unfolding fillOf
+  fill-even-odd area e k h t =
+      let v = firstNo (fillChecks (length segs) (length area) first n) in
+      subst (λ (l : List Float). InUnit (getD l k nan)) (sym (done-new v (coverageOf segs first n true z xt yt) area e)) (even-odd-tile k h t)

@@ -1,4 +1,4 @@
--- What a segment does to one pixel: fine.rs, lines 60 to 94, operation by operation, each rounded once. Definitions only.
+-- What a segment does to one pixel: fine.rs, lines 59 to 93, operation by operation, each rounded once. Definitions only.
 use mathlib.Core.Bool.{cond}
 use Prim.Native.Nat.{ℕ, _/_, _%_}
 use lib.IntN.{pos}

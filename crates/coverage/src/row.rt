@@ -1,4 +1,4 @@
-// What a segment does to one row of pixels, and to one pixel of it: fine.rs, lines 60 to 90. The
+// What a segment does to one row of pixels, and to one pixel of it: fine.rs, lines 59 to 93. The
 // divisions and signs that are the same in every row stand before the rows.
 use float32::clamp;
 use float32::max;

@@ -1,5 +1,5 @@
 // The screen: its tiles in order, each by its commands, on the pixels lent. docs/RULES.md, "Coverage
-// and colour" and refusals 1, 2, 13 to 16; fine_main of fine.rs, lines 112 to 183.
+// and colour" and refusals 1, 2, 13 to 16; fine_main of fine.rs, lines 112 to 182.
 pub mod screen;
 
 use coverage::tile::TILE_HEIGHT;

@@ -1,4 +1,4 @@
-// The check of a line's steps, path_count.rs lines 133 to 159 with nothing written: 10, 8, 11. The
+// The check of a line's steps, path_count.rs lines 131 to 152 with nothing written: 10, 8, 11. The
 // first steps are noted, so that the write needn't find them again.
 ghost use mathlib.Core.Path.{_≡_};
 ghost use Prim.Native.Nat.{_-_, _<_, _≤_};

@@ -1,4 +1,4 @@
-// The writes of a line's steps that are known to go through, path_count.rs lines 133 to 159: of those
+// The writes of a line's steps that are known to go through, path_count.rs lines 131 to 152: of those
 // that the check noted, and of those past them, which are found again.
 ghost use mathlib.Core.Path.{_≡_};
 ghost use mathlib.Core.Bool.{true};

@@ -1,4 +1,4 @@
-// What one reference comes to: path_tiling.rs, lines 30 to 39 and 62 to 86, with the refusals in the
+// What one reference comes to: path_tiling.rs, lines 24 to 28 and 56 to 76, with the refusals in the
 // place of its panics.
 ghost use mathlib.Core.Path.{_≡_};
 ghost use Prim.Native.Nat.{_*_, _<_, _≤_, _^_};

@@ -34,7 +34,12 @@ fn find() -> Option<PathBuf> {
         Some(folder) => vec![folder],
         None => vec![root.join("../shared/docs/src"), root.join("docs/src")],
     };
-    folders.into_iter().filter_map(|f| f.canonicalize().ok()).find(|f| holds_source(f))
+    let found = folders.iter().position(|f| holds_source(f));
+    // looked for again where it was found, and where it might come to stand
+    for folder in &folders[..found.map_or(folders.len(), |k| k + 1)] {
+        println!("cargo:rerun-if-changed={}", folder.join("src/cpu/util.rs").display());
+    }
+    folders[found?].canonicalize().ok()
 }
 
 /// Ends the build where a file isn't the one that was ported.
@@ -80,7 +85,6 @@ fn main() {
                 hold_against_sums(&folder);
             }
             println!("cargo:rustc-cfg=at_hand");
-            println!("cargo:rerun-if-changed={}", folder.join("src/cpu/util.rs").display());
             fs::write(out, lines_for(&folder)).unwrap();
         }
         None => {

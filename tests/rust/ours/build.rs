@@ -53,7 +53,10 @@ fn main() {
     println!("cargo:rerun-if-changed=build.rs");
     println!("cargo:rerun-if-changed=server.c");
     println!("cargo:rerun-if-changed=server_calls.h");
-    println!("cargo:rustc-check-cfg=cfg(bridge)");
+    println!("cargo:rustc-check-cfg=cfg(bridge, linked)");
+    if env::var("DEP_GROATPOCKET_ARCHIVE").is_ok() {
+        println!("cargo:rustc-cfg=linked");
+    }
     if env::var("DEP_GROATPOCKET_LINKED").is_ok_and(|linked| linked == "false") {
         make_server(Path::new(&env::var_os("DEP_GROATPOCKET_ARCHIVE").expect("the archive's path")));
     }

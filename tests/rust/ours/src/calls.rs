@@ -20,7 +20,9 @@ pub fn count(
     item: &mut u32,
 ) -> u32 {
     #[cfg(feature = "count")]
-    return crate::answers::lines_made_item(groatpocket::count(groatpocket::Running { lines: *lines, references: *made }, end, path_nos, coords, paths, backdrops, counts, refs), lines, made, item);
+    let answer = groatpocket::count(groatpocket::Running { lines: *lines, references: *made }, end, path_nos, coords, paths, backdrops, counts, refs);
+    #[cfg(feature = "count")]
+    return crate::answers::lines_made_item(answer, lines, made, item);
     #[cfg(not(feature = "count"))]
     not_linked(("count", path_nos, coords, paths, backdrops, counts, refs, end, lines, made, item))
 }
@@ -31,7 +33,9 @@ pub fn backdrop(
     item: &mut u32,
 ) -> u32 {
     #[cfg(feature = "backdrop")]
-    return crate::answers::item(groatpocket::backdrop(paths, backdrops), item);
+    let answer = groatpocket::backdrop(paths, backdrops);
+    #[cfg(feature = "backdrop")]
+    return crate::answers::item(answer, item);
     #[cfg(not(feature = "backdrop"))]
     not_linked(("backdrop", paths, backdrops, item))
 }
@@ -42,7 +46,9 @@ pub fn hand_out(
     room: u32,
 ) -> u32 {
     #[cfg(feature = "hand_out")]
-    return crate::answers::nothing(groatpocket::hand_out(counts, tally, room));
+    let answer = groatpocket::hand_out(counts, tally, room);
+    #[cfg(feature = "hand_out")]
+    return crate::answers::nothing(answer);
     #[cfg(not(feature = "hand_out"))]
     not_linked(("hand_out", counts, tally, room))
 }
@@ -59,7 +65,9 @@ pub fn tile(
     item: &mut u32,
 ) -> u32 {
     #[cfg(feature = "tile")]
-    return crate::answers::item(groatpocket::tile(from, to, path_nos, coords, paths, indices, refs, segments), item);
+    let answer = groatpocket::tile(from, to, path_nos, coords, paths, indices, refs, segments);
+    #[cfg(feature = "tile")]
+    return crate::answers::item(answer, item);
     #[cfg(not(feature = "tile"))]
     not_linked(("tile", path_nos, coords, paths, indices, refs, from, to, segments, item))
 }
@@ -81,7 +89,9 @@ pub fn fill(
         return unsafe { groatpocket::raw::gp_fill(segments.as_ptr(), segments.len(), first, number, even_odd, backdrop, x_tile, y_tile, area.as_mut_ptr(), area.len()) };
     }
     #[cfg(feature = "fill")]
-    return crate::answers::nothing(groatpocket::fill(segments, groatpocket::Fill { first, number, even_odd: even_odd != 0, backdrop, x_tile, y_tile }, area));
+    let answer = groatpocket::fill(segments, groatpocket::Fill { first, number, even_odd: even_odd != 0, backdrop, x_tile, y_tile }, area);
+    #[cfg(feature = "fill")]
+    return crate::answers::nothing(answer);
     #[cfg(not(feature = "fill"))]
     not_linked(("fill", segments, first, number, even_odd, backdrop, x_tile, y_tile, area))
 }
@@ -98,7 +108,9 @@ pub fn fine(
     item: &mut u32,
 ) -> u32 {
     #[cfg(feature = "fine")]
-    return crate::answers::item(groatpocket::fine(words, segments, groatpocket::Screen { width, cols, rows }, from, to, pixels), item);
+    let answer = groatpocket::fine(words, segments, groatpocket::Screen { width, cols, rows }, from, to, pixels);
+    #[cfg(feature = "fine")]
+    return crate::answers::item(answer, item);
     #[cfg(not(feature = "fine"))]
     not_linked(("fine", words, segments, width, cols, rows, from, to, pixels, item))
 }
@@ -118,7 +130,9 @@ pub fn frame(
     made: &mut u32,
 ) -> u32 {
     #[cfg(feature = "frame")]
-    return crate::answers::stage_item_lines_made(groatpocket::frame(path_nos, coords, paths, backdrops, tiles, tally, refs, segments), stage, item, lines, made);
+    let answer = groatpocket::frame(path_nos, coords, paths, backdrops, tiles, tally, refs, segments);
+    #[cfg(feature = "frame")]
+    return crate::answers::stage_item_lines_made(answer, stage, item, lines, made);
     #[cfg(not(feature = "frame"))]
     not_linked(("frame", path_nos, coords, paths, backdrops, tiles, tally, refs, segments, stage, item, lines, made))
 }
@@ -136,7 +150,9 @@ pub fn write_lists(
     item: &mut u32,
 ) -> u32 {
     #[cfg(feature = "lists")]
-    return crate::answers::item(groatpocket::write_lists(paths, paints, backdrops, stored, tally, cols, rows, room, words), item);
+    let answer = groatpocket::write_lists(paths, paints, backdrops, stored, tally, cols, rows, room, words);
+    #[cfg(feature = "lists")]
+    return crate::answers::item(answer, item);
     #[cfg(not(feature = "lists"))]
     not_linked(("write_lists", paths, paints, backdrops, stored, tally, cols, rows, room, words, item))
 }
@@ -149,7 +165,9 @@ pub fn ppm_write(
     size: &mut usize,
 ) -> u32 {
     #[cfg(feature = "picture")]
-    return crate::answers::size(groatpocket::ppm_write(pixels, width, height, out), size);
+    let answer = groatpocket::ppm_write(pixels, width, height, out);
+    #[cfg(feature = "picture")]
+    return crate::answers::size(answer, size);
     #[cfg(not(feature = "picture"))]
     not_linked(("ppm_write", pixels, width, height, out, size))
 }
@@ -161,7 +179,9 @@ pub fn ppm_read(
     height: &mut u32,
 ) -> u32 {
     #[cfg(feature = "picture")]
-    return crate::answers::width_height(groatpocket::ppm_read(file, out), width, height);
+    let answer = groatpocket::ppm_read(file, out);
+    #[cfg(feature = "picture")]
+    return crate::answers::width_height(answer, width, height);
     #[cfg(not(feature = "picture"))]
     not_linked(("ppm_read", file, out, width, height))
 }

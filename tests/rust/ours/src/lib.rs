@@ -4,17 +4,7 @@
 //! it and the calls go through an emulator; times say nothing then (`BRIDGED`).
 
 #[allow(dead_code)]
-#[cfg(any(
-    feature = "backdrop",
-    feature = "hand_out",
-    feature = "count",
-    feature = "tile",
-    feature = "fill",
-    feature = "fine",
-    feature = "frame",
-    feature = "lists",
-    feature = "picture"
-))]
+#[cfg(linked)]
 mod answers;
 #[cfg(bridge)]
 mod bridge;

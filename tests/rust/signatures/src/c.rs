@@ -34,6 +34,11 @@ fn served(call: &Call) -> String {
             (How::Value, Of::F32) => format!("as_float(n[{number}])"),
             (How::Value, of) => format!("({})n[{number}]", of.c()),
             (_, Of::U32) => format!("&n[{number}]"),
+            (_, Of::F32) => {
+                before += &format!("        float {} = as_float(n[{number}]);\n", p.name);
+                after += &format!("        n[{number}] = as_bits({});\n", p.name);
+                format!("&{}", p.name)
+            }
             (_, of) => {
                 before += &format!("        {} {} = n[{number}];\n", of.c(), p.name);
                 after += &format!("        n[{number}] = (uint32_t){};\n", p.name);
@@ -67,7 +72,7 @@ pub fn server(calls: &[Call], helpers: &[Helper]) -> Made {
     text += "\nstatic uint32_t one_float(uint32_t helper, uint32_t x, uint32_t y, uint32_t z) {\n    switch (helper) {\n";
     text += &helpers.iter().map(one_float).collect::<String>();
     text += "    }\n    leave();\n    return 0;\n}\n#endif\n\n";
-    let has = |c: &Call| format!("#ifdef HAS_{}\n", c.feature().to_uppercase());
+    let has = |c: &Call| format!("#ifdef HAS_{}\n", c.feature.to_uppercase());
     text += &calls.iter().map(|c| format!("{}extern uint32_t gp_{}({});\n#endif\n", has(c), c.name, list(&c.params))).collect::<String>();
     text += "\nstatic uint32_t run(uint32_t which) {\n    uint32_t *n = numbers;\n    switch (which) {\n#ifdef HAS_FLOATS\n    case 0: return floats();\n#endif\n";
     for (k, c) in calls.iter().enumerate() {

@@ -61,7 +61,12 @@ fn arm(k: usize, call: &Call) -> String {
         text += &format!("                    {0}_bytes.give_back({0}.u32s_mut());\n", p.name);
     }
     let item = if call.told().any(|p| p.name == "item") { "item" } else { "0" };
-    let word = |p: &Param| if p.of == Of::U32 { p.name.clone() } else { format!("{} as u32", p.name) };
+    let word = |p: &Param| match p.of {
+        Of::U32 => p.name.clone(),
+        // any NaN for a NaN, where it was made; as it was, where refused
+        Of::F32 => format!("if no == 0 {{ cases::memory::one_nan({0}.to_bits()) }} else {{ {0}.to_bits() }}", p.name),
+        _ => format!("{} as u32", p.name),
+    };
     let rest = call.told().filter(|p| p.name != "item").map(|p| format!(", {}", word(p))).collect::<String>();
     text + &format!("                    vec![no, {item}{rest}]\n                }}\n")
 }
@@ -79,7 +84,7 @@ pub fn dispatch(calls: &[Call]) -> Made {
     text += "];\n\n/// How many slices and numbers a call of a kind takes.\npub const SHAPES: &[(usize, usize)] = &[\n    (0, 0),\n";
     text += &table(calls, |c| format!("({}, {})", c.slices().count(), c.given().count()));
     text += "];\n\n/// Whether a call of a kind is linked.\npub const LINKED: &[bool] = &[\n    false,\n";
-    text += &table(calls, |c| format!("ours::has::{}", c.feature().to_uppercase()));
+    text += &table(calls, |c| format!("ours::has::{}", c.feature.to_uppercase()));
     text += "];\n\nmacro_rules! answered_by {\n    ($name:ident, $side:ident) => {\n        pub fn $name(call: &Call) -> Outcome {\n";
     text += "            let mut slices: Vec<Lent> = call.slices.iter().map(|w| Lent::new(w)).collect();\n            let n = &call.numbers;\n";
     text += "            let answer = match (call.kind, slices.as_mut_slice()) {\n";

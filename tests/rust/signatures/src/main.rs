@@ -56,13 +56,14 @@ fn texts(folder: &str, ending: &str) -> String {
 }
 
 /// The header's calls in the order of their numbers, held against the exports; and the helpers that are exported besides.
-fn read() -> (Vec<Call>, Vec<Helper>) {
+fn read(safe: &safe::Safe) -> (Vec<Call>, Vec<Helper>) {
     let exports = parse::exports(&texts("crates/groatpocket/src", ".rt"));
     let mut calls = parse::header(&text("include/groatpocket.h"));
     for call in &mut calls {
         let Some(export) = exports.iter().find(|e| e.name == call.name) else { fail(&format!("gp_{} isn't exported", call.name)) };
         parse::agree(call, export);
         parse::goes_on(call, export);
+        call.feature = safe.feature(&call.name);
     }
     let place = |call: &Call| NUMBERED.iter().position(|n| *n == call.name).unwrap_or(NUMBERED.len());
     calls.sort_by_key(place);
@@ -72,8 +73,8 @@ fn read() -> (Vec<Call>, Vec<Helper>) {
 }
 
 fn main() {
-    let (calls, helpers) = read();
     let safe = safe::read(&texts("rust/groatpocket/src", ".rs"));
+    let (calls, helpers) = read(&safe);
     let made = [
         rust::raw(&calls),
         safe::ours(&calls, &safe),

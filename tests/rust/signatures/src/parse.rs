@@ -88,6 +88,8 @@ pub struct Call {
     /// Without the `gp_`.
     pub name: String,
     pub params: Vec<Param>,
+    /// The feature of tests/rust/ours that links it: the safe crate's, or the call's own name.
+    pub feature: String,
 }
 
 impl Call {
@@ -102,15 +104,6 @@ impl Call {
 
     pub fn told(&self) -> impl Iterator<Item = &Param> {
         self.params.iter().filter(|p| p.is_told())
-    }
-
-    /// The feature of tests/rust/ours that links it.
-    pub fn feature(&self) -> &str {
-        match self.name.as_str() {
-            "write_lists" => "lists",
-            "ppm_write" | "ppm_read" => "picture",
-            name => name,
-        }
     }
 }
 
@@ -164,7 +157,7 @@ pub fn header(text: &str) -> Vec<Call> {
             let Some(of) = Of::of_c(of) else { bad() };
             params.push(Param { name: name.into(), how, of });
         }
-        Call { name: name.into(), params }
+        Call { name: name.into(), params, feature: name.into() }
     });
     let calls: Vec<Call> = declared.collect();
     if calls.is_empty() {

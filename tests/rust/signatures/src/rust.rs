@@ -58,7 +58,7 @@ pub fn bridge(calls: &[Call]) -> Made {
         };
         text += &format!(
             "\n#[cfg(feature = \"{}\")]\n#[no_mangle]\nunsafe extern \"C\" fn gp_{}(\n{}) -> u32 {{\n",
-            c.feature(),
+            c.feature,
             c.name,
             raw_lines(c, "    ")
         );
@@ -66,8 +66,12 @@ pub fn bridge(calls: &[Call]) -> Made {
         text += &c.slices().map(slice).collect::<String>();
         text += "        ],\n    );\n";
         for (at, p) in numbers.iter().enumerate().filter(|(_, p)| p.is_told()) {
-            let cast = if p.of == Of::U32 { "" } else { " as usize" };
-            text += &format!("    *{} = n[{at}]{cast};\n", p.name);
+            let back = match p.of {
+                Of::U32 => format!("n[{at}]"),
+                Of::F32 => format!("f32::from_bits(n[{at}])"),
+                of => format!("n[{at}] as {}", of.rust()),
+            };
+            text += &format!("    *{} = {back};\n", p.name);
         }
         text += "    answer\n}\n";
     }

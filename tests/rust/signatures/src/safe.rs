@@ -9,6 +9,14 @@ pub struct Safe {
     functions: BTreeMap<String, Vec<(String, String)>>,
     /// The fields of each struct, with their types.
     structs: BTreeMap<String, Vec<(String, String)>>,
+    /// The features under which functions are given out.
+    features: BTreeMap<String, String>,
+}
+
+impl Safe {
+    pub fn feature(&self, call: &str) -> String {
+        self.features.get(call).cloned().unwrap_or_else(|| call.to_string())
+    }
 }
 
 /// A field of the safe crate that has a name of its own there.
@@ -28,7 +36,12 @@ pub fn read(text: &str) -> Safe {
         let (name, rest) = s.split_once(" {")?;
         Some((name.to_string(), named(rest.split_once("\n}")?.0, "pub ")))
     });
-    Safe { functions: functions.collect(), structs: structs.collect() }
+    let features = text.split("#[cfg(feature = \"").skip(1).filter_map(|f| {
+        let (feature, rest) = f.split_once("\")]\npub use ")?;
+        Some((feature, rest.split_once("::")?.1.split_once(';')?.0))
+    });
+    let named = features.flat_map(|(feature, names)| names.trim_matches(['{', '}']).split(", ").map(move |n| (n.to_string(), feature.to_string())));
+    Safe { functions: functions.collect(), structs: structs.collect(), features: named.collect() }
 }
 
 /// A number of the header's call, as a value.
@@ -90,24 +103,28 @@ fn one(call: &Call, safe: &Safe) -> String {
     let (called, bools) = safe_call(call, safe);
     let told: Vec<&str> = call.told().map(|p| p.name.as_str()).collect();
     let by = if told.is_empty() { "nothing".to_string() } else { told.join("_") };
-    let answer =
-        format!("crate::answers::{by}({})", std::iter::once(called).chain(told.iter().map(|t| t.to_string())).collect::<Vec<_>>().join(", "));
     let raw = call.params.iter().map(raw_argument).collect::<Vec<_>>().join(", ");
-    let (name, feature) = (&call.name, call.feature());
-    let past = if bools.is_empty() {
-        String::new()
-    } else {
+    let (name, feature) = (&call.name, &call.feature);
+    let raw_call = format!(
+        "        // SAFETY: every pointer and length is a slice's, lent for the call alone.\n        \
+         return unsafe {{ groatpocket::raw::gp_{name}({raw}) }};\n"
+    );
+    let mut body = String::new();
+    if !bools.is_empty() {
         let wide = bools.iter().map(|b| format!("{b} > 1")).collect::<Vec<_>>().join(" || ");
-        format!(
-            "    #[cfg(feature = \"{feature}\")]\n    if {wide} {{\n        // the safe call has a bool there\n        \
-             // SAFETY: every pointer and length is a slice's, lent for the call alone.\n        \
-             return unsafe {{ groatpocket::raw::gp_{name}({raw}) }};\n    }}\n"
-        )
-    };
+        body += &format!("    #[cfg(feature = \"{feature}\")]\n    if {wide} {{\n        // the safe call has a bool there\n{raw_call}    }}\n");
+    }
+    body += &format!("    #[cfg(feature = \"{feature}\")]\n    let answer = {called};\n");
+    if call.params.iter().any(|p| p.how == How::GoesOn && !called.contains(&format!("*{}", p.name))) {
+        body += &format!(
+            "    #[cfg(feature = \"{feature}\")]\n    if answer.is_err() {{\n        // what is told then is the call's own\n{raw_call}    }}\n"
+        );
+    }
+    let told = told.iter().map(|t| format!(", {t}")).collect::<String>();
     let params: String = call.params.iter().map(typed).collect();
     let names: Vec<&str> = call.params.iter().map(|p| p.name.as_str()).collect();
     format!(
-        "\npub fn {name}(\n{params}) -> u32 {{\n{past}    #[cfg(feature = \"{feature}\")]\n    return {answer};\n    \
+        "\npub fn {name}(\n{params}) -> u32 {{\n{body}    #[cfg(feature = \"{feature}\")]\n    return crate::answers::{by}(answer{told});\n    \
          #[cfg(not(feature = \"{feature}\"))]\n    not_linked((\"{name}\", {}))\n}}\n",
         names.join(", ")
     )
