@@ -58,10 +58,14 @@ extern "C" {
 #define GP_PAINT_WORDS 2u    /* colour, red in the high byte; rule, its lowest bit set for even-odd */
 #define GP_CMD_END 0u
 #define GP_CMD_FILL 1u  /* then segments * 2 + (1 for even-odd), first segment, backdrop */
-#define GP_CMD_SOLID 2u /* then one word that is not read */
+#define GP_CMD_SOLID 2u /* one word: the next command follows at once */
 #define GP_CMD_COLOR 3u /* then the colour, red in the high byte, alpha in the low one */
 #define GP_CMD_JUMP 4u  /* then the word to go on at */
 #define GP_TILE_WORDS 64u /* tile t's list starts at word 64 t + 1 */
+
+/* Lists kept from before: SOLID used to take a second word, 0. That 0 is now read as END, so the tile
+ * shows nothing of what follows it, and the call still answers 0. Write such lists again, by
+ * gp_write_lists or without that word, before they are drawn. */
 
 /* A whole frame: checks all that is lent, clears backdrops and tiles, counts all lines, sums the
  * backdrops, hands out slots (as many as segments are lent) and tiles every reference. Afterwards

@@ -1,7 +1,7 @@
 -- Commands as words: what is encoded at a place is what is read there, and the next one stands past it. And stores, one by one. Assumes nothing.
 use mathlib.Core.Path.{_≡_, refl, sym, ap, _∙_}
 use mathlib.Core.List.{List, [], _∷_}
-use Prim.Native.Nat.{ℕ, suc, _+_, _-_, _≤_, _<_}
+use Prim.Native.Nat.{ℕ, suc, _+_, _-_, _*_, _≤_, _<_}
 use native.Mathlib.Nat.{add-zero}
 use native.Mathlib.Omega.{arith}
 use lib.ListN.{length, getD, set}
@@ -11,7 +11,7 @@ use Rattle.lists.specs.Cells.{getD-sets-in}
 use Rattle.panel.specs.declared.kinds.Verdict.the-variants.{Fine}
 use Rattle.reader.specs.Look.{lookAt}
 use Rattle.reader.specs.declared.Look.the-variants.{Word}
-use Rattle.commands.specs.Numbers.{endNo, encodeTo, encode, fillWords, solidWords, colorWords, jumpWords, wordsOf}
+use Rattle.commands.specs.Numbers.{endNo, solidNo, encodeTo, encode, fillWords, solidWords, colorWords, jumpWords, tileWords, listStart}
 use Rattle.commands.specs.Steps.{opOf, countOf, fillMove, wholeMove, moveOf, ends, does, traceOf}
 use Rattle.commands.specs.declared.steps.Act.{Act}
 use Rattle.commands.specs.declared.steps.Act.the-variants.{Fill, Solid, Color, Jump}
@@ -93,6 +93,17 @@ module _ (ws : List ℕ) (room at to : ℕ) where
 pub read-written : (ws : List ℕ) (room at to : ℕ) (a : Act) → Among room a → at + length (encodeTo to a) ≤ length ws
     → moveOf (opOf (getD (sets ws at (encodeTo to a)) at 0)) (sets ws at (encodeTo to a)) room at ≡ Goes a (nextOf at to a)
 read-written ws room at to a h r = read-back (sets ws at (encodeTo to a)) room at to a h (written-stands ws at (encodeTo to a) r)
+
+-- ---- SOLID is one word, so twenty pairs of SOLID and COLOR, and a JUMP, have room in a tile's region, and no more
+
+pub solid-word : encode Solid ≡ solidNo ∷ []
+solid-word = refl
+
+pub twenty-solids : 20 * (solidWords + colorWords) + jumpWords ≤ tileWords - listStart
+twenty-solids = omega arith
+
+pub no-more-solids : tileWords - listStart < 21 * (solidWords + colorWords) + jumpWords
+no-more-solids = omega arith
 
 -- ---- stores, one by one
 

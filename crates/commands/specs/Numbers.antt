@@ -25,7 +25,7 @@ jumpNo = 4
 -- a command's words. A JUMP's second word is the place `to` where the next command stands; no other command says where
 abbrev pub encodeTo : ℕ → Act → List ℕ
 encodeTo to (Does.Fill rule first backdrop) = fillNo ∷ rule ∷ first ∷ backdrop ∷ []
-encodeTo to Does.Solid = solidNo ∷ 0 ∷ []
+encodeTo to Does.Solid = solidNo ∷ []
 encodeTo to (Does.Color word) = colorNo ∷ word ∷ []
 encodeTo to Does.Jump = jumpNo ∷ to ∷ []
 

@@ -30,12 +30,11 @@ pub fn put_fill(words: &mut [u32], at: usize, rule: u32, first: u32, backdrop: u
     words[at + 3] = backdrop;
 }
 
-// SOLID's second word says nothing.
 pub fn put_solid(words: &mut [u32], at: usize)
     requires { ⌜ at + solidWords ≤ length (now words) ⌝ }
     ensures { λ _. ⌜ now (words .exit) ≡ sets (now (words .entry)) at (encode Solid) ⌝ }
 {
-    put_two(words, at, SOLID, 0);
+    words[at] = SOLID;
 }
 
 pub fn put_color(words: &mut [u32], at: usize, color: u32)

@@ -26,6 +26,18 @@ pub solid-colour : (k : ℕ) → packOf (colourAt solid-list [] 0 k) ≡ 0xff60_
 unfolding solid-list colourAt tileTrace traceOf opOf moveOf wholeMove cover paint pointOf colourOf channelOf overOf packOf byteOf clampOf roundOf ofInt ofBits add sub mul div lt le round toUnsigned
 solid-colour k = refl
 
+-- the same as fine.rs has it, with a word 0 after SOLID: that word is END, and nothing shows
+unfoldable pub padded-list : List ℕ
+padded-list = 0 ∷ encode Solid ++ (0 ∷ encode (Color 0x2040_60ff)) ++ (endNo ∷ [])
+
+pub padded-done : endsAt padded-list [] 0 ≡ Fine
+unfolding padded-list tileTrace traceOf opOf moveOf wholeMove
+padded-done = refl
+
+pub padded-clear : (k : ℕ) → packOf (colourAt padded-list [] 0 k) ≡ 0
+unfolding padded-list colourAt tileTrace traceOf opOf moveOf wholeMove cover paint pointOf colourOf channelOf overOf packOf byteOf clampOf roundOf ofInt ofBits add sub mul div lt le round toUnsigned
+padded-clear k = refl
+
 -- a list that ends early is 13, an unknown command 14
 pub short-list : endsAt (0 ∷ colorNo ∷ []) [] 0 ≡ Against pastEnd
 unfolding tileTrace traceOf opOf moveOf wholeMove

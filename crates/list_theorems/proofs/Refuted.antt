@@ -194,6 +194,6 @@ limit-passes s cols rows room ws ok t e p =
     let l = h .long in
     omega arith
 
--- and there is such a list: 1,982 pairs of SOLID and COLOR, with 132 JUMPs
-pub limit-is-met : commandsOf (replicate 1982 (Solid 0)) ≡ mostCommands
+-- and there is such a list: 20 pairs of FILL and COLOR, 1,978 of SOLID and COLOR, and 100 JUMPs
+pub limit-is-met : commandsOf (replicate 20 (Fill 0 0 0 0 0) ++ replicate 1978 (Solid 0)) ≡ mostCommands
 limit-is-met = refl

@@ -15,7 +15,7 @@ use crate::TILE_WORDS;
 /// let (paths, paints) = ([0, 0, 1, 1, 0], [0x204060ff, 0]);
 /// let mut words = vec![0; words_needed(1, 1, 1)];
 /// write_lists(&paths, &paints, &[1], &[0], &[0], 1, 1, 0, &mut words).unwrap();
-/// assert_eq!(words[1..6], [2, 0, 3, 0x204060ff, 0]);
+/// assert_eq!(words[1..5], [2, 3, 0x204060ff, 0]);
 /// let mut pixels = [0; 256];
 /// fine(&words, &[], Screen { width: 16, cols: 1, rows: 1 }, 0, 1, &mut pixels).unwrap();
 /// assert!(pixels.iter().all(|p| *p == 0xff604020));

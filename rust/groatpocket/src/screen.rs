@@ -59,13 +59,20 @@ pub struct Screen {
 /// Draws the screen tiles `from..to`, each by its list of commands. It stops before the first refused,
 /// whose pixels and all later ones keep what they held.
 ///
+/// SOLID is one word. Lists kept from before have a second word, 0, after it, which is now read as END:
+/// such a tile shows nothing of what follows, and the call still answers `Ok`. Write those lists again.
+///
 /// ```
 /// use groatpocket::{fine, Screen};
 /// // Tile 0: SOLID, then COLOR 0x204060ff, then END.
-/// let words = [0, 2, 0, 3, 0x204060ff, 0];
+/// let words = [0, 2, 3, 0x204060ff, 0];
 /// let mut pixels = [0; 256];
 /// fine(&words, &[], Screen { width: 16, cols: 1, rows: 1 }, 0, 1, &mut pixels).unwrap();
 /// assert!(pixels.iter().all(|p| *p == 0xff604020));
+///
+/// // A list from before: END is read after SOLID.
+/// fine(&[0, 2, 0, 3, 0x204060ff, 0], &[], Screen { width: 16, cols: 1, rows: 1 }, 0, 1, &mut pixels).unwrap();
+/// assert!(pixels.iter().all(|p| *p == 0));
 /// ```
 pub fn fine(
     words: &[u32],

@@ -32,7 +32,7 @@ pub struct Side {
     pub solid_words: usize,
 }
 
-pub const OURS: Side = Side { end: 0, fill: 1, solid: 2, color: 3, jump: 4, solid_words: 2 };
+pub const OURS: Side = Side { end: 0, fill: 1, solid: 2, color: 3, jump: 4, solid_words: 1 };
 pub const RUST: Side = Side { end: 0, fill: 1, solid: 3, color: 5, jump: 12, solid_words: 2 };
 
 impl Side {

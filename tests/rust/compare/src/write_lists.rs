@@ -109,22 +109,25 @@ fn invented(rng: &mut Rng, n_paths: usize, most: i64) -> Case {
     case
 }
 
-/// So many paths over one screen tile that its commands are near the limit, all FILLs or all SOLIDs.
+/// So many paths over one screen tile that its commands are near the limit: so many FILLs, then SOLIDs. Ten FILLs fill a
+/// region, twenty SOLIDs do; the first FILLs make one JUMP more, and with it 4,096 commands.
 fn long(rng: &mut Rng) -> Case {
-    let (last, fill) = if rng.coin() { (1_982, false) } else { (1_950, true) };
+    let (last, most_fills) = rng.pick(&[(1_998, 0), (1_998, 10), (1_950, usize::MAX)]);
     let n = (last + rng.range(-1, 2)) as usize;
+    let fills = n.min(most_fills);
+    let regions = fills.div_ceil(10) + (n - fills).div_ceil(20);
     let tile = |k: usize| [0, 0, 1, 1, k as u32];
     Case {
         frame: None,
         paths: (0..n).flat_map(tile).collect(),
         paints: paints(rng, n),
         backdrops: (0..n).map(|_| rng.pick(&[1u32, u32::MAX])).collect(),
-        stored: vec![if fill { u32::MAX } else { 0 }; n],
-        tally: vec![fill as u32; n],
+        stored: (0..n).map(|k| if k < fills { u32::MAX } else { 0 }).collect(),
+        tally: (0..n).map(|k| (k < fills) as u32).collect(),
         cols: rng.pick(&[1, 2]),
         rows: 1,
         room: 1,
-        words: 64 * (2 + n / if fill { 10 } else { 15 } - rng.below(3) as usize),
+        words: 64 * (regions + 1 - rng.below(3) as usize),
         segments: vec![],
     }
 }
@@ -387,7 +390,7 @@ fn draw(case: &Case, lists: &Memory, by_rules: &Memory, sides: Sides, table: &mu
         }
         table.add("tiles drawn", 1);
         table.add("tiles drawn of a frame", case.frame.is_some() as u64);
-        table.add("tiles of more than one region", (pairs.len() > 10) as u64);
+        table.add("tiles of more than one region", (rules::lists::fresh_regions(&pairs) > 0) as u64);
         table.add("pairs drawn", pairs.len() as u64);
     }
     Ok(())

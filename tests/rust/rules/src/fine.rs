@@ -53,9 +53,8 @@ pub fn tile_pixels(words: &[u32], segments: &[f32], start: u64) -> Result<[u32; 
                 at += 4;
             }
             SOLID => {
-                word(at + 1)?;
                 area = [1.0; 256];
-                at += 2;
+                at += 1;
             }
             COLOR => {
                 let color = unpack(word(at + 1)?);

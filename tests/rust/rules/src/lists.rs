@@ -25,7 +25,7 @@ impl Pair {
             Pair::Fill { number, even_odd, first, backdrop, color } => {
                 vec![FILL, (2 * number as u64 + even_odd as u64) as u32, first, backdrop as u32, COLOR, color]
             }
-            Pair::Solid { color } => vec![SOLID, 0, COLOR, color],
+            Pair::Solid { color } => vec![SOLID, COLOR, color],
         }
     }
 }
@@ -91,6 +91,11 @@ fn laid(pairs: &[Pair], t: usize, first_fresh: usize) -> Laid {
     }
     out.words.push((at, END));
     out
+}
+
+/// The fresh regions that a tile's list takes.
+pub fn fresh_regions(pairs: &[Pair]) -> usize {
+    laid(pairs, 0, 1).fresh
 }
 
 pub fn write_lists(

@@ -120,15 +120,16 @@ fn screen(words: &[u32], segments: &[f32]) -> (u32, u32) {
 
 #[test]
 fn commands() {
-    assert_eq!(screen(&[0, 2, 0, 3, 0x2040_60ff, 0], &[]), (0, 0xff60_4020));
+    assert_eq!(screen(&[0, 2, 3, 0x2040_60ff, 0], &[]), (0, 0xff60_4020));
+    // a word 0 after SOLID, as fine.rs has one there, is END
+    assert_eq!(screen(&[0, 2, 0, 3, 0x2040_60ff, 0], &[]), (0, 0));
+    // SOLID may be the last word lent: 13 is for the next command
+    assert_eq!(screen(&[0, 2], &[]), (13, 0xdead_beef));
     let mut words = vec![0];
-    for _ in 0..COMMANDS_MOST {
-        words.extend([2, 0]);
-    }
+    words.extend(vec![2; COMMANDS_MOST as usize]);
     words.push(0);
     assert_eq!(screen(&words, &[]).0, 0);
-    words.truncate(words.len() - 1);
-    words.extend([2, 0, 0]);
+    words.insert(1, 2);
     assert_eq!(screen(&words, &[]), (15, 0xdead_beef));
     assert_eq!(screen(&[0, 4, 1], &[]).0, 15);
     assert_eq!(screen(&[0, 9], &[]).0, 14);
@@ -168,16 +169,16 @@ fn lists() {
     assert_eq!(listed(1, 2, -1, 1, 64).2[..9], [7, 1, 5, 3, u32::MAX, 3, 0xc000, 0, 7]);
     for (backdrop, rule, covers) in [(-1, 0, true), (2, 0, true), (0, 0, false), (-3, 1, true), (-2, 1, false), (i32::MIN, 1, false)] {
         let words = listed(1, 0, backdrop, rule, 64).2;
-        assert_eq!(words[..7], if covers { [7, 2, 0, 3, 0xc000, 0, 7] } else { [7, 0, 7, 7, 7, 7, 7] });
+        assert_eq!(words[..7], if covers { [7, 2, 3, 0xc000, 0, 7, 7] } else { [7, 0, 7, 7, 7, 7, 7] });
     }
-    // fifteen pairs in the tile's own region, the sixteenth at the first word of the fresh one
-    assert_eq!(listed(15, 0, 1, 0, 64).2[57..64], [2, 0, 3, 0xc00e, 0, 7, 7]);
-    let (number, _, words) = listed(16, 0, 1, 0, 128);
-    assert_eq!((number, &words[61..69]), (0, &[4, 64, 7, 2, 0, 3, 0xc00f, 0][..]));
-    assert_eq!(listed(16, 0, 1, 0, 127), (9, 0, vec![7; 127]));
+    // twenty pairs in the tile's own region, the next at the first word of the fresh one
+    assert_eq!(listed(20, 0, 1, 0, 64).2[58..64], [2, 3, 0xc013, 0, 7, 7]);
+    let (number, _, words) = listed(21, 0, 1, 0, 128);
+    assert_eq!((number, &words[61..69]), (0, &[4, 64, 7, 2, 3, 0xc014, 0, 7][..]));
+    assert_eq!(listed(21, 0, 1, 0, 127), (9, 0, vec![7; 127]));
     // slots 3 and 4 of five
     assert_eq!((listed(1, 2, 0, 0, 64).0, listed(1, 3, 0, 0, 64).0), (0, 9));
-    // 4,096 commands, and more; 15 comes before 9
-    assert_eq!((listed(1_982, 0, 1, 0, 64 * 133).0, listed(1_983, 0, 1, 0, 0).0), (0, 15));
+    // up to 4,096 commands, and more; 15 comes before 9
+    assert_eq!((listed(1_998, 0, 1, 0, 64 * 100).0, listed(1_999, 0, 1, 0, 0).0), (0, 15));
     assert_eq!((listed(1_950, 1, 1, 0, 64 * 195).0, listed(1_951, 1, 1, 0, 0).0), (0, 15));
 }
