@@ -4,6 +4,7 @@
 --     min-of-nan, min-with-nan, max-of-nan, ..     the other one where one is a NaN
 --     min-left, min-right, max-left, max-right     the bounds
 --     min-first, min-second, max-first, ..         where one lies below the other
+--     min-apart, max-apart                         of two that aren't equal
 --     min-same                                     of a number and itself
 --     min-alike, max-alike                         a choice by `<` alone gives the same number, up to the sign of a zero
 --     zeros                                        of two zeros
@@ -44,7 +45,7 @@ under-lt x y = go (lt x y) (eq x y && (signOf x && not (signOf y)))
     go true r h = h
     go false r h = refl
 
-pub under-not : (x y : Float) → lt x y ≡ false → eq x y ≡ false → under x y ≡ false
+under-not : (x y : Float) → lt x y ≡ false → eq x y ≡ false → under x y ≡ false
 under-not x y l e = rw (l, e)
 
 above : (x y : Float) → lt x y ≡ true → eq y x ≡ false
@@ -65,9 +66,6 @@ module _ (a b : Float) where
       go : (n : Bool) → b ≡ cond n b b
       go true = refl
       go false = refl
-
-  pub picks-first : (t : Bool) → t ≡ false → ne a a ≡ false → a ≡ pick t a b
-  picks-first t l e = rw (sym (nan-test a) ∙ e, l)
 
   picks-left : (t : Bool) → t ≡ false → isNan a ≡ false → pick t a b ≡ a
   picks-left t l n = rw (n, l)
@@ -141,6 +139,22 @@ max-first a b h =
     let l = le-of-lt b a h in
     let n : eq a b ≡ false = above b a h in
     picks-left a b (under a b) (under-not a b (not-lt-of-le b a l) n) (is-false (isNan a) (le-right b a l))
+
+-- of two that differ, or of a number and a NaN, `<` chooses
+apart : (x y u v : Float) → eq x y ≡ false → cond (under x y) u v ≡ cond (lt x y) u v
+apart x y u v e = rw e (go (lt x y) (signOf x && not (signOf y)))
+  where
+    go : (l s : Bool) → cond (l || (false && s)) u v ≡ cond l u v
+    go true s = refl
+    go false s = refl
+
+pub min-apart : (a b : Float) → ne a a ≡ false → eq b a ≡ false → minOf a b ≡ cond (lt b a) b a
+unfolding minOf
+min-apart a b n e = rw (sym (nan-test a) ∙ n) (apart b a b a e)
+
+pub max-apart : (a b : Float) → ne a a ≡ false → eq a b ≡ false → maxOf a b ≡ cond (lt a b) b a
+unfolding maxOf
+max-apart a b n e = rw (sym (nan-test a) ∙ n) (apart a b b a e)
 
 -- ---- the bounds
 clash : {b : Bool} → T (not b) → b ≡ true → ⊥

@@ -2,6 +2,7 @@
 // has no `requires`. Its contract says its result by a definition of specs/Meaning.antt, or by the
 // cast that lib.Ieee has.
 ghost use mathlib.Core.Path.{_≡_};
+ghost use mathlib.Core.Bool.{cond};
 ghost use Prim.Native.Nat.{_^_, _≤_};
 ghost use lib.IntN.{pos, natAbs};
 ghost use lib.Ieee as Ieee;
@@ -21,18 +22,24 @@ pub fn abs(x: f32) -> f32
     }
 }
 
+// `if t { x } else { y }`, as a call: the choice becomes no branch, since which of two numbers is the
+// smaller can't be foretold.
+fn pick(t: bool, x: f32, y: f32) -> f32
+    ensures { λ r. ⌜ r ≡ cond t x y ⌝ }
+{
+    if t { x } else { y }
+}
+
 // The smaller of two; of two zeros -0 if either is.
 pub fn min(a: f32, b: f32) -> f32
     ensures { λ r. ⌜ r ≡ minOf a b ⌝ }
 {
-    if b < a {
-        b
-    } else if b == a {
+    if b == a {
         if f32::to_bits(b) < 0x8000_0000 { a } else { b }
     } else if a != a {
         b
     } else {
-        a
+        pick(b < a, b, a)
     }
 }
 
@@ -40,14 +47,12 @@ pub fn min(a: f32, b: f32) -> f32
 pub fn max(a: f32, b: f32) -> f32
     ensures { λ r. ⌜ r ≡ maxOf a b ⌝ }
 {
-    if a < b {
-        b
-    } else if a == b {
+    if a == b {
         if f32::to_bits(a) < 0x8000_0000 { a } else { b }
     } else if a != a {
         b
     } else {
-        a
+        pick(a < b, b, a)
     }
 }
 
