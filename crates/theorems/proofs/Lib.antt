@@ -11,7 +11,7 @@
 --     OneAnswer             one answer only; the cheats
 --     Grounds               the grounds of 6, 10 and 12 in the rules' words
 --     Exact, ExactRuns, ExactLooks, ExactPaths, ExactStops, ExactCommands   refusals are exact
---     Together                 these put together
+--     Together              these put together
 --     Framing               the call for a frame: its ways, what it leaves, isolation between frames, one answer
 --     FrameNumbers          which numbers each part of a frame refuses with
 --     FrameTraces           frames of one line, computed

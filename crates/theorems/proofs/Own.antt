@@ -124,9 +124,9 @@ go-on : (b : Bool) (n : ℕ) (o : Step St ℕ) (u : St) → haltIf b n o ≡ tak
 go-on false n o u e = (refl, e)
 go-on true n o u e = let z : _≡_ {A = ℕ} 0 1 = cc in absurd (omega arith)
 
-not-far : (room l : ℕ) (p : Plan) (s u : St) → planStep room l p s ≡ taken u → tooFar p ≡ false
+plan-near : (room l : ℕ) (p : Plan) (s u : St) → planStep room l p s ≡ taken u → tooFar p ≡ false
 unfolding planStep
-not-far room l p s u e = go-on (tooFar p) countOver _ u e .0
+plan-near room l p s u e = go-on (tooFar p) countOver _ u e .0
 
 module _ (nos : List ℕ) (coords : List Float) (paths : List ℕ) (tiles : ℕ) (passed : pathsAnswer paths tiles ≡ Done) where
   line-box : (l : ℕ) (w : Walk) (b : Path) → walkAt nos coords paths l ≡ Line w b → Boxed b × (b .x0 < b .x1)
@@ -155,7 +155,7 @@ module _ (nos : List ℕ) (coords : List Float) (paths : List ℕ) (tiles : ℕ)
           record {
             below = h;
             ran = rw q (r .0);
-            near = rw q (not-far room l (planOf w b) s u f);
-            own = rw q (plan-own w b (x .0) (x .1) (not-far room l (planOf w b) s u f));
+            near = rw q (plan-near room l (planOf w b) s u f);
+            own = rw q (plan-own w b (x .0) (x .1) (plan-near room l (planOf w b) s u f));
             fits = λ p. omega (arith, r .1, plan-refs (planOf w b), Rattle.acts.proofs.Whole.run-made (deltaOf (planOf w b .up)) l (planActs (planOf w b)) s u (r .0));
           }

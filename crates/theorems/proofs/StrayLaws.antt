@@ -288,7 +288,7 @@ module _ (b : ℕ) (nos : List ℕ) (coords : List Float) (paths : List ℕ) (n 
         apart = tt;
         once = λ e k q. let z : _≡_ {A = ℕ} 0 1 = cc in absurd (omega arith);
         kept = tt;
-        others = λ k f j q. refl;
+        others = λ k f. refl;
       }
 
   call-stray : (segs : List Float) → NoStray nos coords paths cs rs m segs (callOf 0 m lentNow segs)

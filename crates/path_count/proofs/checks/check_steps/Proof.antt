@@ -55,8 +55,9 @@ enum-known-seen c = search needs
 
 returns-2 : tie.Need-returns-2 Inv-loop μ-loop
 returns-2 c =
+    let the-loop = c .before .before .before .before .before .loop in
     let v = seen-against _ _ _ (sym (c .before .before .before .check-step .ensures) ∙ c .before .seen .given .1) in
-    sym v ∙ check-stops _ _ _ _ (steps-turn _ (c .before .before .before .before .before .loop .i) _ (c .before .before .before .before .loop-test .taken)) _ _ _ _ (c .before .before .before .before .before .loop .inv .1) refl _ v
+    sym v ∙ check-stops _ _ _ _ (steps-turn _ (the-loop .i) _ (c .before .before .before .before .loop-test .taken)) _ _ _ _ (the-loop .inv .1) refl _ v
 
 enum-known-seen-2 : tie.Need-enum-known-seen-2 Inv-loop μ-loop
 enum-known-seen-2 c = search needs
@@ -69,9 +70,11 @@ loop-less c = omega (arith, c .before .before .before .before .loop-test .taken)
 
 loop-again : tie.Need-loop-again Inv-loop μ-loop
 loop-again c =
+    let the-args = c .before .before .before .before .before .before .before .before .before .before .args in
+    let the-loop = c .before .before .before .before .before .loop in
     let v = seen-passed _ _ _ (sym (c .before .before .before .check-step .ensures) ∙ c .before .seen2 .given .1) in (
-      v .1 ∙ sym (last-z (c .before .before .before .before .before .before .before .before .before .before .args .pace) (c .before .before .before .before .before .loop .i) (few (c .before .before .before .before))),
-      check-goes _ _ _ _ (steps-turn _ (c .before .before .before .before .before .loop .i) _ (c .before .before .before .before .loop-test .taken)) _ _ _ _ (c .before .before .before .before .before .loop .inv .1) refl (v .0),
+      v .1 ∙ sym (last-z (the-args .pace) (the-loop .i) (few (c .before .before .before .before))),
+      check-goes _ _ _ _ (steps-turn _ (the-loop .i) _ (c .before .before .before .before .loop-test .taken)) _ _ _ _ (the-loop .inv .1) refl (v .0),
     )
 
 returns-3 : tie.Need-returns-3 Inv-loop μ-loop

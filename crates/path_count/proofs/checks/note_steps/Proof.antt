@@ -42,7 +42,9 @@ edges-of-requires : tie.Need-edges-of-requires Inv-loop μ-loop
 edges-of-requires c κs = c .before .before .before .pre .0 .boxed
 
 int-to-float-z-at : tie.Need-int-to-float-z-at Inv-loop μ-loop
-int-to-float-z-at c = in-float (c .before .before .before .before .before .args .from) (omega (arith, c .before .before .before .before .before .pre .1 (c .before .before .if1 .left), c .before .before .if1 .left, far .steps))
+int-to-float-z-at c =
+    in-float (c .before .before .before .before .before .args .from) (omega
+    (arith, c .before .before .before .before .before .pre .1 (c .before .before .if1 .left), c .before .before .if1 .left, far .steps))
 
 z-at-requires : tie.Need-z-at-requires Inv-loop μ-loop
 z-at-requires c κs = search needs
@@ -55,7 +57,9 @@ few : (c : tie.In-loop Inv-loop μ-loop) → c .before .loop .i < stepRange
 few c = omega (arith, c .before .before .before .before .before .before .before .before .pre .1 (c .before .before .before .before .before .if1 .left), c .loop-test .taken)
 
 note-step-requires : tie.Need-note-step-requires Inv-loop μ-loop
-note-step-requires c κs = (c .before .before .before .before .before .before .before .before .pre .0, few c, c .before .loop .inv .1, c .before .before .before .before .before .before .before .before .pre .2, c .before .before .before .before .edges-of .ensures)
+note-step-requires c κs =
+    let the-pre = c .before .before .before .before .before .before .before .before .pre in
+    (the-pre .0, few c, c .before .loop .inv .1, the-pre .2, c .before .before .before .before .edges-of .ensures)
 
 enum-known-noted : tie.Need-enum-known-noted Inv-loop μ-loop
 enum-known-noted c = search needs
@@ -65,8 +69,9 @@ same-length c = c .before .before .before .before .before .loop .inv .2
 
 returns-2 : tie.Need-returns-2 Inv-loop μ-loop
 returns-2 c =
+    let the-loop = c .before .before .before .before .before .loop in
     let v = noted-against _ _ _ _ (sym (c .before .before .before .note-step .ensures) ∙ c .before .noted .given .1) in (
-      sym v ∙ check-stops _ _ _ _ (steps-turn _ (c .before .before .before .before .before .loop .i) _ (c .before .before .before .before .loop-test .taken)) _ _ _ _ (c .before .before .before .before .before .loop .inv .4) refl _ v,
+      sym v ∙ check-stops _ _ _ _ (steps-turn _ (the-loop .i) _ (c .before .before .before .before .loop-test .taken)) _ _ _ _ (the-loop .inv .4) refl _ v,
       λ e. absurd (not-fine _ e),
     )
 
@@ -80,11 +85,19 @@ cast-notes : tie.Need-cast-notes Inv-loop μ-loop
 cast-notes c = search needs
 
 -- the word is in the room lent
-in-room : (c : tie.After-known-told2 Inv-loop μ-loop) → c .before .before .before .before .before .loop .i - c .before .before .before .before .before .before .before .before .before .before .before .before .args .from < length (c .before .before .before .before .before .loop .notes)
-in-room c = omega (arith, c .before .before .before .before .loop-test .taken, c .before .before .before .before .before .loop .inv .0 .0, c .before .before .before .before .before .loop .inv .2, c .before .before .before .before .before .before .before .before .before .before .before .before .pre .3)
+in-room : (c : tie.After-known-told2 Inv-loop μ-loop) →
+    let the-args = c .before .before .before .before .before .before .before .before .before .before .before .before .args in
+    let the-loop = c .before .before .before .before .before .loop in
+    the-loop .i - the-args .from < length (the-loop .notes)
+in-room c =
+    let the-pre = c .before .before .before .before .before .before .before .before .before .before .before .before .pre in
+    let the-loop = c .before .before .before .before .before .loop in
+    omega (arith, c .before .before .before .before .loop-test .taken, the-loop .inv .0 .0, the-loop .inv .2, the-pre .3)
 
 mul-notes : tie.Need-mul-notes Inv-loop μ-loop
-mul-notes c = omega (arith, in-room c, c .before .before .before .before .before .loop .inv .2, c .before .before .before .before .before .before .before .before .before .before .before .before .pre .4)
+mul-notes c =
+    let the-pre = c .before .before .before .before .before .before .before .before .before .before .before .before .pre in
+    omega (arith, in-room c, c .before .before .before .before .before .loop .inv .2, the-pre .4)
 
 slice-write-notes : tie.Need-slice-write-notes Inv-loop μ-loop
 slice-write-notes c = in-room c
@@ -97,15 +110,18 @@ loop-less c = omega (arith, c .before .before .before .before .loop-test .taken)
 
 loop-again : tie.Need-loop-again Inv-loop μ-loop
 loop-again c =
-    let s = c .before .before .before .before .before .before .before .before .before .before .before .before in
+    let the-before = c .before .before .before .before .before .before .before .before .before .before .before .before in
+    let the-loop-test = c .before .before .before .before .loop-test in
+    let s = the-before in
     let o = c .before .before .before .before .before .loop in
     let v = noted-passed _ _ _ _ _ (sym (c .before .before .before .note-step .ensures) ∙ c .before .noted2 .given .1) in (
-      (omega (arith, o .inv .0 .0), omega (arith, c .before .before .before .before .loop-test .taken)),
+      (omega (arith, o .inv .0 .0), omega (arith, the-loop-test .taken)),
       v .1 ∙ sym (last-z (s .args .pace) (o .i) (few (c .before .before .before .before))),
       length-set (o .notes) _ _ ∙ o .inv .2,
       notes-turn (hitAt (s .args .pace) (s .args .path)) (s .args .from) (o .i) (o .notes) _ _ (o .inv .0 .0) (in-room c) (o .inv .3)
-          (subst (λ (k : ℕ). Told (hitAt (s .args .pace) (s .args .path) (o .i)) k (length (s .args .backs .now))) (sym (v .2)) (step-noted (s .args .pace) (s .args .path) (o .i) _ _ _ (s .pre .0) (v .0))),
-      check-goes _ _ _ _ (steps-turn _ (o .i) _ (c .before .before .before .before .loop-test .taken)) _ _ _ _ (o .inv .4) refl (v .0),
+          (subst (λ (k : ℕ). Told (hitAt (s .args .pace) (s .args .path) (o .i)) k (length (s .args .backs .now))) (sym (v .2))
+          (step-noted (s .args .pace) (s .args .path) (o .i) _ _ _ (s .pre .0) (v .0))),
+      check-goes _ _ _ _ (steps-turn _ (o .i) _ (the-loop-test .taken)) _ _ _ _ (o .inv .4) refl (v .0),
     )
 
 same-length-2 : tie.Need-same-length-2 Inv-loop μ-loop

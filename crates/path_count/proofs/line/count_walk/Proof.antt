@@ -25,10 +25,13 @@ unfolding mostSteps
 returns c =
     let s = c .before .before .before .before .before .before .before in
     let k = c .before .clip-to in
-    walk-far (length (s .args .refs .now) / refWords) (s .args .line .0) (s .args .walk) (s .args .path) (k .result) (k .ensures) (stOf (s .args .backs .now) (s .args .counts .now) (s .args .refs .now) (s .args .made)) (c .if1 .taken)
+    walk-far (length (s .args .refs .now) / refWords) (s .args .line .0) (s .args .walk) (s .args .path) (k .result) (k .ensures)
+    (stOf (s .args .backs .now) (s .args .counts .now) (s .args .refs .now) (s .args .made)) (c .if1 .taken)
 
 sub-n : tie.Need-sub-n
-sub-n c = left (c .before .before .before .before .before .before .before .args .walk) (c .before .before .before .before .before .before .before .args .path) (c .before .clip-to .result) (c .before .clip-to .ensures) .onward
+sub-n c =
+    let the-args = c .before .before .before .before .before .before .before .args in
+    left (the-args .walk) (the-args .path) (c .before .clip-to .result) (c .before .clip-to .ensures) .onward
 
 cast-after : tie.Need-cast-after
 cast-after c = search needs
@@ -42,9 +45,11 @@ cast-if2 c = search needs
 returns-2 : tie.Need-returns-2
 unfolding mostSteps
 returns-2 c =
-    let s = c .before .before .before .before .before .before .before .before in
+    let the-before = c .before .before .before .before .before .before .before .before in
+    let s = the-before in
     let k = c .before .before .clip-to in
-    walk-full (length (s .args .refs .now) / refWords) (s .args .line .0) (s .args .walk) (s .args .path) (k .result) (k .ensures) (stOf (s .args .backs .now) (s .args .counts .now) (s .args .refs .now) (s .args .made)) (c .before .if1 .left) (c .if2 .taken)
+    walk-full (length (s .args .refs .now) / refWords) (s .args .line .0) (s .args .walk) (s .args .path) (k .result) (k .ensures)
+    (stOf (s .args .backs .now) (s .args .counts .now) (s .args .refs .now) (s .args .made)) (c .before .if1 .left) (c .if2 .taken)
 
 check-line-requires : tie.Need-check-line-requires
 unfolding mostSteps
@@ -72,10 +77,16 @@ same-length-3 c = search needs
 returns-3 : tie.Need-returns-3
 unfolding mostSteps
 returns-3 c =
-    let s = c .before .before .before .before .before .before .before .before .before .before .before .before .before .before .before .before .before in
-    let k = c .before .before .before .before .before .before .before .before .before .before .before .clip-to in
-    walk-refused (length (s .args .refs .now) / refWords) (s .args .line .0) (s .args .walk) (s .args .path) (k .result) (k .ensures) (stOf (s .args .backs .now) (s .args .counts .now) (s .args .refs .now) (s .args .made))
-    (c .before .before .before .before .before .before .before .before .before .before .if1 .left) (c .before .before .before .before .before .before .before .before .before .if2 .left) _ _ (s .pre .0) (s .pre .1) (c .before .before .before .before .before .check-line .result) (c .before .before .before .before .before .check-line .ensures .0) _ (c .before .v .given .1)
+    let the-before = c .before .before .before .before .before .before .before .before .before .before .before .before .before .before .before .before .before in
+    let the-clip-to = c .before .before .before .before .before .before .before .before .before .before .before .clip-to in
+    let the-if1 = c .before .before .before .before .before .before .before .before .before .before .if1 in
+    let the-if2 = c .before .before .before .before .before .before .before .before .before .if2 in
+    let the-check-line = c .before .before .before .before .before .check-line in
+    let s = the-before in
+    let k = the-clip-to in
+    walk-refused (length (s .args .refs .now) / refWords) (s .args .line .0) (s .args .walk) (s .args .path) (k .result) (k .ensures)
+    (stOf (s .args .backs .now) (s .args .counts .now) (s .args .refs .now) (s .args .made))
+    (the-if1 .left) (the-if2 .left) _ _ (s .pre .0) (s .pre .1) (the-check-line .result) (the-check-line .ensures .0) _ (c .before .v .given .1)
 
 enum-told : tie.Need-enum-told
 enum-told c = search needs
@@ -83,18 +94,25 @@ enum-told c = search needs
 write-line-requires : tie.Need-write-line-requires
 unfolding mostSteps
 write-line-requires c κs =
-    let s = c .before .before .before .before .before .before .before .before .before .before .before .before .before .before .before .before .before .before .before .before in
-    let k = c .before .before .before .before .before .before .before .before .before .before .before .before .before .before .clip-to in
-    let v = c .before .before .before .before .before .before .before .before .check-line in
-    let r = has-room (length (s .args .refs .now) / refWords) (s .args .made + (k .result .imax - k .result .imin)) (c .before .before .before .before .before .before .before .before .before .before .before .before .if2 .left) in (
+    let the-before = c .before .before .before .before .before .before .before .before .before .before .before .before .before .before .before .before .before .before .before .before in
+    let the-clip-to = c .before .before .before .before .before .before .before .before .before .before .before .before .before .before .clip-to in
+    let the-if1 = c .before .before .before .before .before .before .before .before .before .before .before .before .before .if1 in
+    let the-if2 = c .before .before .before .before .before .before .before .before .before .before .before .before .if2 in
+    let the-check-line = c .before .before .before .before .before .before .before .before .check-line in
+    let the-enum-told = c .before .before .before .before .enum-told in
+    let s = the-before in
+    let k = the-clip-to in
+    let v = the-check-line in
+    let r = has-room (length (s .args .refs .now) / refWords) (s .args .made + (k .result .imax - k .result .imin)) (the-if2 .left) in (
       s .pre .0,
-      clipped (s .args .walk) (s .args .path) (k .result) (k .ensures) (s .pre .1 .wide) (not-far (k .result .imin) (k .result .imax) (c .before .before .before .before .before .before .before .before .before .before .before .before .before .if1 .left)),
+      clipped (s .args .walk) (s .args .path) (k .result) (k .ensures) (s .pre .1 .wide) (not-far (k .result .imin) (k .result .imax) (the-if1 .left)),
       v .kept .1 .1 .1 .1 .1 .1 .0 ∙ s .pre .2,
-      v .ensures .1 (c .before .before .before .before .enum-told .given .1),
+      v .ensures .1 (the-enum-told .given .1),
       omega (arith, r),
       omega (arith, r),
-      walk-fine (length (s .args .refs .now) / refWords) (s .args .line .0) (s .args .walk) (s .args .path) (k .result) (k .ensures) (stOf (s .args .backs .now) (s .args .counts .now) (s .args .refs .now) (s .args .made))
-          (c .before .before .before .before .before .before .before .before .before .before .before .before .before .if1 .left) (c .before .before .before .before .before .before .before .before .before .before .before .before .if2 .left) _ _ (s .pre .0) (s .pre .1) (v .result) (v .ensures .0) (c .before .before .before .before .enum-told .given .1),
+      walk-fine (length (s .args .refs .now) / refWords) (s .args .line .0) (s .args .walk) (s .args .path) (k .result) (k .ensures)
+          (stOf (s .args .backs .now) (s .args .counts .now) (s .args .refs .now) (s .args .made))
+          (the-if1 .left) (the-if2 .left) _ _ (s .pre .0) (s .pre .1) (v .result) (v .ensures .0) (the-enum-told .given .1),
     )
 
 same-length-4 : tie.Need-same-length-4
@@ -112,10 +130,16 @@ same-length-7 c = search needs
 returns-4 : tie.Need-returns-4
 unfolding mostSteps
 returns-4 c =
-    let s = c .before .before .before .before .before .before .before .before .before .before .before .before .before .before .before .before .before .before .before .before .before .before .before .before .before .before in
-    let k = c .before .before .before .before .before .before .before .before .before .before .before .before .before .before .before .before .before .before .before .before .clip-to in
-    walk-done (length (s .args .refs .now) / refWords) (s .args .line .0) (s .args .walk) (s .args .path) (k .result) (k .ensures) (stOf (s .args .backs .now) (s .args .counts .now) (s .args .refs .now) (s .args .made))
-    (c .before .before .before .before .before .before .before .before .before .before .before .before .before .before .before .before .before .before .before .if1 .left) (c .before .before .before .before .before .before .before .before .before .before .before .before .before .before .before .before .before .before .if2 .left) _ (c .before .before .before .before .before .write-line .ensures)
+    let the-before = c .before .before .before .before .before .before .before .before .before .before .before .before .before .before .before .before .before .before .before
+    .before .before .before .before .before .before .before in
+    let the-clip-to = c .before .before .before .before .before .before .before .before .before .before .before .before .before .before .before .before .before .before .before .before .clip-to in
+    let the-if1 = c .before .before .before .before .before .before .before .before .before .before .before .before .before .before .before .before .before .before .before .if1 in
+    let the-if2 = c .before .before .before .before .before .before .before .before .before .before .before .before .before .before .before .before .before .before .if2 in
+    let s = the-before in
+    let k = the-clip-to in
+    walk-done (length (s .args .refs .now) / refWords) (s .args .line .0) (s .args .walk) (s .args .path) (k .result) (k .ensures)
+    (stOf (s .args .backs .now) (s .args .counts .now) (s .args .refs .now) (s .args .made))
+    (the-if1 .left) (the-if2 .left) _ (c .before .before .before .before .before .write-line .ensures)
 
 pub count-walk-spec : {M : Type 1} → statement M
 count-walk-spec =

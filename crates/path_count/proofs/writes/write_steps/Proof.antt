@@ -35,9 +35,10 @@ abbrev μ-loop : tie.MeasureT-loop
 
 returns : tie.Need-returns Inv-loop μ-loop
 returns c =
-    let e : c .before .before .before .args .made + (c .before .before .before .args .to - c .before .before .before .args .from) ≡ c .before .before .before .args .made = omega (arith, c .if1 .taken) in
-    ap (λ (n : ℕ). done (stOf (c .before .before .before .args .backs .now) (c .before .before .before .args .counts .now) (c .before .before .before .args .refs .now) n)) e
-    ∙ run-ends _ _ _ _ _ (steps-end _ (c .before .before .before .args .from) (c .before .before .before .args .to) (c .if1 .taken)) refl
+    let the-args = c .before .before .before .args in
+    let e : the-args .made + (the-args .to - the-args .from) ≡ the-args .made = omega (arith, c .if1 .taken) in
+    ap (λ (n : ℕ). done (stOf (the-args .backs .now) (the-args .counts .now) (the-args .refs .now) n)) e
+    ∙ run-ends _ _ _ _ _ (steps-end _ (the-args .from) (the-args .to) (c .if1 .taken)) refl
 
 int-to-float-z-at : tie.Need-int-to-float-z-at Inv-loop μ-loop
 int-to-float-z-at c = in-float (c .before .before .before .before .args .from) (omega (arith, c .before .before .before .before .pre .2 (c .before .if1 .left), c .before .if1 .left, far .steps))
@@ -54,17 +55,25 @@ few c = omega (arith, c .before .before .before .before .before .before .before 
 
 write-step-requires : tie.Need-write-step-requires Inv-loop μ-loop
 write-step-requires c κs =
-    let v = c .before .before .before .before .loop .inv in (
-      subst₂ (OnTiles (c .before .before .before .before .before .before .before .before .before .before .args .path)) (sym (v .3)) (sym (v .4)) (c .before .before .before .before .before .before .before .before .before .before .pre .0),
+    let the-args = c .before .before .before .before .before .before .before .before .before .before .args in
+    let the-pre = c .before .before .before .before .before .before .before .before .before .before .pre in
+    let the-loop = c .before .before .before .before .loop in
+    let the-loop-test = c .before .before .before .loop-test in
+    let v = the-loop .inv in (
+      subst₂ (OnTiles (the-args .path)) (sym (v .3)) (sym (v .4)) (the-pre .0),
       few (c .before .before .before),
       v .2,
-      omega (arith, c .before .before .before .loop-test .taken, v .0 .0, v .1, v .5, c .before .before .before .before .before .before .before .before .before .before .pre .3),
-      omega (arith, c .before .before .before .loop-test .taken, v .0 .0, v .1, c .before .before .before .before .before .before .before .before .before .before .pre .4),
-      run-first _ _ _ _ (steps-turn _ (c .before .before .before .before .loop .i) _ (c .before .before .before .loop-test .taken)) _ _ (ap isDone (v .6) ∙ c .before .before .before .before .before .before .before .before .before .before .pre .5),
+      omega (arith, the-loop-test .taken, v .0 .0, v .1, v .5, the-pre .3),
+      omega (arith, the-loop-test .taken, v .0 .0, v .1, the-pre .4),
+      run-first _ _ _ _ (steps-turn _ (the-loop .i) _ (the-loop-test .taken)) _ _ (ap isDone (v .6) ∙ the-pre .5),
     )
 
 add-at : tie.Need-add-at Inv-loop μ-loop
-add-at c = omega (arith, c .before .before .before .before .before .before .before .before .before .loop-test .taken, c .before .before .before .before .before .before .before .before .before .before .loop .inv .0 .0, c .before .before .before .before .before .before .before .before .before .before .loop .inv .1, c .before .before .before .before .before .before .before .before .before .before .before .before .before .before .before .before .pre .4)
+add-at c =
+    let the-pre = c .before .before .before .before .before .before .before .before .before .before .before .before .before .before .before .before .pre in
+    let the-loop = c .before .before .before .before .before .before .before .before .before .before .loop in
+    let the-loop-test = c .before .before .before .before .before .before .before .before .before .loop-test in
+    omega (arith, the-loop-test .taken, the-loop .inv .0 .0, the-loop .inv .1, the-pre .4)
 
 add-i : tie.Need-add-i Inv-loop μ-loop
 add-i c = omega (arith, few (c .before .before .before .before .before .before .before .before .before))
@@ -74,14 +83,19 @@ loop-less c = omega (arith, c .before .before .before .before .before .before .b
 
 loop-again : tie.Need-loop-again Inv-loop μ-loop
 loop-again c =
-    let v = c .before .before .before .before .before .before .before .before .before .before .loop .inv in (
-      (omega (arith, v .0 .0), omega (arith, c .before .before .before .before .before .before .before .before .before .loop-test .taken)),
+    let the-args = c .before .before .before .before .before .before .before .before .before .before .before .before .before .before .before .before .args in
+    let the-loop = c .before .before .before .before .before .before .before .before .before .before .loop in
+    let the-loop-test = c .before .before .before .before .before .before .before .before .before .loop-test in
+    let the-before = c .before .before .before .before .before .before .before .before .before in
+    let the-write-step = c .before .before .before .before .before .write-step in
+    let v = the-loop .inv in (
+      (omega (arith, v .0 .0), omega (arith, the-loop-test .taken)),
       omega (arith, v .0 .0, v .1),
-      c .before .before .before .before .before .write-step .ensures .1 ∙ sym (last-z (c .before .before .before .before .before .before .before .before .before .before .before .before .before .before .before .before .args .pace) (c .before .before .before .before .before .before .before .before .before .before .loop .i) (few (c .before .before .before .before .before .before .before .before .before))),
-      c .before .before .before .before .before .write-step .kept .1 .1 .1 .1 .1 .1 .1 .0 ∙ v .3,
-      c .before .before .before .before .before .write-step .kept .1 .1 .1 .1 .1 .1 .1 .1 .0 ∙ v .4,
-      c .before .before .before .before .before .write-step .kept .1 .1 .1 .1 .1 .1 .1 .1 .1 .0 ∙ v .5,
-      run-goes _ _ _ _ (steps-turn _ (c .before .before .before .before .before .before .before .before .before .before .loop .i) _ (c .before .before .before .before .before .before .before .before .before .loop-test .taken)) _ _ _ _ (v .6) (c .before .before .before .before .before .write-step .ensures .0),
+      the-write-step .ensures .1 ∙ sym (last-z (the-args .pace) (the-loop .i) (few (the-before))),
+      the-write-step .kept .1 .1 .1 .1 .1 .1 .1 .0 ∙ v .3,
+      the-write-step .kept .1 .1 .1 .1 .1 .1 .1 .1 .0 ∙ v .4,
+      the-write-step .kept .1 .1 .1 .1 .1 .1 .1 .1 .1 .0 ∙ v .5,
+      run-goes _ _ _ _ (steps-turn _ (the-loop .i) _ (the-loop-test .taken)) _ _ _ _ (v .6) (the-write-step .ensures .0),
     )
 
 same-length : tie.Need-same-length Inv-loop μ-loop
@@ -95,8 +109,9 @@ same-length-3 c = c .before .loop .inv .5
 
 returns-2 : tie.Need-returns-2 Inv-loop μ-loop
 returns-2 c =
+    let the-args = c .before .before .before .before .before .before .before .args in
     let v = c .before .loop .inv in
-    let e : c .before .before .before .before .before .before .before .args .made + (c .before .before .before .before .before .before .before .args .to - c .before .before .before .before .before .before .before .args .from) ≡ c .before .loop .at = omega (arith, v .0 .0, v .0 .1, v .1, c .loop-test .left) in
+    let e : the-args .made + (the-args .to - the-args .from) ≡ c .before .loop .at = omega (arith, v .0 .0, v .0 .1, v .1, c .loop-test .left) in
     ap (λ (n : ℕ). done (stOf (c .before .loop .backs) (c .before .loop .counts) (c .before .loop .refs) n)) e ∙ run-ends _ _ _ _ _ (steps-end _ (c .before .loop .i) _ (c .loop-test .left)) (v .6)
 
 pub write-steps-spec : {M : Type 1} → statement M
