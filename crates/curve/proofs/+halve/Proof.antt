@@ -2,14 +2,14 @@ use native.Mathlib.Omega.{arith}
 use mathlib.Core.Path.{_∙_}
 use borrow.Author.Needs.{needs}
 use native.Mathlib.Nat.{lt-of-le-of-lt}
-use Rattle.curve.proofs.Sets.{zero-room, zero-next, zero-done, falls-to, room, room-after, next-is, done-is, same-length}
+use Rattle.curve.proofs.Sets.{zero-room, zero-next, zero-done, put-length, falls-to, room, room-after, next-is, done-is, same-length}
 use Prim.Native.Nat.{ℕ, _<_}
 use borrow.Fn.Kinds.{In}
 use borrow.Fn.PlainCycle.{Measures, is, falls, and}
 use Rattle.curve.proofs.halve.Reads as halve
 use Rattle.curve.proofs.halve.Kinds as halve-kinds
 use Rattle.curve.proofs.+halve.Lts-halve as halve-lts
-use Rattle.curve.proofs.chord.Reads as chord-reads
+use Rattle.curve.proofs.put.Reads as put-reads
 use Rattle.curve.proofs.left.Reads as left-reads
 use Rattle.curve.proofs.right.Reads as right-reads
 use Rattle.curve.proofs.+halve.{statement}
@@ -24,9 +24,9 @@ halve-at t = and 1 halve-kinds.ps (is 1 halve-kinds.ps μ-halve t) halve.Pre
 abbrev halve-below : ℕ → In 1 halve-kinds.ps
 halve-below t = and 1 halve-kinds.ps (falls 1 halve-kinds.ps _<_ μ-halve t) halve.Pre
 
-halve-chord-requires : (t : ℕ) → halve-lts.Need-chord-requires (
-  chord-reads.Asked,
-  chord-reads.Learnt,
+halve-put-requires : (t : ℕ) → halve-lts.Need-put-requires (
+  put-reads.Asked,
+  put-reads.Learnt,
   left-reads.Asked,
   left-reads.Learnt,
   right-reads.Asked,
@@ -34,23 +34,11 @@ halve-chord-requires : (t : ℕ) → halve-lts.Need-chord-requires (
   halve-below t,
   halve.Post,
 ) (halve-at t) halve.Post
-halve-chord-requires t c κs = zero-room _ _ _ (c .before .if1 .taken) (c .before .before .before .pre .1)
-
-halve-add-result : (t : ℕ) → halve-lts.Need-add-result (
-  chord-reads.Asked,
-  chord-reads.Learnt,
-  left-reads.Asked,
-  left-reads.Learnt,
-  right-reads.Asked,
-  right-reads.Learnt,
-  halve-below t,
-  halve.Post,
-) (halve-at t) halve.Post
-halve-add-result t c = let h = zero-room _ _ _ (c .before .before .before .before .if1 .taken) (c .before .before .before .before .before .before .pre .1) in omega (arith, h)
+halve-put-requires t c κs = zero-room _ _ _ (c .before .if1 .taken) (c .before .before .before .pre .1)
 
 halve-sub-d : (t : ℕ) → halve-lts.Need-sub-d (
-  chord-reads.Asked,
-  chord-reads.Learnt,
+  put-reads.Asked,
+  put-reads.Learnt,
   left-reads.Asked,
   left-reads.Learnt,
   right-reads.Asked,
@@ -61,8 +49,8 @@ halve-sub-d : (t : ℕ) → halve-lts.Need-sub-d (
 halve-sub-d t c = search needs
 
 halve-left-requires : (t : ℕ) → halve-lts.Need-left-requires (
-  chord-reads.Asked,
-  chord-reads.Learnt,
+  put-reads.Asked,
+  put-reads.Learnt,
   left-reads.Asked,
   left-reads.Learnt,
   right-reads.Asked,
@@ -73,8 +61,8 @@ halve-left-requires : (t : ℕ) → halve-lts.Need-left-requires (
 halve-left-requires t c κs = tt
 
 halve-right-requires : (t : ℕ) → halve-lts.Need-right-requires (
-  chord-reads.Asked,
-  chord-reads.Learnt,
+  put-reads.Asked,
+  put-reads.Learnt,
   left-reads.Asked,
   left-reads.Learnt,
   right-reads.Asked,
@@ -85,8 +73,8 @@ halve-right-requires : (t : ℕ) → halve-lts.Need-right-requires (
 halve-right-requires t c κs = tt
 
 halve-halve-requires : (t : ℕ) → halve-lts.Need-halve-requires (
-  chord-reads.Asked,
-  chord-reads.Learnt,
+  put-reads.Asked,
+  put-reads.Learnt,
   left-reads.Asked,
   left-reads.Learnt,
   right-reads.Asked,
@@ -97,8 +85,8 @@ halve-halve-requires : (t : ℕ) → halve-lts.Need-halve-requires (
 halve-halve-requires t c κs = (falls-to _ _ (c .before .before .before .if1 .left) (c .before .before .before .before .before .pre .0), room _ _ _ (c .before .before .before .if1 .left) (c .before .before .before .before .before .pre .1))
 
 halve-halve-requires-2 : (t : ℕ) → halve-lts.Need-halve-requires-2 (
-  chord-reads.Asked,
-  chord-reads.Learnt,
+  put-reads.Asked,
+  put-reads.Learnt,
   left-reads.Asked,
   left-reads.Learnt,
   right-reads.Asked,
@@ -109,8 +97,8 @@ halve-halve-requires-2 : (t : ℕ) → halve-lts.Need-halve-requires-2 (
 halve-halve-requires-2 t c κs = (falls-to _ _ (c .before .before .before .before .before .before .before .if1 .left) (c .before .before .before .before .before .before .before .before .before .pre .0), room-after _ _ _ _ _ _ (c .before .before .before .before .before .before .before .if1 .left) (c .before .before .before .before .before .before .before .before .before .pre .1) (c .before .before .before .halve .ensures .0) (c .before .before .before .halve .ensures .1))
 
 halve-same-length : (t : ℕ) → halve-lts.Need-same-length (
-  chord-reads.Asked,
-  chord-reads.Learnt,
+  put-reads.Asked,
+  put-reads.Learnt,
   left-reads.Asked,
   left-reads.Learnt,
   right-reads.Asked,
@@ -118,11 +106,11 @@ halve-same-length : (t : ℕ) → halve-lts.Need-same-length (
   halve-below t,
   halve.Post,
 ) (halve-at t) halve.Post
-halve-same-length t c = same-length 0 _ _ _ _ (c .before .before .chord .ensures)
+halve-same-length t c = put-length _ _ _ _ _ _ _ (c .before .before .put .ensures .1)
 
 halve-returns : (t : ℕ) → halve-lts.Need-returns (
-  chord-reads.Asked,
-  chord-reads.Learnt,
+  put-reads.Asked,
+  put-reads.Learnt,
   left-reads.Asked,
   left-reads.Learnt,
   right-reads.Asked,
@@ -130,11 +118,11 @@ halve-returns : (t : ℕ) → halve-lts.Need-returns (
   halve-below t,
   halve.Post,
 ) (halve-at t) halve.Post
-halve-returns t c = (zero-next _ _ (c .before .before .before .before .if1 .taken), zero-done _ _ _ _ _ (c .before .before .before .before .if1 .taken) (c .before .before .chord .ensures))
+halve-returns t c = (zero-next _ _ _ (c .before .before .before .before .if1 .taken) (c .before .before .put .ensures .0), zero-done _ _ _ _ _ (c .before .before .before .before .if1 .taken) (c .before .before .put .ensures .1))
 
 halve-same-length-2 : (t : ℕ) → halve-lts.Need-same-length-2 (
-  chord-reads.Asked,
-  chord-reads.Learnt,
+  put-reads.Asked,
+  put-reads.Learnt,
   left-reads.Asked,
   left-reads.Learnt,
   right-reads.Asked,
@@ -145,8 +133,8 @@ halve-same-length-2 : (t : ℕ) → halve-lts.Need-same-length-2 (
 halve-same-length-2 t c = same-length _ _ _ _ _ (c .before .before .halve2 .ensures .1) ∙ same-length _ _ _ _ _ (c .before .before .before .before .before .before .halve .ensures .1)
 
 halve-returns-2 : (t : ℕ) → halve-lts.Need-returns-2 (
-  chord-reads.Asked,
-  chord-reads.Learnt,
+  put-reads.Asked,
+  put-reads.Learnt,
   left-reads.Asked,
   left-reads.Learnt,
   right-reads.Asked,
@@ -158,8 +146,8 @@ halve-returns-2 t c = (next-is _ _ _ _ (c .before .before .before .before .befor
 
 pub +halve-spec : {M : Type 1} → statement M
 +halve-spec = close μ-halve λ t. halve-lts.spec (
-  chord-reads.Asked,
-  chord-reads.Learnt,
+  put-reads.Asked,
+  put-reads.Learnt,
   left-reads.Asked,
   left-reads.Learnt,
   right-reads.Asked,
@@ -169,8 +157,7 @@ pub +halve-spec : {M : Type 1} → statement M
 )
     (halve-at t)
     halve.Post
-    (halve-chord-requires t)
-    (halve-add-result t)
+    (halve-put-requires t)
     (halve-sub-d t)
     (halve-left-requires t)
     (halve-right-requires t)

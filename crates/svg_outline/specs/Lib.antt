@@ -1,0 +1,4 @@
+pub mod Outline
+pub mod Steps
+pub mod Strokes
+pub mod Counts
