@@ -76,6 +76,18 @@ extern "C" {
         item: &mut u32,
     ) -> u32;
 
+    pub fn gp_pixel_area(
+        segments: *const f32, segments_len: usize,
+        first: u32, number: u32, even_odd: u32, backdrop: i32, x_tile: f32, y_tile: f32,
+        column: u32, row: u32, area: &mut f32,
+    ) -> u32;
+
+    pub fn gp_pixel(
+        words: *const u32, words_len: usize,
+        segments: *const f32, segments_len: usize,
+        tile: u32, column: u32, row: u32, pixel: &mut u32,
+    ) -> u32;
+
     pub fn gp_ppm_write(
         pixels: *const u32, pixels_len: usize,
         width: u32, height: u32,
