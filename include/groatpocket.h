@@ -41,6 +41,7 @@ extern "C" {
 #define GP_BAD_SCREEN 16u /* a screen too narrow, or too few pixels */
 #define GP_BAD_SIZE 17u   /* a picture's width or height outside 1 to 16,384 */
 #define GP_BAD_FILE 18u   /* no P6 file: another header, or bytes missing or left over */
+#define GP_OFF_TILE 19u   /* a pixel's column or row over 15 */
 
 /* The part of a frame that refused. */
 #define GP_STAGE_NONE 0u     /* none: the frame is done */
@@ -155,6 +156,19 @@ uint32_t gp_tile(const uint32_t *path_nos, size_t path_nos_len,
 uint32_t gp_fill(const float *segments, size_t segments_len,
                  uint32_t first, uint32_t number, uint32_t even_odd, int32_t backdrop,
                  float x_tile, float y_tile, float *area, size_t area_len);
+
+/* One pixel of a tile, 0 to 15 in column and row, without the other 255: what gp_fill leaves there for
+ * the same segments, rule, backdrop and corner, in *area. 19 for a column or row over 15, then as
+ * gp_fill 1 and 13. Where it refuses, *area stays. */
+uint32_t gp_pixel_area(const float *segments, size_t segments_len,
+                       uint32_t first, uint32_t number, uint32_t even_odd, int32_t backdrop,
+                       float x_tile, float y_tile, uint32_t column, uint32_t row, float *area);
+
+/* The same under a list of commands: the pixel that gp_fine leaves there for a screen with that tile,
+ * in *pixel. 19, then 1, then as the tile has them 13, 14 and 15. Where it refuses, *pixel stays. */
+uint32_t gp_pixel(const uint32_t *words, size_t words_len,
+                  const float *segments, size_t segments_len,
+                  uint32_t tile, uint32_t column, uint32_t row, uint32_t *pixel);
 
 #ifdef __cplusplus
 }

@@ -1,10 +1,13 @@
 -- How a tile's commands run, by what stands at a place, and what one of them does to all pixels. Assumes nothing.
-use mathlib.Core.Path.{_≡_, sym, ap, _∙_}
+use mathlib.Core.Path.{_≡_, refl, sym, ap, _∙_}
+use mathlib.Core.Bool.{Bool, true, false, cond}
 use mathlib.Core.List.{List, []}
-use Prim.Native.Nat.{ℕ, zero, suc, _/_}
+use Prim.Native.Nat.{ℕ, zero, suc, _+_, _-_, _/_, _<_, _≤_}
+use native.Mathlib.Omega.{arith}
+use lib.Dec.{ltb}
 use lib.ListN.{length, getD, getD-replicate}
 use lib.Ieee.{Float, nan}
-use borrow.Author.Tests.{eq-eqb, ne-eqb}
+use borrow.Author.Tests.{eq-eqb, ne-eqb, ltb-true}
 use Rattle.util.specs.Constants as Number
 use Rattle.lists.specs.Grid.{mapi}
 use Rattle.lists.specs.GridLaws.{mapi-mapi, getD-mapi}
@@ -27,6 +30,19 @@ use Rattle.commands.specs.declared.steps.Move.the-variants.{Refused, Goe
 use Rattle.commands.proofs.Acts.{unchanged, mapi-cong}
 
 -- ---- the run
+
+-- where a word was found, the place is among the words
+pub found : (ws : List ℕ) (at w : ℕ) → lookAt ws at ≡ Word w → at < length ws
+found ws at w e = ltb-true at (length ws) (go (ltb at (length ws)) e)
+  where
+    go : (b : Bool) → cond b (Word (getD ws at 0)) Past ≡ Word w → b ≡ true
+    go true f = refl
+    go false f = let z : _≡_ {A = ℕ} 0 1 = cc in absurd (omega arith)
+
+-- a command fewer is left
+pub more : (n : ℕ) → n ≤ mostCommands → (n ≡ mostCommands → ⊥) → mostCommands - n ≡ suc (mostCommands - (n + 1))
+more n h e = omega arith
+
 module _ (ws : List ℕ) (room at : ℕ) where
   pub trace-past : (n : ℕ) → lookAt ws at ≡ Past → traceOf n ws room at ≡ ends (Against pastEnd)
   unfolding traceOf

@@ -17,7 +17,7 @@ ghost use Rattle.coverage.specs.Fill.{fillChecks, FillMet};
 
 // What is checked first: whole segments and an area of a tile's size (1), then the fill's segments
 // (13), their sum in 64 bits.
-fn check_fill(segments: usize, area: usize, first: u32, number: u32) -> Verdict
+pub fn check_fill(segments: usize, area: usize, first: u32, number: u32) -> Verdict
     ensures { λ r. ⌜ r ≡ firstNo (fillChecks segments area first number) ⌝ }
 {
     if segments % SEGMENT_FLOATS != 0 {

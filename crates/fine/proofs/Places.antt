@@ -49,7 +49,7 @@ module _ (w tx ty y : ℕ) (hy : y < tileHeight) (hw : tileWidth * tx + tileWidt
   pub place-in-row : (x : ℕ) → x < tileWidth → placeOf w (rowAt w tx ty y + x) ≡ tileWidth * y + x
   place-in-row x hx = let h = in-row x hx in rw (h .0, h .1) (omega arith)
 
-  inside : (p : ℕ) → rowAt w tx ty y ≤ p → p < rowAt w tx ty y + tileWidth → (p % w / tileWidth ≡ tx) × (p / w / tileHeight ≡ ty) × (p / w % tileHeight ≡ y)
+  pub inside : (p : ℕ) → rowAt w tx ty y ≤ p → p < rowAt w tx ty y + tileWidth → (p % w / tileWidth ≡ tx) × (p / w / tileHeight ≡ ty) × (p / w % tileHeight ≡ y)
   inside p lo hi =
       let x = p - rowAt w tx ty y in
       let e : rowAt w tx ty y + x ≡ p = omega arith in

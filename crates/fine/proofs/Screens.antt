@@ -29,7 +29,7 @@ pub inside-put : (new : ℕ → ℕ → ℕ) (w tx ty p : ℕ) (pixels : List �
 unfolding putTile
 inside-put new w tx ty p pixels h e = getD-mapi _ pixels p 0 0 h ∙ ap (λ (b : Bool). cond b (new p (getD pixels p 0)) (getD pixels p 0)) e
 
-tile-length : (ws : List ℕ) (segs : List Float) (t w tx ty : ℕ) (pixels : List ℕ) → length (tilePixels ws segs t w tx ty pixels) ≡ length pixels
+pub tile-length : (ws : List ℕ) (segs : List Float) (t w tx ty : ℕ) (pixels : List ℕ) → length (tilePixels ws segs t w tx ty pixels) ≡ length pixels
 unfolding tilePixels putTile
 tile-length ws segs t w tx ty pixels = go (endsAt ws segs t)
   where

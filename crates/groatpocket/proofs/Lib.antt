@@ -2,3 +2,4 @@
 pub mod Told
 pub mod ToldFrame
 pub mod ToldPpm
+pub mod ToldPixel

@@ -4,3 +4,4 @@ pub mod Calls
 pub mod CallFrame
 pub mod CallLists
 pub mod CallPpm
+pub mod CallPixel

@@ -59,6 +59,9 @@ badSize = 17
 abbrev pub badFile : ℕ
 badFile = 18
 
+abbrev pub offTile : ℕ
+offTile = 19
+
 -- all of them, in order
 abbrev pub refusalNumbers : List ℕ
 refusalNumbers =
@@ -81,4 +84,5 @@ refusalNumbers =
     ∷ badScreen
     ∷ badSize
     ∷ badFile
+    ∷ offTile
     ∷ []

@@ -59,8 +59,11 @@ pub const BAD_SIZE: u32 = 17;
 // 18: no P6 file: another header, or bytes missing or left over
 pub const BAD_FILE: u32 = 18;
 
+// 19: a pixel's column or row outside its tile
+pub const OFF_TILE: u32 = 19;
+
 // All of them, in order.
-pub fn all() -> [u32; 19]
+pub fn all() -> [u32; 20]
     ensures { λ r. ⌜ r ≡ refusalNumbers ⌝ }
 {
     [
@@ -83,5 +86,6 @@ pub fn all() -> [u32; 19]
         BAD_SCREEN,
         BAD_SIZE,
         BAD_FILE,
+        OFF_TILE,
     ]
 }

@@ -8,7 +8,7 @@
 //! Lines become pixels in three calls: [`frame`] counts the lines and writes their segments,
 //! [`write_lists`] makes a list of commands for each screen tile, [`fine`] draws them. The stages of
 //! a frame are calls too, for whoever feeds lines in batches: [`count`], [`backdrop`], [`hand_out`],
-//! [`tile`].
+//! [`tile`]. One pixel can be asked for by itself: [`pixel`], [`pixel_area`].
 //!
 //! ```
 //! use groatpocket::{count, hand_out, Running};
@@ -36,6 +36,8 @@ mod frame;
 mod lists;
 #[cfg(feature = "picture")]
 mod picture;
+#[cfg(feature = "pixel")]
+mod pixel;
 pub mod raw;
 mod refusal;
 mod screen;
@@ -47,6 +49,8 @@ pub use frame::{frame, FrameStopped, Stage};
 pub use lists::{words_needed, write_lists};
 #[cfg(feature = "picture")]
 pub use picture::{ppm_read, ppm_write};
+#[cfg(feature = "pixel")]
+pub use pixel::{pixel, pixel_area};
 pub use refusal::{Refusal, Refused};
 pub use screen::{fill, fine, Fill, Screen};
 pub use stages::{backdrop, count, hand_out, tile, Running, Stopped};
@@ -63,5 +67,7 @@ pub const SEGMENT_FLOATS: usize = 5;
 pub const PAINT_WORDS: usize = 2;
 /// Words to a region of commands; screen tile t's list starts at word 64 t + 1.
 pub const TILE_WORDS: usize = 64;
+/// Pixels to a side of a tile.
+pub const TILE_SIDE: usize = 16;
 /// Pixels of a tile.
 pub const TILE_PIXELS: usize = 256;

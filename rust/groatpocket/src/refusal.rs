@@ -41,16 +41,19 @@ pub enum Refusal {
     BadSize = 17,
     /// 18: no P6 file: another header, or bytes missing or left over.
     BadFile = 18,
+    /// 19: a pixel's column or row over 15.
+    OffTile = 19,
 }
 
 impl Refusal {
     /// All of them; number n stands at n - 1.
     #[rustfmt::skip]
-    pub const ALL: [Refusal; 18] = {
+    pub const ALL: [Refusal; 19] = {
         use Refusal::*;
         [
             NotWhole, TooMany, BadBox, BadRange, LineNumber, Coordinate, NoSuch, CountOver, NoRoom,
             Outside, SumOver, Crooked, PastEnd, Unknown, TooLong, BadScreen, BadSize, BadFile,
+            OffTile,
         ]
     };
 

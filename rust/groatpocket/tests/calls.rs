@@ -151,6 +151,44 @@ fn lists_are_refused_whole() {
     assert!(words[8..].iter().all(|w| *w == 7));
 }
 
+#[cfg(feature = "pixel")]
+#[test]
+fn one_pixel_is_what_the_tile_has() {
+    let segments = [2.0, 0.0, 13.5, 16.0, 1e9, 13.5, 16.0, 2.0, 4.25, 3.0];
+    let of = |even_odd| Fill { first: 0, number: 2, even_odd, backdrop: 1, x_tile: 0.0, y_tile: 0.0 };
+    // FILL of both by even-odd, COLOR, then a FILL of the second by non-zero, COLOR
+    let words = [0, 1, 5, 0, 1, 3, 0x204060ff, 1, 2, 1, 0, 3, 0x80ff0180, 0];
+    let screen = Screen { width: 16, cols: 1, rows: 1 };
+    let (mut odd, mut whole, mut pixels) = ([0.0; 256], [0.0; 256], [0; 256]);
+    fill(&segments, of(true), &mut odd).unwrap();
+    fill(&segments, of(false), &mut whole).unwrap();
+    fine(&words, &segments, screen, 0, 1, &mut pixels).unwrap();
+    for k in 0..TILE_PIXELS {
+        let (column, row) = ((k % TILE_SIDE) as u32, (k / TILE_SIDE) as u32);
+        assert_eq!(pixel_area(&segments, of(true), column, row), Ok(odd[k]));
+        assert_eq!(pixel_area(&segments, of(false), column, row), Ok(whole[k]));
+        assert_eq!(pixel(&words, &segments, 0, column, row), Ok(pixels[k]));
+    }
+}
+
+#[cfg(feature = "pixel")]
+#[test]
+fn nineteen_comes_first() {
+    let number = |r: Result<u32, Refused>| r.unwrap_err().refusal.number();
+    assert_eq!(number(pixel(&[], &[0.0], 0, 16, 0)), 19);
+    assert_eq!(number(pixel(&[], &[0.0], 0, 0, 16)), 19);
+    assert_eq!(number(pixel(&[], &[0.0], 0, 15, 15)), 1);
+    assert_eq!(number(pixel(&[0; 64], &[], u32::MAX, 15, 15)), 13);
+    assert_eq!(number(pixel(&[0, 9], &[], 0, 15, 15)), 14);
+    assert_eq!(number(pixel(&[0, 4, 1], &[], 0, 15, 15)), 15);
+    assert_eq!(number(pixel(&[0, 1, 2, 0, 0, 0], &[], 0, 15, 15)), 13);
+    let one = Fill { first: 0, number: 1, even_odd: false, backdrop: 0, x_tile: 0.0, y_tile: 0.0 };
+    let number = |r: Result<f32, Refused>| r.unwrap_err().refusal.number();
+    assert_eq!(number(pixel_area(&[0.0], one, 16, 0)), 19);
+    assert_eq!(number(pixel_area(&[0.0], one, 0, 0)), 1);
+    assert_eq!(number(pixel_area(&[], one, 0, 0)), 13);
+}
+
 #[cfg(feature = "picture")]
 #[test]
 fn a_picture_comes_back() {

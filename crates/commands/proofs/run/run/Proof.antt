@@ -1,37 +1,24 @@
 -- `commands::run::run` meets its contract. The invariant: what is left to do, from the present place with the commands left, gives what the whole gives. Assumes nothing.
 use mathlib.Core.Path.{_≡_, refl, sym, ap, _∙_}
-use mathlib.Core.Bool.{Bool, true, false, cond}
 use mathlib.Core.List.{List}
-use Prim.Native.Nat.{ℕ, suc, _-_, _+_, _/_, _≤_, _<_}
-use lib.Dec.{ltb}
-use lib.ListN.{length, getD, length-replicate}
+use Prim.Native.Nat.{ℕ, suc, _-_, _+_, _/_, _≤_}
+use lib.ListN.{length, length-replicate}
 use denote.Ref.{now}
 use lib.Ieee.{Float}
-use borrow.Author.Tests.{ltb-true}
 use Rattle.util.specs.Constants.{zero}
 use Rattle.panel.specs.Limits.{mostCommands}
 use Rattle.panel.specs.Widths.{segmentFloats}
 use Rattle.panel.specs.declared.kinds.Verdict.{Verdict}
 use Rattle.coverage.specs.Tile.{tileSize}
-use Rattle.reader.specs.Look.{lookAt}
-use Rattle.reader.specs.declared.Look.the-variants.{Word, Past}
 use Rattle.commands.specs.Steps.{Trace, ends, does, traceOf}
 use Rattle.commands.specs.Pixel.{coverAll, paintAll, noArea, ran, runOf}
 use Rattle.commands.specs.declared.steps.Act.{Act}
 use Rattle.commands.proofs.Acts.{length-cover, length-paint, move-within}
-use Rattle.commands.proofs.Traced.{trace-past, trace-end, trace-full, trace-stop, trace-goes, left, left-ends, left-does, left-starts}
+use Rattle.commands.proofs.Traced.{found, more, trace-past, trace-end, trace-full, trace-stop, trace-goes, left, left-ends, left-does, left-starts}
 use native.Mathlib.Omega.{arith}
 use borrow.Author.Needs.{needs}
 use Rattle.commands.proofs.run.run.Statement.{statement}
 use Rattle.commands.proofs.run.run.Tie as tie
-
--- where a word was found, the place is among the words
-found : (ws : List ℕ) (at w : ℕ) → lookAt ws at ≡ Word w → at < length ws
-found ws at w e = ltb-true at (length ws) (go (ltb at (length ws)) e)
-  where
-    go : (b : Bool) → cond b (Word (getD ws at 0)) Past ≡ Word w → b ≡ true
-    go true f = refl
-    go false f = let z : _≡_ {A = ℕ} 0 1 = cc in absurd (omega arith)
 
 no-area-length : length noArea ≡ tileSize
 unfolding noArea
@@ -40,9 +27,6 @@ no-area-length = length-replicate tileSize zero
 begins : (ws : List ℕ) (segs : List Float) (start : ℕ) (rgba : List (List Float)) (area : List Float) → length rgba ≡ tileSize → area ≡ noArea
     → left segs (traceOf (mostCommands - 0) ws (length segs / segmentFloats) start) area rgba ≡ runOf ws segs start rgba
 begins ws segs start rgba area h e = ap (λ (l : List Float). left segs (traceOf mostCommands ws (length segs / segmentFloats) start) l rgba) e ∙ left-starts segs ws start rgba h
-
-more : (n : ℕ) → n ≤ mostCommands → (n ≡ mostCommands → ⊥) → mostCommands - n ≡ suc (mostCommands - (n + 1))
-more n h e = omega arith
 
 module _ (ws : List ℕ) (segs : List Float) (start room : ℕ) (rgba₀ : List (List Float)) (area : List Float) (rgba : List (List Float)) (at count : ℕ)
     (inv : left segs (traceOf (mostCommands - count) ws room at) area rgba ≡ runOf ws segs start rgba₀) where

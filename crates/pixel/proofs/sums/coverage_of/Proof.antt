@@ -1,0 +1,36 @@
+-- `pixel::sums::coverage_of` meets its contract. Assumes nothing.
+use mathlib.Core.Path.{_≡_, ap, _∙_}
+use mathlib.Core.Bool.{Bool}
+use mathlib.Core.List.{List}
+use Prim.Native.Nat.{ℕ}
+use lib.IntN.{ℤ}
+use lib.Ieee.{Float, binary32, ofInt}
+use mir.Syntax.{w32}
+use mir.ValLaws.{toZ-ofZ}
+use denote.Ref.{now}
+use Rattle.coverage.specs.Coverage.{areaAfter, finishOf, sumOf, pixelOf}
+use borrow.Author.Needs.{needs}
+use Rattle.pixel.proofs.sums.coverage_of.Statement.{statement}
+use Rattle.pixel.proofs.sums.coverage_of.Tie as tie
+
+chain : (segs : List Float) (first n : ℕ) (eo : Bool) (z : ℤ) (xt yt : Float) (k : ℕ) (v s r : Float) → v ≡ ofInt binary32 z → s ≡ areaAfter segs first xt yt n k v
+    → r ≡ finishOf eo s → r ≡ pixelOf segs first n eo z xt yt k
+unfolding pixelOf sumOf
+chain segs first n eo z xt yt k v s r p q e = e ∙ ap (finishOf eo) (q ∙ ap (areaAfter segs first xt yt n k) p)
+
+of-i32-requires : tie.Need-of-i32-requires
+of-i32-requires c κs = search needs
+
+area-after-requires : tie.Need-area-after-requires
+area-after-requires c κs = search needs
+
+finish-requires : tie.Need-finish-requires
+finish-requires c κs = search needs
+
+returns : tie.Need-returns
+returns c =
+    let a = c .before .before .before .before .args in
+    chain (now (a .segments)) (a .first) (a .n) (a .eo) (a .backdrop) (a .xt) (a .yt) _ _ _ _ (c .before .before .of-i32 .ensures ∙ ap (ofInt binary32) (toZ-ofZ w32 (a .backdrop) (c .before .before .before .before .fits .backdrop))) (c .before .area-after .ensures) (c .finish .ensures)
+
+pub coverage-of-spec : {M : Type 1} → statement M
+coverage-of-spec = tie.close (tie.spec of-i32-requires area-after-requires finish-requires returns)

@@ -1,0 +1,20 @@
+-- The public call for a pixel's coverage: 19, then fill's own refusals, of an area that has a tile's size; then fill's own value at that pixel.
+-- Definitions only.
+use mathlib.Core.Bool.{Bool}
+use mathlib.Core.List.{List}
+use Prim.Native.Nat.{ℕ}
+use lib.IntN.{ℤ}
+use lib.ListN.{length}
+use lib.Ieee.{Float}
+use Rattle.panel.specs.Checks.{firstNo}
+use Rattle.coverage.specs.Tile.{tileSize}
+use Rattle.coverage.specs.Coverage.{pixelOf}
+use Rattle.coverage.specs.Fill.{fillChecks}
+use Rattle.pixel.specs.Place.{placeAt, placeChecks}
+use Rattle.pixel.specs.Answers.{Paper, answered, unlessNo}
+
+unfoldable pub coverageAtOf : List Float → ℕ → ℕ → Bool → ℤ → Float → Float → ℕ → ℕ → Paper Float
+coverageAtOf segments first n even-odd backdrop x-tile y-tile column row =
+    unlessNo (firstNo (placeChecks column row))
+    (unlessNo (firstNo (fillChecks (length segments) tileSize first n))
+    (answered (pixelOf segments first n even-odd backdrop x-tile y-tile (placeAt column row))))
