@@ -5,10 +5,10 @@ use Prim.Native.Nat.{ℕ, _-_, _+_, _≤_}
 use native.Mathlib.Numerals.{add-one}
 use denote.Ref.{now}
 use lib.Ieee.{Float}
-use Rattle.coverage.specs.Segment.{segmentAt}
+use Rattle.panel.specs.Segments.{segmentAt}
 use Rattle.coverage.specs.Row.{stepSegment}
 use Rattle.coverage.specs.Coverage.{areaAfter}
-use Rattle.coverage.specs.declared.segment.Segment.{Segment}
+use Rattle.panel.specs.declared.segments.Segment.{Segment}
 use Rattle.pixel.specs.Place.{placeAt}
 use native.Mathlib.Omega.{arith}
 use borrow.Author.Needs.{needs}

@@ -6,7 +6,7 @@ use lib.Ieee.{Float, binary32, add, ne}
 use Rattle.util.specs.Constants.{zero}
 use Rattle.coverage.specs.Tile.{tileWidth}
 use Rattle.coverage.specs.Row.{wayOf, rowOf, reachOf, addedOf, slanted, edged, stepRow, stepWay, stepSegment}
-use Rattle.coverage.specs.declared.segment.Segment.{Segment}
+use Rattle.panel.specs.declared.segments.Segment.{Segment}
 use Rattle.coverage.specs.declared.row.Way.{Way}
 use Rattle.coverage.specs.declared.row.Row.{Row}
 use Rattle.coverage.specs.declared.row.Reach.{Reach}
