@@ -14,6 +14,7 @@
 --     Framing               the call for a frame: its ways, what it leaves, isolation between frames, one answer
 --     FrameNumbers          which numbers each part of a frame refuses with
 --     FrameTraces           frames of one line, computed
+--     StepLaws              step numbers stay exact in a float
 pub mod Acts
 pub mod Own
 pub mod Counting
@@ -36,3 +37,4 @@ pub mod Frame
 pub mod Framing
 pub mod FrameNumbers
 pub mod FrameTraces
+pub mod StepLaws
