@@ -529,7 +529,9 @@ pub fn run(n: u64, seed: u64, threads: u64) -> bool {
         }
     }
     share("sides of outlines", n.max(1_000_000), seed, |r| outline(r, &[(20.0, 20.0), (60.0, 60.0), (200.0, 200.0), (800.0, 800.0)]));
-    share("sides of outlines as large as a wall", lines(EDGE_MOST), seed, |r| outline(r, &[(7_000.0, 7_000.0), (32_000.0, 1_500.0), (1_500.0, 32_000.0)]));
+    share("sides of outlines as large as a wall", lines(EDGE_MOST), seed, |r| {
+        outline(r, &[(7_000.0, 7_000.0), (32_000.0, 1_500.0), (1_500.0, 32_000.0)])
+    });
     let wrong = [3, 4, 5, 8, 9, 11];
     wrong.iter().all(|&k| all.found[k].number == 0)
 }
