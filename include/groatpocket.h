@@ -25,10 +25,10 @@ extern "C" {
 #define GP_DONE 0u        /* done */
 #define GP_NOT_WHOLE 1u   /* no whole records, paired slices that differ, or a bad range */
 #define GP_TOO_MANY 2u    /* too many paths, tiles or screen tiles */
-#define GP_BAD_BOX 3u     /* a box edge over the limit, or edges the wrong way round */
+#define GP_BAD_BOX 3u     /* a box edge over 4,096, or edges the wrong way round */
 #define GP_BAD_RANGE 4u   /* a path's first tile before the end of the path before it, or tiles past the end */
 #define GP_LINE_NUMBER 5u /* counting: line number 65,536 or more */
-#define GP_COORDINATE 6u  /* a coordinate not finite, or over 16,384 in size */
+#define GP_COORDINATE 6u  /* a coordinate not finite, or over 65,536 in size */
 #define GP_NO_SUCH 7u     /* no such path; in a reference, no such line or a skipped one */
 #define GP_COUNT_OVER 8u  /* a step number or a tile's count over its limit */
 #define GP_NO_ROOM 9u     /* no room for references, slots, regions of commands or a file */

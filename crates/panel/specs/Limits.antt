@@ -12,7 +12,7 @@ abbrev pub mostTiles : ℕ
 mostTiles = 1048576
 
 unfoldable pub edgeMost : ℕ
-edgeMost = 1024
+edgeMost = 4096
 
 -- line numbers, step numbers and tile counts are below these
 abbrev pub mostLines : ℕ
@@ -33,10 +33,10 @@ mostCommands = 4096
 
 -- the size of a coordinate: as a whole number, as bits (of which one more is the next float), and as the float that code compares with
 unfoldable pub coordWhole : ℕ
-coordWhole = 16384
+coordWhole = 65536
 
 unfoldable pub coordBits : ℕ
-coordBits = 0x4680_0000
+coordBits = 0x4780_0000
 
 unfoldable pub coordMost : Float
 unfolding coordBits

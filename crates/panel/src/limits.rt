@@ -8,7 +8,7 @@ pub const MOST_PATHS: u32 = 4096;
 
 pub const MOST_TILES: u32 = 1048576;
 
-pub const EDGE_MOST: u32 = 1024;
+pub const EDGE_MOST: u32 = 4096;
 
 // Lines have numbers below this, and so have a line's steps; a tile's count is below it before it
 // is counted once more.
@@ -28,7 +28,7 @@ pub const MOST_COMMANDS: u32 = 4096;
 pub const SIDE_MOST: u32 = 16384;
 
 // A coordinate's size.
-pub const COORD_MOST: f32 = 16384.0;
+pub const COORD_MOST: f32 = 65536.0;
 
 // All of them, the coordinate's apart.
 pub fn all() -> [u32; 9]

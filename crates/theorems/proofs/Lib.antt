@@ -16,6 +16,7 @@
 --     FrameNumbers          which numbers each part of a frame refuses with
 --     FrameTraces           frames of one line, computed
 --     Refuted               statements near the theorems' that are false, refuted by instances
+--     StepLaws              step numbers stay exact in a float
 pub mod Acts
 pub mod Own
 pub mod Counting
@@ -40,3 +41,4 @@ pub mod Framing
 pub mod FrameNumbers
 pub mod FrameTraces
 pub mod Refuted
+pub mod StepLaws

@@ -9,6 +9,7 @@
 --     Promises   the promises of the public calls, named
 --     Refusing   the ground of each refusal
 --     Commands   the same of a screen tile's commands
+--     StepNumbers   why step numbers stay exact in a float
 pub mod Drawn
 pub mod Events
 pub mod Refs
@@ -19,3 +20,4 @@ pub mod Starred
 pub mod Promises
 pub mod Refusing
 pub mod Commands
+pub mod StepNumbers

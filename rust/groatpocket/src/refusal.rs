@@ -9,13 +9,13 @@ pub enum Refusal {
     NotWhole = 1,
     /// 2: too many paths, tiles or screen tiles.
     TooMany = 2,
-    /// 3: a box edge over the limit, or edges the wrong way round.
+    /// 3: a box edge over 4,096, or edges the wrong way round.
     BadBox = 3,
     /// 4: a path's first tile before the end of the path before it, or tiles past the end.
     BadRange = 4,
     /// 5: counting: line number 65,536 or more.
     LineNumber = 5,
-    /// 6: a coordinate not finite, or over 16,384 in size.
+    /// 6: a coordinate not finite, or over 65,536 in size.
     Coordinate = 6,
     /// 7: no such path; in a reference, no such line or one that the walk skips.
     NoSuch = 7,

@@ -4,7 +4,7 @@ use crate::stage::{hex, same, same_words, Sides, Stage};
 use crate::table::Table;
 use cases::memory::Lent;
 use cases::{boxes, Rng};
-use rules::limits::PATHS_MOST;
+use rules::limits::{EDGE_MOST, PATHS_MOST};
 
 #[derive(Clone, Debug)]
 pub struct Case {
@@ -38,7 +38,7 @@ impl Stage for Backdrop {
             return Case { paths: [0, 0, 0, 0, 0].repeat(n as usize), backdrops: vec![1; rng.below(4) as usize] };
         }
         let n = rng.range(0, 5) as usize;
-        let most = rng.pick(&[2, 4, 24]);
+        let most = if rng.one_in(60) { EDGE_MOST } else { rng.pick(&[2, 4, 24]) };
         let (mut paths, tiles) = boxes::table(rng, n, most);
         let wild = rng.pick(&[6, 20, 200, 10_000]);
         let mut backdrops: Vec<u32> = (0..tiles + rng.below(4) as usize).map(|_| value(rng, wild)).collect();

@@ -101,7 +101,7 @@ fn spoil(rng: &mut Rng, case: &mut Case) {
 
 /// A long list over clear tiles with room for all, few of its lines refused.
 pub fn long_list(rng: &mut Rng) -> Case {
-    let most = rng.pick(&[6, 12, 24]);
+    let most = if rng.one_in(60) { EDGE_MOST } else { rng.pick(&[6, 12, 24]) };
     let n_paths = rng.range(1, 3) as usize;
     let (paths, tiles) = boxes::table(rng, n_paths, most);
     let n = rng.range(20, 60) as usize;
@@ -114,7 +114,7 @@ pub fn long_list(rng: &mut Rng) -> Case {
             coords.extend(line.map(f32::to_bits));
         }
     }
-    let refs = (0..2 * n * 12).map(|k| 0xbeef_0000 + k as u32).collect();
+    let refs = (0..2 * n * (most as usize / 2).max(12)).map(|k| 0xbeef_0000 + k as u32).collect();
     let mut ends = vec![n as u32];
     if rng.coin() {
         ends.insert(0, rng.range(0, n as i64) as u32);

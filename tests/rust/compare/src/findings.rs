@@ -277,7 +277,9 @@ impl All {
         if off && at.y0 == at.y1 {
             self.found[12].meet(input);
         }
-        if !off && (0..w.count.min(WALK_MOST)).any(|i| !(c.from..c.to).contains(&i) && w.step(i, at).is_some()) {
+        // such a step is near the clipped walk, or there is none of it
+        let near = if c.from < c.to { (c.from - 300).max(0)..(c.to + 300).min(w.count) } else { 0..w.count.min(WALK_MOST) };
+        if !off && near.into_iter().any(|i| !(c.from..c.to).contains(&i) && w.step(i, at).is_some()) {
             self.found[13].meet(input);
         }
         for (list, which) in [(&mut tiles, 3), (&mut marks, 4)] {
@@ -322,7 +324,7 @@ fn by_families(n: u64, seed: u64, threads: u64) -> All {
                 let mut mine = All::new();
                 let mut rng = Rng::of_case(seed, t);
                 for _ in 0..n / threads / 16 {
-                    let most = rng.pick(&[3, 6, 24, 300]);
+                    let most = rng.pick(&[3, 6, 24, 300, EDGE_MOST]);
                     let b = boxes::any(&mut rng, most);
                     for _ in 0..16 {
                         let line = if rng.one_in(3) { off_the_grid(&mut rng, &b) } else { lines::any(&mut rng, &b).1 };
@@ -402,20 +404,21 @@ fn roomy(input: Input) -> Input {
     Input { b: [(x0 - 1).max(0), (y0 - 1).max(0), x1 + 1, y1 + 1], ..input }
 }
 
-/// A side of a closed outline of a few corners, drawn around its own box as a flattened path is.
-fn outline(rng: &mut Rng) -> Input {
-    let size = rng.pick(&[20.0, 60.0, 200.0, 800.0]);
-    let (cx, cy) = (rng.between(0.0, 1_000.0), rng.between(0.0, 1_000.0));
+/// A side of a closed outline of a few corners, drawn around its own box as a flattened path is: half as wide and as high.
+fn outline(rng: &mut Rng, halves: &[(f32, f32)]) -> Input {
+    let (wide, high) = rng.pick(halves);
+    let wall = 16.0 * EDGE_MOST as f32;
+    let (cx, cy) = (rng.between(0.0, wall), rng.between(0.0, wall));
     let corners = rng.range(3, 9);
     let k = rng.range(0, corners - 1);
     let at = |k: i64, reach: f32| {
         let turn = k as f32 / corners as f32 * std::f32::consts::TAU;
-        [cx + size * reach * turn.cos(), cy + size * reach * turn.sin()]
+        [cx + wide * reach * turn.cos(), cy + high * reach * turn.sin()]
     };
     let p = at(k, rng.between(0.5, 1.0));
     let q = at(k + 1, rng.between(0.5, 1.0));
     let tile = |v: f32, up: i64| ((v / 16.0).floor() as i64 + up).clamp(0, EDGE_MOST);
-    let b = [tile(cx - size, 0), tile(cy - size, 0), tile(cx + size, 1), tile(cy + size, 1)];
+    let b = [tile(cx - wide, 0), tile(cy - high, 0), tile(cx + wide, 1), tile(cy + high, 1)];
     Input { b, line: [p[0], p[1], q[0], q[1]] }
 }
 
@@ -503,16 +506,32 @@ pub fn run(n: u64, seed: u64, threads: u64) -> bool {
     println!("  a {}, b {}, z {}, step numbers {}", show(all.a), show(all.b), show(all.z), show(all.step));
     println!("Shares refused with 10");
     let m = (n / 20).max(20_000);
-    share("flat, slopes 1e-6 to 1e-5, box 256 wide, across its top or bottom", m, seed, |r| flat(r, 256, (-6.0, -5.0)));
-    share("the same, 64 wide", m, seed, |r| flat(r, 64, (-6.0, -5.0)));
-    share("the same, 16 wide", m, seed, |r| flat(r, 16, (-6.0, -5.0)));
-    share("flat, slopes 1e-5 to 1e-4, 256 wide", m, seed, |r| flat(r, 256, (-5.0, -4.0)));
-    share("flat, slopes 1e-4 to 1e-3, 256 wide", m, seed, |r| flat(r, 256, (-4.0, -3.0)));
-    share("steep, slopes 1e-8 to 1e-7, box 64 high, across its side", m, seed, |r| steep(r, 64, (-8.0, -7.0)));
-    share("steep, slopes 1e-7 to 1e-6, 64 high", m, seed, |r| steep(r, 64, (-7.0, -6.0)));
-    share("the flattest, 256 wide, in a box a tile larger on every side", m, seed, |r| roomy(flat(r, 256, (-6.0, -5.0))));
-    share("the steepest, 64 high, in a box a tile larger on every side", m, seed, |r| roomy(steep(r, 64, (-8.0, -7.0))));
-    share("sides of outlines", n.max(1_000_000), seed, outline);
+    // as many tiles are walked over in a wide box as in a narrow one
+    let lines = |size: i64| (m * 64 / size.max(64) as u64).max(2_000);
+    for (from, to) in [(-6.0, -5.0), (-5.0, -4.0), (-4.0, -3.0), (-3.0, -2.0), (-2.0, -1.0)] {
+        for wide in [16, 64, 256, 1_024, EDGE_MOST] {
+            let what = format!("flat, slopes 1e{from} to 1e{to}, box {wide} wide, across its top or bottom");
+            share(&what, lines(wide), seed, |r| flat(r, wide, (from, to)));
+        }
+    }
+    for (from, to) in [(-8.0, -7.0), (-7.0, -6.0), (-6.0, -5.0), (-5.0, -4.0), (-4.0, -3.0)] {
+        for high in [64, 256, 1_024, EDGE_MOST] {
+            let what = format!("steep, slopes 1e{from} to 1e{to}, box {high} high, across its side");
+            share(&what, lines(high), seed, |r| steep(r, high, (from, to)));
+        }
+    }
+    for size in [256, 1_024, EDGE_MOST - 2] {
+        for (from, to) in [(-6.0, -5.0), (-5.0, -4.0), (-4.0, -3.0)] {
+            let what = format!("flat, slopes 1e{from} to 1e{to}, {size} wide, in a box a tile larger on every side");
+            share(&what, lines(size), seed, |r| roomy(flat(r, size, (from, to))));
+            let what = format!("steep, slopes 1e{} to 1e{}, {size} high, in a box a tile larger on every side", from - 2.0, to - 2.0);
+            share(&what, lines(size), seed, |r| roomy(steep(r, size, (from - 2.0, to - 2.0))));
+        }
+    }
+    share("sides of outlines", n.max(1_000_000), seed, |r| outline(r, &[(20.0, 20.0), (60.0, 60.0), (200.0, 200.0), (800.0, 800.0)]));
+    share("sides of outlines as large as a wall", lines(EDGE_MOST), seed, |r| {
+        outline(r, &[(7_000.0, 7_000.0), (32_000.0, 1_500.0), (1_500.0, 32_000.0)])
+    });
     let wrong = [3, 4, 5, 8, 9, 11];
     wrong.iter().all(|&k| all.found[k].number == 0)
 }

@@ -6,7 +6,7 @@ use crate::table::Table;
 use cases::memory::{as_f32, Lent};
 use cases::{boxes, lines, Rng};
 use rules::frame::{COUNTING, HAND_OUT, LENT, TILING};
-use rules::limits::PATHS_MOST;
+use rules::limits::{EDGE_MOST, PATHS_MOST};
 
 #[derive(Clone, Debug)]
 pub struct Case {
@@ -44,7 +44,8 @@ fn lines_of(rng: &mut Rng, families: &[usize], paths: &[u32], n: usize) -> (Vec<
 /// room for all or nearly all.
 pub fn over(rng: &mut Rng, paths: Vec<u32>, tiles: usize, n: usize, families: &[usize]) -> Case {
     let (path_nos, coords) = if families.is_empty() { some_lines(rng, &paths, n) } else { lines_of(rng, families, &paths, n) };
-    let (mut b, mut c, mut r) = (vec![0; tiles], vec![0; tiles], vec![0; 2 * n * 120]);
+    let reach = paths.chunks_exact(5).map(|p| (p[2] - p[0] + p[3] - p[1]) as usize).max().unwrap_or(0);
+    let (mut b, mut c, mut r) = (vec![0; tiles], vec![0; tiles], vec![0; 2 * n * (120 + reach)]);
     let (mut lines, mut made) = (0, 0);
     rules::count(&path_nos, as_f32(&coords), &paths, &mut b, &mut c, &mut r, n as u32, &mut lines, &mut made, &mut 0);
     let room = |rng: &mut Rng| match rng.below(10) {
@@ -81,10 +82,10 @@ impl Stage for Frame {
     const NAME: &'static str = "frame";
     /// 8 and 11 can't be met over cleared tiles, and 5 takes a line over the limit (`limits` has it).
     const REACHED: &'static [u32] = &[0, 1, 2, 3, 4, 6, 7, 9, 10, 12];
-    const LEAST: u64 = 100_000;
+    const LEAST: u64 = 130_000;
 
     fn make(&self, rng: &mut Rng) -> Case {
-        let most = rng.pick(&[4, 8, 24]);
+        let most = if rng.one_in(60) { rng.pick(&[300, EDGE_MOST]) } else { rng.pick(&[4, 8, 24]) };
         let n_paths = rng.range(1, 4) as usize;
         let (paths, tiles) = boxes::table(rng, n_paths, most);
         let tiles = tiles + rng.below(3) as usize;

@@ -5,7 +5,7 @@ use crate::stage::{hex, same, same_words, Sides, Stage};
 use crate::table::Table;
 use cases::memory::{as_f32, Lent};
 use cases::{boxes, Rng};
-use rules::limits::{PATHS_MOST, ROOM_MOST, STEP_RANGE};
+use rules::limits::{EDGE_MOST, PATHS_MOST, ROOM_MOST, STEP_RANGE};
 
 #[derive(Clone, Debug)]
 pub struct Case {
@@ -99,7 +99,7 @@ impl Stage for Tile {
     const LEAST: u64 = 150_000;
 
     fn make(&self, rng: &mut Rng) -> Case {
-        let most = if rng.one_in(60) { 300 } else { rng.pick(&[4, 8, 24]) };
+        let most = if rng.one_in(60) { rng.pick(&[300, EDGE_MOST]) } else { rng.pick(&[4, 8, 24]) };
         let n = rng.range(1, 12) as usize;
         let (mut case, made) = counted(rng, most, n);
         let room = match rng.below(10) {

@@ -7,7 +7,7 @@ use crate::table::Table;
 use cases::commands::{color, Command, Lists};
 use cases::memory::{as_f32, Lent};
 use cases::{boxes, segments, Rng};
-use rules::limits::{PATHS_MOST, ROOM_MOST};
+use rules::limits::{EDGE_MOST, PATHS_MOST, ROOM_MOST};
 use rules::lists::{Pair, Tables};
 
 #[derive(Clone, Debug)]
@@ -30,13 +30,16 @@ pub struct Case {
 
 pub struct WriteLists;
 
-/// Paths in painting order whose boxes lie on or near a small screen, many of them over one another.
+/// Paths in painting order whose boxes lie on or near a small screen, many of them over one another; now and then one over all the wall.
 fn near_boxes(rng: &mut Rng, n: usize, most: i64) -> (Vec<u32>, usize) {
     let (mut paths, mut next) = (vec![], 0);
     let far = rng.range(0, 2);
     for _ in 0..n {
         let (x, y) = (rng.range(0, far), rng.range(0, far));
-        let (w, h) = (rng.range(0, most), rng.range(1, most));
+        let (mut w, h) = (rng.range(0, most), rng.range(1, most));
+        if n < 8 && rng.one_in(200) {
+            w = EDGE_MOST - x; // as far right as a box may reach, most of it off the screen
+        }
         paths.extend([x, y, x + w, y + h, next].map(|v| v as u32));
         next += w * h + rng.one_in(6) as i64;
     }

@@ -156,7 +156,10 @@ fn count_traces(list: &mut List) {
         ("so short, no step left: accepted", square(1).with(0, [8.0, -tiny, 8.0, tiny])),
         ("a coordinate at the limit passes", square(0).with(0, [COORD_MOST, 3.0, -COORD_MOST, 20.0])),
         ("the next float is 6", square(0).with(0, [3.0, 3.0, 4.0, after_limit])),
-        ("a box edge at the limit passes", Counting::new(&[edge - 2, edge - 2, edge, edge, 0], 4).with(0, [far - 24.0, far - 24.0, far - 4.0, far - 14.0])),
+        (
+            "a box edge at the limit passes",
+            Counting::new(&[edge - 2, edge - 2, edge, edge, 0], 4).with(0, [far - 24.0, far - 24.0, far - 4.0, far - 14.0]),
+        ),
         ("one more is 3", Counting::new(&[edge - 2, edge - 2, edge + 1, edge, 0], 6)),
         (
             "first and last step numbers at the top of u32: accepted",

@@ -2,9 +2,9 @@
 
 pub const PATHS_MOST: i64 = 4_096;
 pub const TILES_MOST: i64 = 1_048_576;
-pub const EDGE_MOST: i64 = 1_024;
+pub const EDGE_MOST: i64 = 4_096;
 pub const LINES_MOST: i64 = 65_536;
-pub const COORD_MOST: f32 = 16_384.0;
+pub const COORD_MOST: f32 = 65_536.0;
 pub const STEP_MOST: i64 = 65_535;
 pub const COUNT_MOST: i64 = 65_535;
 pub const ROOM_MOST: i64 = 16_777_216;
