@@ -42,8 +42,9 @@ enum-told c = search needs
 
 returns : tie.Need-returns
 returns c =
-    ap (λ (v : Verdict). notedOf v (zOf (c .before .before .before .before .args .pace) (c .before .before .before .before .args .i)) (wordOf (hitAt (c .before .before .before .before .args .pace) (c .before .before .before .before .args .path) (c .before .before .before .before .args .i))))
-    (check-off _ _ _ _ _ (hit-off (c .before .before .before .before .args .pace) (c .before .before .before .before .args .path) (c .before .before .before .before .args .i) (sym (c .before .before .step-by .ensures) ∙ c .enum-told .given .1)))
+    let the-args = c .before .before .before .before .args in
+    ap (λ (v : Verdict). notedOf v (zOf (the-args .pace) (the-args .i)) (wordOf (hitAt (the-args .pace) (the-args .path) (the-args .i))))
+    (check-off _ _ _ _ _ (hit-off (the-args .pace) (the-args .path) (the-args .i) (sym (c .before .before .step-by .ensures) ∙ c .enum-told .given .1)))
 
 cast-t : tie.Need-cast-t
 cast-t c = search needs
@@ -52,23 +53,31 @@ mul-if1 : tie.Need-mul-if1
 mul-if1 c = search needs
 
 -- the step is on its tile
-fell : (c : tie.After-tile) → stepOf (c .before .before .before .before .args .pace) (c .before .before .before .before .args .path) (c .before .before .before .before .args .i) ≡ Tile (c .tile .given .0 .0) (c .tile .given .0 .1 .0) (c .tile .given .0 .1 .1 .0) (c .tile .given .0 .1 .1 .1 .0)
+fell : (c : tie.After-tile) →
+    let the-args = c .before .before .before .before .args in
+    stepOf (the-args .pace) (the-args .path) (the-args .i) ≡ Tile (c .tile .given .0 .0) (c .tile .given .0 .1 .0) (c .tile .given .0 .1 .1 .0) (c .tile .given .0 .1 .1 .1 .0)
 fell c = sym (c .before .before .step-by .ensures) ∙ c .tile .given .1
 
 -- which is lent
 below : (c : tie.After-tile) → c .tile .given .0 .0 .0 < length (c .before .before .before .before .args .counts .now)
-below c = omega (arith, tile-in (c .before .before .before .before .args .pace) (c .before .before .before .before .args .path) (c .before .before .before .before .args .i) _ _ _ _ (fell c) .1, c .before .before .before .before .pre .0 .within)
+below c =
+    let the-args = c .before .before .before .before .args in
+    omega (arith, tile-in (the-args .pace) (the-args .path) (the-args .i) _ _ _ _ (fell c) .1, c .before .before .before .before .pre .0 .within)
 
 shared-slice-read-if1 : tie.Need-shared-slice-read-if1
 shared-slice-read-if1 c = below (c .before .before .before)
 
 returns-2 : tie.Need-returns-2
 returns-2 c =
-    ap (λ (v : Verdict). notedOf v (zOf (c .before .before .before .before .before .before .before .before .args .pace) (c .before .before .before .before .before .before .before .before .args .i)) (wordOf (hitAt (c .before .before .before .before .before .before .before .before .args .pace) (c .before .before .before .before .before .before .before .before .args .path) (c .before .before .before .before .before .before .before .before .args .i))))
-    (check-full _ _ _ _ _ _ _ (hit-on (c .before .before .before .before .before .before .before .before .args .pace) (c .before .before .before .before .before .before .before .before .args .path) (c .before .before .before .before .before .before .before .before .args .i) _ _ _ _ (fell (c .before .before .before .before)) (c .before .before .before .before .before .before .before .before .args .last-z) _ (c .before .before .before .before .before .before .before .before .pre .2) refl) (c .if1 .taken))
+    let the-args = c .before .before .before .before .before .before .before .before .args in
+    let the-pre = c .before .before .before .before .before .before .before .before .pre in
+    ap (λ (v : Verdict). notedOf v (zOf (the-args .pace) (the-args .i)) (wordOf (hitAt (the-args .pace) (the-args .path) (the-args .i))))
+    (check-full _ _ _ _ _ _ _ (hit-on (the-args .pace) (the-args .path) (the-args .i) _ _ _ _ (fell (c .before .before .before .before)) (the-args .last-z) _ (the-pre .2) refl) (c .if1 .taken))
 
 crosses-requires : tie.Need-crosses-requires
-crosses-requires c κs = step-told (c .before .before .before .before .before .before .before .before .args .pace) (c .before .before .before .before .before .before .before .before .args .path) (c .before .before .before .before .before .before .before .before .args .i) _ _ _ _ (fell (c .before .before .before .before)) .within .col-most
+crosses-requires c κs =
+    let the-args = c .before .before .before .before .before .before .before .before .args in
+    step-told (the-args .pace) (the-args .path) (the-args .i) _ _ _ _ (fell (c .before .before .before .before)) .within .col-most
 
 next-if-requires : tie.Need-next-if-requires
 next-if-requires c κs = search needs
@@ -76,16 +85,21 @@ next-if-requires c κs = search needs
 -- the tile that is marked, or the step's own, is lent
 next : (c : tie.After-next-if) → c .next-if .result < length (c .before .before .before .before .before .before .before .before .before .before .args .backs .now)
 next c =
+    let the-args = c .before .before .before .before .before .before .before .before .before .before .args in
+    let the-pre = c .before .before .before .before .before .before .before .before .before .before .pre in
     omega (
       arith,
       c .next-if .ensures,
-      next-below (c .before .before .before .before .before .before .before .before .before .before .args .pace) (c .before .before .before .before .before .before .before .before .before .before .args .path) (c .before .before .before .before .before .before .before .before .before .before .args .i) _ _ _ _ (fell (c .before .before .before .before .before .before)) (c .before .before .before .before .before .before .before .before .before .before .args .last-z) (c .before .crosses .result) (c .before .crosses .ensures),
-      c .before .before .before .before .before .before .before .before .before .before .pre .0 .within,
-      c .before .before .before .before .before .before .before .before .before .before .pre .0 .paired,
+      next-below (the-args .pace) (the-args .path) (the-args .i) _ _ _ _ (fell (c .before .before .before .before .before .before)) (the-args .last-z) (c .before .crosses .result)
+          (c .before .crosses .ensures),
+      the-pre .0 .within,
+      the-pre .0 .paired,
     )
 
 mul-leaves : tie.Need-mul-leaves
-mul-leaves c = omega (arith, next (c .before), c .before .before .before .before .before .before .before .before .before .before .before .pre .0 .few, c .before .before .before .before .before .before .before .before .before .before .before .pre .0 .paired)
+mul-leaves c =
+    let the-pre = c .before .before .before .before .before .before .before .before .before .before .before .pre in
+    omega (arith, next (c .before), the-pre .0 .few, the-pre .0 .paired)
 
 shared-slice-copy-out-leaves : tie.Need-shared-slice-copy-out-leaves
 shared-slice-copy-out-leaves c = next (c .before)
@@ -94,14 +108,26 @@ leaves-requires : tie.Need-leaves-requires
 leaves-requires c κs = search needs
 
 -- where the step falls, and whether it marks
-hit : (c : tie.After-crosses) → hitAt (c .before .before .before .before .before .before .before .before .before .args .pace) (c .before .before .before .before .before .before .before .before .before .args .path) (c .before .before .before .before .before .before .before .before .before .args .i) ≡ on (c .before .before .before .before .before .tile .given .0 .0 .0) (c .crosses .result)
-hit c = hit-on (c .before .before .before .before .before .before .before .before .before .args .pace) (c .before .before .before .before .before .before .before .before .before .args .path) (c .before .before .before .before .before .before .before .before .before .args .i) _ _ _ _ (fell (c .before .before .before .before .before)) (c .before .before .before .before .before .before .before .before .before .args .last-z) (c .crosses .result) (c .before .before .before .before .before .before .before .before .before .pre .2) (c .crosses .ensures)
+hit : (c : tie.After-crosses) →
+    let the-args = c .before .before .before .before .before .before .before .before .before .args in
+    let the-tile = c .before .before .before .before .before .tile in
+    hitAt (the-args .pace) (the-args .path) (the-args .i) ≡ on (the-tile .given .0 .0 .0) (c .crosses .result)
+hit c =
+    let the-args = c .before .before .before .before .before .before .before .before .before .args in
+    let the-pre = c .before .before .before .before .before .before .before .before .before .pre in
+    hit-on (the-args .pace) (the-args .path) (the-args .i) _ _ _ _ (fell (c .before .before .before .before .before)) (the-args .last-z) (c .crosses .result) (the-pre .2) (c .crosses .ensures)
 
 -- what `leaves` says of the backdrop itself
-said : (c : tie.After-leaves) → c .leaves .result ≡ not (inI32 (getD (c .before .before .before .before .before .before .before .before .before .before .before .before .before .args .backs .now) (cond (c .before .before .before .before .crosses .result) (c .before .before .before .before .before .before .before .before .before .tile .given .0 .0 .0 + 1) (c .before .before .before .before .before .before .before .before .before .tile .given .0 .0 .0)) (pos 0) +ℤ deltaOf (c .before .before .before .before .before .before .before .before .before .before .before .before .before .args .up)))
+said : (c : tie.After-leaves) →
+    let the-args = c .before .before .before .before .before .before .before .before .before .before .before .before .before .args in
+    let the-tile = c .before .before .before .before .before .before .before .before .before .tile in
+    let the-crosses = c .before .before .before .before .crosses in
+    c .leaves .result ≡ not (inI32 (getD (the-args .backs .now) (cond (the-crosses .result) (the-tile .given .0 .0 .0 + 1) (the-tile .given .0 .0 .0)) (pos 0) +ℤ deltaOf (the-args .up)))
 said c =
-    told (getD (c .before .before .before .before .before .before .before .before .before .before .before .before .before .args .backs .now) (c .before .before .before .next-if .result) (pos 0)) (deltaOf (c .before .before .before .before .before .before .before .before .before .before .before .before .before .args .up)) (c .leaves .result) (c .before .leaves-arg .given) (c .leaves .ensures)
-    ∙ ap (λ (q : ℕ). not (inI32 (getD (c .before .before .before .before .before .before .before .before .before .before .before .before .before .args .backs .now) q (pos 0) +ℤ deltaOf (c .before .before .before .before .before .before .before .before .before .before .before .before .before .args .up)))) (c .before .before .before .next-if .ensures)
+    let the-args = c .before .before .before .before .before .before .before .before .before .before .before .before .before .args in
+    let the-next-if = c .before .before .before .next-if in
+    told (getD (the-args .backs .now) (the-next-if .result) (pos 0)) (deltaOf (the-args .up)) (c .leaves .result) (c .before .leaves-arg .given) (c .leaves .ensures)
+    ∙ ap (λ (q : ℕ). not (inI32 (getD (the-args .backs .now) q (pos 0) +ℤ deltaOf (the-args .up)))) (the-next-if .ensures)
 
 word-of-requires : tie.Need-word-of-requires
 word-of-requires c κs =
@@ -115,7 +141,8 @@ noted-of-requires : tie.Need-noted-of-requires
 noted-of-requires c κs = search needs
 
 -- the word is the step's
-word : (c : tie.After-word-of) → let s = c .before .before .before .before .before .before .before .before .before .before .before in c .word-of .result ≡ wordOf (hitAt (s .args .pace) (s .args .path) (s .args .i))
+word : (c : tie.After-word-of) →
+    let s = c .before .before .before .before .before .before .before .before .before .before .before in c .word-of .result ≡ wordOf (hitAt (s .args .pace) (s .args .path) (s .args .i))
 word c = c .word-of .ensures ∙ ap wordOf (sym (hit (c .before .before)))
 
 returns-3 : tie.Need-returns-3
@@ -129,12 +156,15 @@ returns-3 c =
 
 returns-4 : tie.Need-returns-4
 returns-4 c =
-    let s = c .before .before .before .before .before .before .before .before .before .before .before .before .before .before in
+    let the-before = c .before .before .before .before .before .before .before .before .before .before .before .before .before .before in
+    let the-before2 = c .before .before .before .before .before .before .before .before .before .before in
+    let s = the-before in
     let h = hit (c .before .before .before .before .before) in
-    ap (λ z. Passed z (c .before .before .before .word-of .result)) (sym (step-told (s .args .pace) (s .args .path) (s .args .i) _ _ _ _ (fell (c .before .before .before .before .before .before .before .before .before .before)) .is-z))
+    ap (λ z. Passed z (c .before .before .before .word-of .result)) (sym (step-told (s .args .pace) (s .args .path) (s .args .i) _ _ _ _ (fell (the-before2)) .is-z))
     ∙ ap (Passed (zOf (s .args .pace) (s .args .i))) (word (c .before .before .before))
     ∙ ap (λ (v : Verdict). notedOf v (zOf (s .args .pace) (s .args .i)) (wordOf (hitAt (s .args .pace) (s .args .path) (s .args .i))))
-    (check-passes _ _ _ _ _ _ _ h (c .before .leaves .result) (c .before .before .before .before .before .before .if1 .left) (said (c .before)) (none-leaves (c .before .before .before .before .before .crosses .result) (c .before .leaves .result) (c .if2 .left)))
+    (check-passes _ _ _ _ _ _ _ h (c .before .leaves .result) (c .before .before .before .before .before .before .if1 .left) (said (c .before))
+    (none-leaves (c .before .before .before .before .before .crosses .result) (c .before .leaves .result) (c .if2 .left)))
 
 pub note-step-spec : {M : Type 1} → statement M
 note-step-spec =

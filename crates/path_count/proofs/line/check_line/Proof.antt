@@ -35,7 +35,9 @@ enum-told-2 : tie.Need-enum-told-2
 enum-told-2 c = search needs
 
 -- what the rows' check says, of the rows by the clip
-rows : (c : tie.After-check-rows) → let s = c .before .before .before .before in c .check-rows .result ≡ checkNo (deltaOf (s .args .up)) (rowsActs (rowsBy (s .args .path) (s .args .clip))) (s .args .backs .now) (s .args .counts .now)
+rows : (c : tie.After-check-rows) →
+    let s = c .before .before .before .before in c .check-rows .result ≡ checkNo (deltaOf (s .args .up)) (rowsActs (rowsBy (s .args .path) (s .args .clip))) (s .args .backs .now)
+    (s .args .counts .now)
 rows c =
     let s = c .before .before .before .before in
     c .check-rows .ensures
@@ -54,10 +56,12 @@ same-length : tie.Need-same-length
 same-length c = search needs
 
 returns-2 : tie.Need-returns-2
-returns-2 c = (
-  c .before .before .check-walk .ensures .0 ∙ check-goes _ _ _ _ refl _ _ (c .before .before .before .before .before .before .check-rows .result) _ refl (rows (c .before .before .before .before .before .before)) (c .before .before .before .before .enum-told .given .1),
-  c .before .before .check-walk .ensures .1,
-)
+returns-2 c =
+    let the-check-rows = c .before .before .before .before .before .before .check-rows in (
+      c .before .before .check-walk .ensures .0 ∙ check-goes _ _ _ _ refl _ _ (the-check-rows .result) _ refl (rows (c .before .before .before .before .before .before))
+          (c .before .before .before .before .enum-told .given .1),
+      c .before .before .check-walk .ensures .1,
+    )
 
 pub check-line-spec : {M : Type 1} → statement M
 check-line-spec =

@@ -48,9 +48,12 @@ same-length c = search needs
 
 returns : tie.Need-returns
 returns c =
-    let s = c .before .before .before .before .before .before .before .before .before in
+    let the-before = c .before .before .before .before .before .before .before .before .before in
+    let the-note-steps = c .before .before .before .before .note-steps in
+    let s = the-before in
     let m = middle (c .before .before .before .before .before .before) in (
-      check-stops _ _ _ _ (steps-halves (hitAt (s .args .pace) (s .args .path)) (s .args .imin) (c .before .before .before .before .before .before .noted-to .result) (s .args .imax) (m .0) (m .1)) _ _ (c .before .before .before .before .note-steps .result) _ refl (c .before .before .before .before .note-steps .ensures .0) _ (c .enum-told2 .given .1),
+      check-stops _ _ _ _ (steps-halves (hitAt (s .args .pace) (s .args .path)) (s .args .imin) (c .before .before .before .before .before .before .noted-to .result)
+          (s .args .imax) (m .0) (m .1)) _ _ (the-note-steps .result) _ refl (the-note-steps .ensures .0) _ (c .enum-told2 .given .1),
       λ e. absurd (not-fine _ (sym (c .enum-told2 .given .1) ∙ e)),
     )
 
@@ -65,10 +68,15 @@ same-length-2 c = search needs
 
 returns-2 : tie.Need-returns-2
 returns-2 c =
-    let s = c .before .before .before .before .before .before .before .before .before .before in
+    let the-before = c .before .before .before .before .before .before .before .before .before .before in
+    let the-noted-to = c .before .before .before .before .before .before .before .noted-to in
+    let the-note-steps = c .before .before .before .before .before .note-steps in
+    let s = the-before in
     let m = middle (c .before .before .before .before .before .before .before) in (
-      c .check-steps .ensures ∙ check-goes _ _ _ _ (steps-halves (hitAt (s .args .pace) (s .args .path)) (s .args .imin) (c .before .before .before .before .before .before .before .noted-to .result) (s .args .imax) (m .0) (m .1)) _ _ (c .before .before .before .before .before .note-steps .result) _ refl (c .before .before .before .before .before .note-steps .ensures .0) (c .before .enum-told .given .1),
-      λ e. subst (λ (n : ℕ). Notes (hitAt (s .args .pace) (s .args .path)) (s .args .imin) (n - s .args .imin) (c .before .before .before .before .before .note-steps .last .1 .1 .1 .1 .1 .1 .1 .0) (length (s .args .backs .now))) (c .before .before .before .before .before .before .before .noted-to .ensures) (c .before .before .before .before .before .note-steps .ensures .1 (c .before .enum-told .given .1)),
+      c .check-steps .ensures ∙ check-goes _ _ _ _ (steps-halves (hitAt (s .args .pace) (s .args .path)) (s .args .imin) (the-noted-to .result) (s .args .imax) (m .0) (m .1)) _ _
+          (the-note-steps .result) _ refl (the-note-steps .ensures .0) (c .before .enum-told .given .1),
+      λ e. subst (λ (n : ℕ). Notes (hitAt (s .args .pace) (s .args .path)) (s .args .imin) (n - s .args .imin) (the-note-steps .last .1 .1 .1 .1 .1 .1 .1 .0)
+          (length (s .args .backs .now))) (the-noted-to .ensures) (the-note-steps .ensures .1 (c .before .enum-told .given .1)),
     )
 
 pub check-walk-spec : {M : Type 1} → statement M

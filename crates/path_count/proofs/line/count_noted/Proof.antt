@@ -28,7 +28,9 @@ use Rattle.path_count.proofs.line.unwalked.Reads as unwalked-reads
 use Rattle.walk.proofs.found.walk_at.Reads as walk-at-reads
 
 returns : tie.Need-returns
-returns c = let s = c .before .before .before .before .before .before .before .before in line-over (s .args .path-nos .now) (s .args .coords .now) (s .args .paths .now) (length (s .args .refs .now) / refWords) (s .args .line .0) (s .args .place) _ (c .if1 .taken)
+returns c =
+    let the-before = c .before .before .before .before .before .before .before .before in
+    let s = the-before in line-over (s .args .path-nos .now) (s .args .coords .now) (s .args .paths .now) (length (s .args .refs .now) / refWords) (s .args .line .0) (s .args .place) _ (c .if1 .taken)
 
 walk-at-requires : tie.Need-walk-at-requires
 walk-at-requires c κs = search needs
@@ -47,11 +49,16 @@ no-walk (Line w b) k = ⊎-elim (λ e. absurd (omega (arith, e))) (λ e. absurd 
 
 returns-2 : tie.Need-returns-2
 returns-2 c =
-    let s = c .before .before .before .before .before .before .before .before .before .before .before in
-    line-unwalked (s .args .path-nos .now) (s .args .coords .now) (s .args .paths .now) (length (s .args .refs .now) / refWords) (s .args .line .0) (s .args .place) _ _ _ _ (c .before .before .walk-at .result) (c .unwalked .result) (c .before .before .before .if1 .left) (sym (c .before .before .walk-at .ensures)) (no-walk (c .before .before .walk-at .result) (c .before .match .keys2)) (c .unwalked .ensures)
+    let the-before = c .before .before .before .before .before .before .before .before .before .before .before in
+    let s = the-before in
+    line-unwalked (s .args .path-nos .now) (s .args .coords .now) (s .args .paths .now) (length (s .args .refs .now) / refWords) (s .args .line .0) (s .args .place) _ _ _ _
+    (c .before .before .walk-at .result) (c .unwalked .result) (c .before .before .before .if1 .left) (sym (c .before .before .walk-at .ensures))
+    (no-walk (c .before .before .walk-at .result) (c .before .match .keys2)) (c .unwalked .ensures)
 
 -- the line has a walk
-line : (c : tie.After-walked) → let s = c .before .before .before .before .before .before .before .before .before .before .before in walkAt (s .args .path-nos .now) (s .args .coords .now) (s .args .paths .now) (s .args .place) ≡ Line (c .walked .given .0 .0) (c .walked .given .0 .1 .0)
+line : (c : tie.After-walked) →
+    let s = c .before .before .before .before .before .before .before .before .before .before .before in walkAt (s .args .path-nos .now) (s .args .coords .now)
+    (s .args .paths .now) (s .args .place) ≡ Line (c .walked .given .0 .0) (c .walked .given .0 .1 .0)
 line c = sym (c .before .before .walk-at .ensures) ∙ c .walked .given .1
 
 count-walk-requires : tie.Need-count-walk-requires
@@ -76,11 +83,17 @@ same-length-4 c = search needs
 
 returns-3 : tie.Need-returns-3
 returns-3 c =
-    let s = c .before .before .before .before .before .before .before .before .before .before .before .before .before .before .before .before .before .before .before .before .before .before .before .before in
+    let the-before = c .before .before .before .before .before .before .before .before .before .before .before .before .before .before .before .before .before .before .before
+    .before .before .before .before .before in
+    let the-if1 = c .before .before .before .before .before .before .before .before .before .before .before .before .before .before .before .before .if1 in
+    let the-before2 = c .before .before .before .before .before .before .before .before .before .before .before .before .before in
+    let the-count-walk = c .before .before .before .before .before .before .before .count-walk in
+    let s = the-before in
     let t = stOf (s .args .backs .now) (s .args .counts .now) (s .args .refs .now) (s .args .made) in
-    c .before .before .before .before .before .before .before .count-walk .ensures
+    the-count-walk .ensures
     ∙ ap (λ (o : Step St ℕ). lineRan o t)
-    (sym (line-walked (s .args .path-nos .now) (s .args .coords .now) (s .args .paths .now) (length (s .args .refs .now) / refWords) (s .args .line .0) (s .args .place) t _ (c .before .before .before .before .before .before .before .before .before .before .before .before .before .before .before .before .if1 .left) (line (c .before .before .before .before .before .before .before .before .before .before .before .before .before))))
+    (sym (line-walked (s .args .path-nos .now) (s .args .coords .now) (s .args .paths .now) (length (s .args .refs .now) / refWords) (s .args .line .0) (s .args .place) t _
+    (the-if1 .left) (line (the-before2))))
 
 pub count-noted-spec : {M : Type 1} → statement M
 count-noted-spec =

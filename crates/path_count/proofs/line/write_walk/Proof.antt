@@ -30,17 +30,24 @@ middle c =
     subst (λ (m : ℕ). (s .args .imin ≤ m) × (m ≤ s .args .imax) × (m - s .args .imin ≤ noteWords)) (sym (c .noted-to .ensures)) (noted-end (s .args .imin) (s .args .imax) (s .pre .1))
 
 -- the words up to it
-notes : (c : tie.After-noted-to) → let s = c .before .before .before .before in Notes (hitAt (s .args .pace) (s .args .path)) (s .args .imin) (c .noted-to .result - s .args .imin) (s .args .notes .now) (length (s .args .backs .now))
+notes : (c : tie.After-noted-to) →
+    let s = c .before .before .before .before in Notes (hitAt (s .args .pace) (s .args .path)) (s .args .imin) (c .noted-to .result - s .args .imin) (s .args .notes .now)
+    (length (s .args .backs .now))
 notes c =
     let s = c .before .before .before .before in
     subst (λ (m : ℕ). Notes (hitAt (s .args .pace) (s .args .path)) (s .args .imin) (m - s .args .imin) (s .args .notes .now) (length (s .args .backs .now))) (sym (c .noted-to .ensures)) (s .pre .7)
 
 -- by their words the steps up to it have the same acts
-acts : (c : tie.After-noted-to) → let s = c .before .before .before .before in let m = c .noted-to .result in stepsActs (hitAt (s .args .pace) (s .args .path)) (m - s .args .imin) (s .args .imin) ≡ stepsActs (hitsBy (s .args .notes .now) (s .args .imin)) (m - s .args .imin) (s .args .imin)
-acts c = let s = c .before .before .before .before in notes-acts (hitAt (s .args .pace) (s .args .path)) (s .args .imin) (c .noted-to .result) (s .args .notes .now) (length (s .args .backs .now)) (notes c)
+acts : (c : tie.After-noted-to) →
+    let s = c .before .before .before .before in let m = c .noted-to .result in stepsActs (hitAt (s .args .pace) (s .args .path)) (m - s .args .imin) (s .args .imin) ≡ stepsActs
+    (hitsBy (s .args .notes .now) (s .args .imin)) (m - s .args .imin) (s .args .imin)
+acts c =
+    let s = c .before .before .before .before in notes-acts (hitAt (s .args .pace) (s .args .path)) (s .args .imin) (c .noted-to .result) (s .args .notes .now) (length (s .args .backs .now)) (notes c)
 
 -- and so all of them are those by the words, then the rest
-halves : (c : tie.After-noted-to) → let s = c .before .before .before .before in let m = c .noted-to .result in stepsActs (hitAt (s .args .pace) (s .args .path)) (s .args .imax - s .args .imin) (s .args .imin) ≡ stepsActs (hitsBy (s .args .notes .now) (s .args .imin)) (m - s .args .imin) (s .args .imin) ++ stepsActs (hitAt (s .args .pace) (s .args .path)) (s .args .imax - m) m
+halves : (c : tie.After-noted-to) →
+    let s = c .before .before .before .before in let m = c .noted-to .result in stepsActs (hitAt (s .args .pace) (s .args .path)) (s .args .imax - s .args .imin) (s .args .imin) ≡
+    stepsActs (hitsBy (s .args .notes .now) (s .args .imin)) (m - s .args .imin) (s .args .imin) ++ stepsActs (hitAt (s .args .pace) (s .args .path)) (s .args .imax - m) m
 halves c =
     let s = c .before .before .before .before in
     let m = c .noted-to .result in
@@ -66,10 +73,19 @@ sub-at : tie.Need-sub-at
 sub-at c = middle (c .before .before .before .before .before .before .before .before .before) .0
 
 add-at : tie.Need-add-at
-add-at c = omega (arith, middle (c .before .before .before .before .before .before .before .before .before) .1, middle (c .before .before .before .before .before .before .before .before .before) .0, c .before .before .before .before .before .before .before .before .before .before .before .before .before .pre .4)
+add-at c =
+    let the-pre = c .before .before .before .before .before .before .before .before .before .before .before .before .before .pre in
+    let the-before = c .before .before .before .before .before .before .before .before .before in
+    omega (arith, middle (the-before) .1, middle (the-before) .0, the-pre .4)
 
 -- what is left after them, run from there, is the walk run from the start
-left : (c : tie.After-write-notes) → let s = c .before .before .before .before .before .before .before .before in let m = c .before .before .before .before .noted-to .result in runActs (deltaOf (s .args .up)) (s .args .line .0) (stepsActs (hitAt (s .args .pace) (s .args .path)) (s .args .imax - m) m) (stOf (c .write-notes .last .1 .1 .1 .1 .1 .1 .0) (c .write-notes .last .1 .1 .1 .1 .1 .1 .1 .0) (c .write-notes .last .1 .1 .1 .1 .1 .1 .1 .1 .0) (s .args .made + (m - s .args .imin))) ≡ runActs (deltaOf (s .args .up)) (s .args .line .0) (stepsActs (hitAt (s .args .pace) (s .args .path)) (s .args .imax - s .args .imin) (s .args .imin)) (stOf (s .args .backs .now) (s .args .counts .now) (s .args .refs .now) (s .args .made))
+left : (c : tie.After-write-notes) →
+    let the-noted-to = c .before .before .before .before .noted-to in
+    let the-write-notes = c .write-notes in
+    let s = c .before .before .before .before .before .before .before .before in let m = the-noted-to .result in runActs (deltaOf (s .args .up)) (s .args .line .0)
+    (stepsActs (hitAt (s .args .pace) (s .args .path)) (s .args .imax - m) m) (stOf (the-write-notes .last .1 .1 .1 .1 .1 .1 .0) (the-write-notes .last .1 .1 .1 .1 .1 .1 .1 .0)
+    (the-write-notes .last .1 .1 .1 .1 .1 .1 .1 .1 .0) (s .args .made + (m - s .args .imin))) ≡ runActs (deltaOf (s .args .up)) (s .args .line .0)
+    (stepsActs (hitAt (s .args .pace) (s .args .path)) (s .args .imax - s .args .imin) (s .args .imin)) (stOf (s .args .backs .now) (s .args .counts .now) (s .args .refs .now) (s .args .made))
 left c = run-goes _ _ _ _ (halves (c .before .before .before .before)) _ _ _ _ refl (c .write-notes .ensures)
 
 write-steps-requires : tie.Need-write-steps-requires
@@ -96,11 +112,16 @@ same-length-3 c = search needs
 
 returns : tie.Need-returns
 returns c =
-    let s = c .before .before .before .before .before .before .before .before .before .before .before .before .before .before .before .before .before .before .before .before .before .before in
-    let m = c .before .before .before .before .before .before .before .before .before .before .before .before .before .before .before .before .before .before .noted-to .result in
+    let the-before = c .before .before .before .before .before .before .before .before .before .before .before .before .before .before .before .before .before .before .before
+    .before .before .before in
+    let the-noted-to = c .before .before .before .before .before .before .before .before .before .before .before .before .before .before .before .before .before .before .noted-to in
+    let the-before2 = c .before .before .before .before .before .before .before .before .before .before .before .before .before .before .before .before .before .before in
+    let the-before3 = c .before .before .before .before .before .before .before .before .before .before .before .before .before .before in
+    let s = the-before in
+    let m = the-noted-to .result in
     let w = c .before .before .before .before .before .write-steps in
-    let e : s .args .made + (s .args .imax - s .args .imin) ≡ s .args .made + (m - s .args .imin) + (s .args .imax - m) = omega (arith, middle (c .before .before .before .before .before .before .before .before .before .before .before .before .before .before .before .before .before .before) .0, middle (c .before .before .before .before .before .before .before .before .before .before .before .before .before .before .before .before .before .before) .1) in
-    ap (λ (n : ℕ). done (stOf (w .last .1 .1 .1 .1 .1 .1 .1 .0) (w .last .1 .1 .1 .1 .1 .1 .1 .1 .0) (w .last .1 .1 .1 .1 .1 .1 .1 .1 .1 .0) n)) e ∙ w .ensures ∙ left (c .before .before .before .before .before .before .before .before .before .before .before .before .before .before)
+    let e : s .args .made + (s .args .imax - s .args .imin) ≡ s .args .made + (m - s .args .imin) + (s .args .imax - m) = omega (arith, middle (the-before2) .0, middle (the-before2) .1) in
+    ap (λ (n : ℕ). done (stOf (w .last .1 .1 .1 .1 .1 .1 .1 .0) (w .last .1 .1 .1 .1 .1 .1 .1 .1 .0) (w .last .1 .1 .1 .1 .1 .1 .1 .1 .1 .0) n)) e ∙ w .ensures ∙ left (the-before3)
 
 pub write-walk-spec : {M : Type 1} → statement M
 write-walk-spec =

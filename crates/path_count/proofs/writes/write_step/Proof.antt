@@ -32,41 +32,60 @@ enum-told c = search needs
 
 returns : tie.Need-returns
 returns c =
-    absurd (write-off _ _ _ _ _ _ _ _ (c .before .before .before .before .before .pre .5) (hit-off (c .before .before .before .before .before .args .pace) (c .before .before .before .before .before .args .path) (c .before .before .before .before .before .args .i) (sym (c .before .before .step-at .ensures) ∙ c .enum-told .given .1)))
+    let the-args = c .before .before .before .before .before .args in
+    absurd (write-off _ _ _ _ _ _ _ _ (c .before .before .before .before .before .pre .5)
+    (hit-off (the-args .pace) (the-args .path) (the-args .i) (sym (c .before .before .step-at .ensures) ∙ c .enum-told .given .1)))
 
 -- the step is on its tile
-fell : (c : tie.After-tile) → stepOf (c .before .before .before .before .before .args .pace) (c .before .before .before .before .before .args .path) (c .before .before .before .before .before .args .i) ≡ Tile (c .tile .given .0 .0) (c .tile .given .0 .1 .0) (c .tile .given .0 .1 .1 .0) (c .tile .given .0 .1 .1 .1 .0)
+fell : (c : tie.After-tile) →
+    let the-args = c .before .before .before .before .before .args in
+    stepOf (the-args .pace) (the-args .path) (the-args .i) ≡ Tile (c .tile .given .0 .0) (c .tile .given .0 .1 .0) (c .tile .given .0 .1 .1 .0) (c .tile .given .0 .1 .1 .1 .0)
 fell c = sym (c .before .before .step-at .ensures) ∙ c .tile .given .1
 
 visit-requires : tie.Need-visit-requires
-visit-requires c κs = (
-  omega (arith, tile-in (c .before .before .before .before .before .before .before .before .args .pace) (c .before .before .before .before .before .before .before .before .args .path) (c .before .before .before .before .before .before .before .before .args .i) _ _ _ _ (fell (c .before .before .before)) .1, c .before .before .before .before .before .before .before .before .pre .0 .within),
-  c .before .before .before .before .before .before .before .before .pre .3,
-  write-count _ _ _ _ _ _ _ _ (c .before .before .before .before .before .before .before .before .pre .5) _ _ (hit-on (c .before .before .before .before .before .before .before .before .args .pace) (c .before .before .before .before .before .before .before .before .args .path) (c .before .before .before .before .before .before .before .before .args .i) _ _ _ _ (fell (c .before .before .before)) (c .before .before .before .before .before .before .before .before .args .last-z) _ (c .before .before .before .before .before .before .before .before .pre .2) refl),
-  c .before .before .before .before .before .before .before .before .pre .1,
-  c .before .before .before .before .before .before .before .before .pre .4,
-)
+visit-requires c κs =
+    let the-args = c .before .before .before .before .before .before .before .before .args in
+    let the-pre = c .before .before .before .before .before .before .before .before .pre in (
+      omega (arith, tile-in (the-args .pace) (the-args .path) (the-args .i) _ _ _ _ (fell (c .before .before .before)) .1, the-pre .0 .within),
+      the-pre .3,
+      write-count _ _ _ _ _ _ _ _ (the-pre .5) _ _ (hit-on (the-args .pace) (the-args .path) (the-args .i) _ _ _ _ (fell (c .before .before .before)) (the-args .last-z) _ (the-pre .2) refl),
+      the-pre .1,
+      the-pre .4,
+    )
 
 crosses-requires : tie.Need-crosses-requires
-crosses-requires c κs = step-told (c .before .before .before .before .before .before .before .before .before .before .before .before .before .args .pace) (c .before .before .before .before .before .before .before .before .before .before .before .before .before .args .path) (c .before .before .before .before .before .before .before .before .before .before .before .before .before .args .i) _ _ _ _ (fell (c .before .before .before .before .before .before .before .before)) .within .col-most
+crosses-requires c κs =
+    let the-args = c .before .before .before .before .before .before .before .before .before .before .before .before .before .args in
+    let the-before = c .before .before .before .before .before .before .before .before in
+    step-told (the-args .pace) (the-args .path) (the-args .i) _ _ _ _ (fell (the-before)) .within .col-most
 
 cast-mark-if : tie.Need-cast-mark-if
 cast-mark-if c = search needs
 
 -- where the step falls, and whether it marks
-hit : (c : tie.After-crosses) → hitAt (c .before .before .before .before .before .before .before .before .before .before .before .before .before .before .args .pace) (c .before .before .before .before .before .before .before .before .before .before .before .before .before .before .args .path) (c .before .before .before .before .before .before .before .before .before .before .before .before .before .before .args .i) ≡ on (c .before .before .before .before .before .before .before .before .before .tile .given .0 .0 .0) (c .crosses .result)
-hit c = hit-on (c .before .before .before .before .before .before .before .before .before .before .before .before .before .before .args .pace) (c .before .before .before .before .before .before .before .before .before .before .before .before .before .before .args .path) (c .before .before .before .before .before .before .before .before .before .before .before .before .before .before .args .i) _ _ _ _ (fell (c .before .before .before .before .before .before .before .before .before)) (c .before .before .before .before .before .before .before .before .before .before .before .before .before .before .args .last-z) (c .crosses .result) (c .before .before .before .before .before .before .before .before .before .before .before .before .before .before .pre .2) (c .crosses .ensures)
+hit : (c : tie.After-crosses) →
+    let the-args = c .before .before .before .before .before .before .before .before .before .before .before .before .before .before .args in
+    let the-tile = c .before .before .before .before .before .before .before .before .before .tile in
+    hitAt (the-args .pace) (the-args .path) (the-args .i) ≡ on (the-tile .given .0 .0 .0) (c .crosses .result)
+hit c =
+    let the-args = c .before .before .before .before .before .before .before .before .before .before .before .before .before .before .args in
+    let the-pre = c .before .before .before .before .before .before .before .before .before .before .before .before .before .before .pre in
+    let the-before = c .before .before .before .before .before .before .before .before .before in
+    hit-on (the-args .pace) (the-args .path) (the-args .i) _ _ _ _ (fell (the-before)) (the-args .last-z) (c .crosses .result) (the-pre .2) (c .crosses .ensures)
 
 mark-if-requires : tie.Need-mark-if-requires
-mark-if-requires c κs = (
-  omega (
-    arith,
-    next-below (c .before .before .before .before .before .before .before .before .before .before .before .before .before .before .before .before .args .pace) (c .before .before .before .before .before .before .before .before .before .before .before .before .before .before .before .before .args .path) (c .before .before .before .before .before .before .before .before .before .before .before .before .before .before .before .before .args .i) _ _ _ _ (fell (c .before .before .before .before .before .before .before .before .before .before .before)) (c .before .before .before .before .before .before .before .before .before .before .before .before .before .before .before .before .args .last-z) (c .before .before .crosses .result) (c .before .before .crosses .ensures),
-    c .before .before .before .before .before .before .before .before .before .before .before .before .before .before .before .before .pre .0 .within,
-    c .before .before .before .before .before .before .before .before .before .before .before .before .before .before .before .before .pre .0 .paired,
-  ),
-  write-bump _ _ _ _ _ _ _ _ (c .before .before .before .before .before .before .before .before .before .before .before .before .before .before .before .before .pre .5) _ _ (hit (c .before .before)),
-)
+mark-if-requires c κs =
+    let the-args = c .before .before .before .before .before .before .before .before .before .before .before .before .before .before .before .before .args in
+    let the-pre = c .before .before .before .before .before .before .before .before .before .before .before .before .before .before .before .before .pre in
+    let the-before = c .before .before .before .before .before .before .before .before .before .before .before in (
+      omega (
+        arith,
+        next-below (the-args .pace) (the-args .path) (the-args .i) _ _ _ _ (fell (the-before)) (the-args .last-z) (c .before .before .crosses .result) (c .before .before .crosses .ensures),
+        the-pre .0 .within,
+        the-pre .0 .paired,
+      ),
+      write-bump _ _ _ _ _ _ _ _ (the-pre .5) _ _ (hit (c .before .before)),
+    )
 
 same-length : tie.Need-same-length
 same-length c = search needs
@@ -78,10 +97,14 @@ same-length-3 : tie.Need-same-length-3
 same-length-3 c = search needs
 
 returns-2 : tie.Need-returns-2
-returns-2 c = (
-  write-hit _ _ _ _ _ _ _ _ (c .before .before .before .before .before .before .before .before .before .before .before .before .before .before .before .before .before .before .pre .5) _ _ (hit (c .before .before .before .before)) _ _ _ (c .before .before .before .before .before .before .before .before .before .visit .ensures .0) (c .before .before .before .before .before .before .before .before .before .visit .ensures .1) (c .before .mark-if .ensures),
-  sym (step-told (c .before .before .before .before .before .before .before .before .before .before .before .before .before .before .before .before .before .before .args .pace) (c .before .before .before .before .before .before .before .before .before .before .before .before .before .before .before .before .before .before .args .path) (c .before .before .before .before .before .before .before .before .before .before .before .before .before .before .before .before .before .before .args .i) _ _ _ _ (fell (c .before .before .before .before .before .before .before .before .before .before .before .before .before)) .is-z),
-)
+returns-2 c =
+    let the-pre = c .before .before .before .before .before .before .before .before .before .before .before .before .before .before .before .before .before .before .pre in
+    let the-args = c .before .before .before .before .before .before .before .before .before .before .before .before .before .before .before .before .before .before .args in
+    let the-before = c .before .before .before .before .before .before .before .before .before .before .before .before .before in
+    let the-visit = c .before .before .before .before .before .before .before .before .before .visit in (
+      write-hit _ _ _ _ _ _ _ _ (the-pre .5) _ _ (hit (c .before .before .before .before)) _ _ _ (the-visit .ensures .0) (the-visit .ensures .1) (c .before .mark-if .ensures),
+      sym (step-told (the-args .pace) (the-args .path) (the-args .i) _ _ _ _ (fell (the-before)) .is-z),
+    )
 
 pub write-step-spec : {M : Type 1} → statement M
 write-step-spec =
