@@ -10,7 +10,7 @@
 --     StarredTable          the starred cases, computed
 --     OneAnswer             one answer only; the cheats
 --     Exact, ExactRuns, ExactLooks, ExactPaths, ExactStops, ExactCommands   refusals are exact
---     Together                 these put together
+--     Together              these put together
 --     Framing               the call for a frame: its ways, what it leaves, isolation between frames, one answer
 --     FrameNumbers          which numbers each part of a frame refuses with
 --     FrameTraces           frames of one line, computed
