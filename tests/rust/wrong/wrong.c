@@ -120,6 +120,8 @@ uint32_t __wrap_gp_ppm_read(const uint8_t *file, size_t file_len, uint8_t *out, 
     return answer;
 }
 
+#ifndef BRIDGED /* over the bridge the helpers are no functions of their own */
+
 float __real_gp_floor(float x);
 float __wrap_gp_floor(float x) {
     float answer = __real_gp_floor(x);
@@ -224,3 +226,5 @@ uint8_t __wrap_gp_is_finite(float x) {
     if (strikes("is_finite answer", 1)) flip(&answer);
     return answer;
 }
+
+#endif

@@ -112,6 +112,7 @@ pub fn wrong(calls: &[Call], helpers: &[Helper]) -> Made {
             wronged(c)
         );
     }
+    text += "\n#ifndef BRIDGED /* over the bridge the helpers are no functions of their own */\n";
     for h in helpers {
         let arguments: Vec<&str> = h.params.iter().map(|p| p.name.as_str()).collect();
         text += &format!("\n{} __real_gp_{}({});\n", h.answer.c(), h.name, list(&h.params));
@@ -119,5 +120,6 @@ pub fn wrong(calls: &[Call], helpers: &[Helper]) -> Made {
             &format!("{} __wrap_gp_{}({}) {{\n    {0} answer = __real_gp_{1}({});\n", h.answer.c(), h.name, list(&h.params), arguments.join(", "));
         text += &format!("    if (strikes(\"{} answer\", 1)) flip(&answer);\n    return answer;\n}}\n", h.name);
     }
+    text += "\n#endif\n";
     Made { file: "tests/rust/wrong/wrong.c", text }
 }
