@@ -161,7 +161,8 @@ unfolding colourAtOf fineOf
 like-fine ws segs w cols rows from to pixels t column row e a b h k c =
     let ok = all-ok (fineChecks (length segs) w cols rows from to (length pixels)) e in
     let p = screenPlace w cols t column row in
-    let on = on-screen w cols rows t (length pixels) (lt-of-le t to (cols * rows) b (leb-true _ _ (ok .1 .1 .0))) (leb-true _ _ (ok .1 .1 .1 .0)) (leb-true _ _ (ok .1 .1 .1 .1 .0)) (leb-true _ _ (ok .1 .1 .1 .1 .1 .0)) in
+    let on = on-screen w cols rows t (length pixels) (lt-of-le t to (cols * rows) b (leb-true _ _ (ok .1 .1 .0))) (leb-true _ _ (ok .1 .1 .1 .0)) (leb-true _ _ (ok .1 .1 .1 .1 .0))
+    (leb-true _ _ (ok .1 .1 .1 .1 .1 .0)) in
     let q = inside w (t % cols) (t / cols) row k (on .3) p (omega arith) (omega arith) in
     let l : p < length pixels = omega (arith, row-room w (t % cols) (t / cols) row (length pixels) k (on .3) (on .4)) in
     let f = ap (λ (v : Verdict). screenUnless v pixels (shownOf (tilesOf ws segs w cols from to pixels))) e in

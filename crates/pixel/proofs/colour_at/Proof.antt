@@ -54,7 +54,8 @@ colour-of-requires c κs = on-tile _ _ (sym (c .before .before .before .check-pl
 returns-3 : tie.Need-returns-3
 returns-3 c =
     let a = c .before .before .before .before .before .before .before .args in
-    runs (now (a .words)) (now (a .segments)) (a .t) (a .column) (a .row) _ (c .before .before .before .before .check-place .ensures) (c .before .before .enum-told .given .1) _ (c .before .if1 .left) (c .colour-of .ensures)
+    runs (now (a .words)) (now (a .segments)) (a .t) (a .column) (a .row) _ (c .before .before .before .before .check-place .ensures) (c .before .before .enum-told .given .1) _
+    (c .before .if1 .left) (c .colour-of .ensures)
 
 pub colour-at-spec : {M : Type 1} → statement M
 colour-at-spec =

@@ -69,19 +69,24 @@ enum-known-v : tie.Need-enum-known-v
 enum-known-v c = search needs
 
 returns-2 : tie.Need-returns-2
-returns-2 c = no _ _ _ _ _ _ _ _ _ _ (c .before .before .before .before .before .before .check-place .ensures) (c .before .before .before .before .enum-told .given .1) _ (c .before .before .before .check-fill .ensures) _ (c .before .v .given .1)
+returns-2 c = no _ _ _ _ _ _ _ _ _ _ (c .before .before .before .before .before .before .check-place .ensures) (c .before .before .before .before .enum-told .given .1) _
+    (c .before .before .before .check-fill .ensures) _ (c .before .v .given .1)
 
 enum-told-2 : tie.Need-enum-told-2
 enum-told-2 c = search needs
 
 coverage-of-requires : tie.Need-coverage-of-requires
-coverage-of-requires c κs = checked _ _ _ _ _ (sym (c .before .before .before .before .before .check-place .ensures) ∙ c .before .before .before .enum-told .given .1) (sym (c .before .before .check-fill .ensures) ∙ c .enum-told2 .given .1)
+coverage-of-requires c κs = checked _ _ _ _ _ (sym (c .before .before .before .before .before .check-place .ensures) ∙ c .before .before .before .enum-told .given .1)
+    (sym (c .before .before .check-fill .ensures) ∙ c .enum-told2 .given .1)
 
 returns-3 : tie.Need-returns-3
 returns-3 c =
     let a = c .before .before .before .before .before .before .before .before .args in
-    yes (now (a .segments)) (a .first) (a .number) (a .even-odd) (a .backdrop) (a .x-tile) (a .y-tile) (a .column) (a .row) _ (c .before .before .before .before .before .before .check-place .ensures) (c .before .before .before .before .enum-told .given .1) _ (c .before .before .before .check-fill .ensures) _ (c .before .enum-told2 .given .1)
-    (c .coverage-of .ensures ∙ ap (λ (z : ℤ). pixelOf (now (a .segments)) (a .first) (a .number) (a .even-odd) z (a .x-tile) (a .y-tile) (placeAt (a .column) (a .row))) (toZ-ofZ w32 (a .backdrop) (c .before .before .before .before .before .before .before .before .fits .backdrop)))
+    yes (now (a .segments)) (a .first) (a .number) (a .even-odd) (a .backdrop) (a .x-tile) (a .y-tile) (a .column) (a .row) _
+    (c .before .before .before .before .before .before .check-place .ensures) (c .before .before .before .before .enum-told .given .1) _ (c .before .before .before .check-fill .ensures) _
+    (c .before .enum-told2 .given .1)
+    (c .coverage-of .ensures ∙ ap (λ (z : ℤ). pixelOf (now (a .segments)) (a .first) (a .number) (a .even-odd) z (a .x-tile) (a .y-tile) (placeAt (a .column) (a .row)))
+    (toZ-ofZ w32 (a .backdrop) (c .before .before .before .before .before .before .before .before .fits .backdrop)))
 
 pub coverage-at-spec : {M : Type 1} → statement M
 coverage-at-spec =

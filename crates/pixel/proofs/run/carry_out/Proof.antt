@@ -51,7 +51,12 @@ cast-from : tie.Need-cast-from
 cast-from c = search needs
 
 coverage-of-requires : tie.Need-coverage-of-requires
-coverage-of-requires c κs = (subst (λ (a : Act). Within a (length (now (c .before .before .before .before .before .args .segments)))) (c .before .before .act .given .1) (c .before .before .before .before .before .pre .0), c .before .before .before .before .before .pre .1, c .before .before .before .before .before .pre .2)
+coverage-of-requires c κs = (
+  subst (λ (a : Act). Within a (length (now (c .before .before .before .before .before .args .segments)))) (c .before .before .act .given .1)
+      (c .before .before .before .before .before .pre .0),
+  c .before .before .before .before .before .pre .1,
+  c .before .before .before .before .before .pre .2,
+)
 
 covered-requires : tie.Need-covered-requires
 covered-requires c κs = search needs
@@ -73,14 +78,17 @@ enum-told-2 c = search needs
 
 returns : tie.Need-returns
 returns c =
-    by-fill (c .before .before .before .before .before .before .before .args .act) (now (c .before .before .before .before .before .before .before .args .segments)) _ (c .before .before .before .before .before .before .before .args .p) _ _ _ _ _ _ (c .before .before .before .before .act .given .1)
+    by-fill (c .before .before .before .before .before .before .before .args .act) (now (c .before .before .before .before .before .before .before .args .segments)) _
+    (c .before .before .before .before .before .before .before .args .p) _ _ _ _ _ _ (c .before .before .before .before .act .given .1)
     (toZ-ofZ w32 _ (record { sfits = c .before .before .signed .ok }) ∙ c .before .before .signed .ensures) (c .before .coverage-of .ensures) (c .covered .ensures)
 
 returns-2 : tie.Need-returns-2
-returns-2 c = by-solid (c .before .before .before .before .args .act) (now (c .before .before .before .before .args .segments)) _ (c .before .before .before .before .args .p) _ (c .before .enum-told .given .1) (c .covered2 .ensures)
+returns-2 c = by-solid (c .before .before .before .before .args .act) (now (c .before .before .before .before .args .segments)) _ (c .before .before .before .before .args .p) _
+    (c .before .enum-told .given .1) (c .covered2 .ensures)
 
 returns-3 : tie.Need-returns-3
-returns-3 c = by-color (c .before .before .before .before .before .args .act) (now (c .before .before .before .before .before .args .segments)) _ (c .before .before .before .before .before .args .p) _ _ (c .before .before .act2 .given .1) (c .laid .ensures)
+returns-3 c = by-color (c .before .before .before .before .before .args .act) (now (c .before .before .before .before .before .args .segments)) _
+    (c .before .before .before .before .before .args .p) _ _ (c .before .before .act2 .given .1) (c .laid .ensures)
 
 returns-4 : tie.Need-returns-4
 returns-4 c = by-jump (c .before .before .before .args .act) (now (c .before .before .before .args .segments)) _ (c .before .before .before .args .p) (c .enum-told2 .given .1)

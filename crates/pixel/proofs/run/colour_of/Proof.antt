@@ -53,7 +53,8 @@ module _ (ws : List ℕ) (segs : List Float) (t k room : ℕ) (p : Held) (at cou
       ap (left segs k r) g ∙ sym (left-does segs k a r p) ∙ ap (λ (x : Trace). left segs k x p) (sym (ap (λ (m : ℕ). traceOf m ws room at) (more count h z) ∙ e)) ∙ inv
 
 abbrev Inv-loop : tie.InvT-loop
-Inv-loop words segments t column row room p₀ at₀ count₀ p at count = (count ≤ mostCommands) × (left segments (placeAt column row) (traceOf (mostCommands - count) words room at) p ≡ underList words segments t (placeAt column row))
+Inv-loop words segments t column row room p₀ at₀ count₀ p at count = (count ≤ mostCommands) ×
+    (left segments (placeAt column row) (traceOf (mostCommands - count) words room at) p ≡ underList words segments t (placeAt column row))
 
 abbrev μ-loop : tie.MeasureT-loop
 μ-loop words segments t column row room p₀ at₀ count₀ p at count = mostCommands - count
@@ -94,7 +95,8 @@ returns-2 c =
     let a = c .before .before .before .before .before .before .before .before .before .before .args in
     let l = c .before .before .before .before .before .before .loop in
     over (now (a .words)) (now (a .segments)) (a .t) (placeAt (a .column) (a .row)) (length (now (a .segments)) / segmentFloats) (l .p) (l .at) (l .count) (l .inv .1) _ _ refl
-    (trace-end (now (a .words)) _ (l .at) _ (sym (c .before .before .before .before .before .peek-from .ensures) ∙ c .before .before .before .tag .given .1) _ (c .before .if1 .taken)) (c .pack .ensures)
+    (trace-end (now (a .words)) _ (l .at) _ (sym (c .before .before .before .before .before .peek-from .ensures) ∙ c .before .before .before .tag .given .1) _ (c .before .if1 .taken))
+    (c .pack .ensures)
 
 returns-3 : tie.Need-returns-3 Inv-loop μ-loop
 returns-3 c =
@@ -107,7 +109,9 @@ op-of-requires : tie.Need-op-of-requires Inv-loop μ-loop
 op-of-requires c κs = search needs
 
 move-at-requires : tie.Need-move-at-requires Inv-loop μ-loop
-move-at-requires c κs = found (now (c .before .before .before .before .before .before .before .before .before .before .before .args .words)) (c .before .before .before .before .before .before .before .loop .at) _ (sym (c .before .before .before .before .before .before .peek-from .ensures) ∙ c .before .before .before .before .tag .given .1)
+move-at-requires c κs = found (now (c .before .before .before .before .before .before .before .before .before .before .before .args .words))
+    (c .before .before .before .before .before .before .before .loop .at) _
+    (sym (c .before .before .before .before .before .before .peek-from .ensures) ∙ c .before .before .before .before .tag .given .1)
 
 enum-known-no : tie.Need-enum-known-no Inv-loop μ-loop
 enum-known-no c = search needs
@@ -116,14 +120,26 @@ returns-4 : tie.Need-returns-4 Inv-loop μ-loop
 returns-4 c =
     let a = c .before .before .before .before .before .before .before .before .before .before .before .before .before .before .before .args in
     let l = c .before .before .before .before .before .before .before .before .before .before .before .loop in
-    stops (now (a .words)) (now (a .segments)) (a .t) (placeAt (a .column) (a .row)) (length (now (a .segments)) / segmentFloats) (l .p) (l .at) (l .count) (l .inv .1) _ _ (more (l .count) (l .inv .0) (c .before .before .before .before .before .if2 .left))
-    (trace-stop (now (a .words)) _ (l .at) _ (sym (c .before .before .before .before .before .before .before .before .before .before .peek-from .ensures) ∙ c .before .before .before .before .before .before .before .before .tag .given .1) (c .before .before .before .before .before .before .if1 .left) _ (c .before .before .before .before .op-of .ensures) _ (c .before .before .before .move-at .ensures) _ _ (c .before .no .given .1))
+    stops (now (a .words)) (now (a .segments)) (a .t) (placeAt (a .column) (a .row)) (length (now (a .segments)) / segmentFloats) (l .p) (l .at) (l .count) (l .inv .1) _ _
+    (more (l .count) (l .inv .0) (c .before .before .before .before .before .if2 .left))
+    (trace-stop (now (a .words)) _ (l .at) _
+    (sym (c .before .before .before .before .before .before .before .before .before .before .peek-from .ensures)
+    ∙ c .before .before .before .before .before .before .before .before .tag .given .1)
+    (c .before .before .before .before .before .before .if1 .left) _ (c .before .before .before .before .op-of .ensures) _ (c .before .before .before .move-at .ensures) _ _ (c .before .no .given .1))
 
 enum-known-act : tie.Need-enum-known-act Inv-loop μ-loop
 enum-known-act c = search needs
 
 carry-out-requires : tie.Need-carry-out-requires Inv-loop μ-loop
-carry-out-requires c κs = (move-within _ (now (c .before .before .before .before .before .before .before .before .before .before .before .before .before .before .before .args .words)) (length (now (c .before .before .before .before .before .before .before .before .before .before .before .before .before .before .before .args .segments))) (c .before .before .before .before .before .before .before .before .before .before .before .loop .at) _ _ (sym (c .before .before .before .move-at .ensures) ∙ c .before .act .given .1), c .before .before .before .before .before .before .before .before .before .before .before .before .before .before .before .pre .0, c .before .before .before .before .before .before .before .before .before .before .before .before .before .before .before .pre .1)
+carry-out-requires c κs =
+    let s = c .before .before .before .before .before .before .before .before .before .before .before .before .before .before .before in (
+      move-within _ (now (s .args .words))
+          (length (now (s .args .segments)))
+          (c .before .before .before .before .before .before .before .before .before .before .before .loop .at) _ _
+          (sym (c .before .before .before .move-at .ensures) ∙ c .before .act .given .1),
+      s .pre .0,
+      s .pre .1,
+    )
 
 add-count : tie.Need-add-count Inv-loop μ-loop
 add-count c = search needs
@@ -136,8 +152,13 @@ loop-again c =
     let a = c .before .before .before .before .before .before .before .before .before .before .before .before .before .before .before .before .args in
     let l = c .before .before .before .before .before .before .before .before .before .before .before .before .loop in (
       omega arith,
-      turn (now (a .words)) (now (a .segments)) (a .t) (placeAt (a .column) (a .row)) (length (now (a .segments)) / segmentFloats) (l .p) (l .at) (l .count) (l .inv .1) _ _ _ (l .inv .0) (c .before .before .before .before .before .before .if2 .left)
-          (trace-goes (now (a .words)) _ (l .at) _ (sym (c .before .before .before .before .before .before .before .before .before .before .before .peek-from .ensures) ∙ c .before .before .before .before .before .before .before .before .before .tag .given .1) (c .before .before .before .before .before .before .before .if1 .left) _ (c .before .before .before .before .before .op-of .ensures) _ (c .before .before .before .before .move-at .ensures) _ _ _ (c .before .before .act .given .1)) (c .carry-out .ensures),
+      turn (now (a .words)) (now (a .segments)) (a .t) (placeAt (a .column) (a .row)) (length (now (a .segments)) / segmentFloats) (l .p) (l .at) (l .count) (l .inv .1) _ _ _ (l .inv .0)
+          (c .before .before .before .before .before .before .if2 .left)
+          (trace-goes (now (a .words)) _ (l .at) _
+          (sym (c .before .before .before .before .before .before .before .before .before .before .before .peek-from .ensures)
+          ∙ c .before .before .before .before .before .before .before .before .before .tag .given .1)
+          (c .before .before .before .before .before .before .before .if1 .left) _ (c .before .before .before .before .before .op-of .ensures) _
+          (c .before .before .before .before .move-at .ensures) _ _ _ (c .before .before .act .given .1)) (c .carry-out .ensures),
     )
 
 pub colour-of-spec : {M : Type 1} → statement M

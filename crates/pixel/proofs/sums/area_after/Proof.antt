@@ -53,8 +53,11 @@ loop-less c = search needs
 
 loop-again : tie.Need-loop-again Inv-loop μ-loop
 loop-again c =
-    let s = c .before .before .before .before .before .args in
-    (search needs, turn (now (s .segments)) (s .first) (s .xt) (s .yt) (c .before .before .before .loop .j) _ (s .start) _ _ _ (c .before .segment-at .ensures) (c .before .before .before .loop .inv .1) (c .step .ensures))
+    let s = c .before .before .before .before .before .args in (
+      search needs,
+      turn (now (s .segments)) (s .first) (s .xt) (s .yt) (c .before .before .before .loop .j) _ (s .start) _ _ _ (c .before .segment-at .ensures)
+          (c .before .before .before .loop .inv .1) (c .step .ensures),
+    )
 
 returns : tie.Need-returns Inv-loop μ-loop
 returns c =

@@ -30,7 +30,9 @@ finish-requires c κs = search needs
 returns : tie.Need-returns
 returns c =
     let a = c .before .before .before .before .args in
-    chain (now (a .segments)) (a .first) (a .n) (a .eo) (a .backdrop) (a .xt) (a .yt) _ _ _ _ (c .before .before .of-i32 .ensures ∙ ap (ofInt binary32) (toZ-ofZ w32 (a .backdrop) (c .before .before .before .before .fits .backdrop))) (c .before .area-after .ensures) (c .finish .ensures)
+    chain (now (a .segments)) (a .first) (a .n) (a .eo) (a .backdrop) (a .xt) (a .yt) _ _ _ _
+    (c .before .before .of-i32 .ensures ∙ ap (ofInt binary32) (toZ-ofZ w32 (a .backdrop) (c .before .before .before .before .fits .backdrop))) (c .before .area-after .ensures)
+    (c .finish .ensures)
 
 pub coverage-of-spec : {M : Type 1} → statement M
 coverage-of-spec = tie.close (tie.spec of-i32-requires area-after-requires finish-requires returns)

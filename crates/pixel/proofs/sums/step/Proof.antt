@@ -53,13 +53,16 @@ added-requires : tie.Need-added-requires
 added-requires c κs = search needs
 
 returns : tie.Need-returns
-returns c = slant _ _ _ _ _ _ _ (c .before .before .before .row-of .result) (c .before .before .before .before .before .pre .0) (c .before .before .before .before .way-of .ensures) (c .before .before .before .row-of .ensures) _ _ (c .before .before .if1 .taken) (c .before .reach-of .ensures) (c .added .ensures)
+returns c = slant _ _ _ _ _ _ _ (c .before .before .before .row-of .result) (c .before .before .before .before .before .pre .0) (c .before .before .before .before .way-of .ensures)
+    (c .before .before .before .row-of .ensures) _ _ (c .before .before .if1 .taken) (c .before .reach-of .ensures) (c .added .ensures)
 
 returns-2 : tie.Need-returns-2
-returns-2 c = edge _ _ _ _ _ _ _ (c .before .before .row-of .result) (c .before .before .before .before .pre .0) (c .before .before .before .way-of .ensures) (c .before .before .row-of .ensures) (c .before .if1 .left) (c .if2 .taken)
+returns-2 c = edge _ _ _ _ _ _ _ (c .before .before .row-of .result) (c .before .before .before .before .pre .0) (c .before .before .before .way-of .ensures)
+    (c .before .before .row-of .ensures) (c .before .if1 .left) (c .if2 .taken)
 
 returns-3 : tie.Need-returns-3
-returns-3 c = neither _ _ _ _ _ _ _ (c .before .before .row-of .result) (c .before .before .before .before .pre .0) (c .before .before .before .way-of .ensures) (c .before .before .row-of .ensures) (c .before .if1 .left) (c .if2 .left)
+returns-3 c = neither _ _ _ _ _ _ _ (c .before .before .row-of .result) (c .before .before .before .before .pre .0) (c .before .before .before .way-of .ensures)
+    (c .before .before .row-of .ensures) (c .before .if1 .left) (c .if2 .left)
 
 pub step-spec : {M : Type 1} → statement M
 step-spec =
