@@ -14,7 +14,7 @@ use Rattle.util.specs.Constants.{zero, one}
 use Rattle.lists.specs.Grid.{mapFrom}
 use Rattle.lists.specs.Run.{actAll}
 use Rattle.lists.specs.Sums.{from}
-use Rattle.panel.specs.Limits.{mostCommands}
+use Rattle.panel.specs.Limits.{mostCommands, edgeMost}
 use Rattle.panel.specs.Refusals.{tooLong, pastEnd}
 use Rattle.panel.specs.Widths.{segmentFloats}
 use Rattle.panel.specs.Paths.{pathAt, pathCount, tileOf, pathsFrom, pathsAnswer}
@@ -44,7 +44,7 @@ use Rattle.list_theorems.proofs.Exact.{lists-exact}
 
 -- names all that an instance computes with
 unfoldable computing : ℕ
-unfolding add sub mul div neg le lt eq ne ofInt ofBits toSigned toUnsigned isNan round floorOf ceilOf roundOf absOf minOf maxOf clampOf signed signOf mapFrom pathAt pathsFrom pathsAnswer areaAfter finishOf sumOf pixelOf channelOf colourOf overOf byteOf packOf cover paint pointOf opOf fillMove wholeMove moveOf traceOf putTile tileTrace shownAt tilePixels tileStep tilesOf fineOf onTile onPath tilePairs callAnswer regionsOf answerOf listsOf writeListsOf paintTile paintPath screenOf
+unfolding edgeMost add sub mul div neg le lt eq ne ofInt ofBits toSigned toUnsigned isNan round floorOf ceilOf roundOf absOf minOf maxOf clampOf signed signOf mapFrom pathAt pathsFrom pathsAnswer areaAfter finishOf sumOf pixelOf channelOf colourOf overOf byteOf packOf cover paint pointOf opOf fillMove wholeMove moveOf traceOf putTile tileTrace shownAt tilePixels tileStep tilesOf fineOf onTile onPath tilePairs callAnswer regionsOf answerOf listsOf writeListsOf paintTile paintPath screenOf
 computing = 0
 
 -- ---- JUMPs left out of a list's commands
