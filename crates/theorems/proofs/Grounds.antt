@@ -58,7 +58,7 @@ false-right false b e = refl
 -- ---- 6
 
 limit-is : T (not (isNan coordMost))
-unfolding ofBits isNan
+unfolding coordMost ofBits isNan
 limit-is = tt
 
 reach-why : (x : Float) → inReach x ≡ false → BadCoordinate x
@@ -79,7 +79,7 @@ over-limit y h = go (le y coordMost) refl
     go false f = refl
 
 reach-halts : (x : Float) → BadCoordinate x → inReach x ≡ false
-unfolding absOf le ofBits
+unfolding absOf le coordMost ofBits
 reach-halts nan h = refl
 reach-halts (inf s) h = refl
 reach-halts (fin s m k) (inl h) = absurd (false≢true (sym h))
