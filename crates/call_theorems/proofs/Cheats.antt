@@ -25,7 +25,8 @@ use Rattle.path_tiling.specs.Tiling.{TileMet}
 use Rattle.coverage.specs.Tile.{tileWidth, tileSize}
 use Rattle.coverage.specs.Coverage.{coverageOf}
 use Rattle.coverage.specs.Fill.{fillOf, FillMet}
-use Rattle.commands.specs.Numbers.{solidNo, colorNo, endNo}
+use Rattle.commands.specs.Numbers.{encode, endNo}
+use Rattle.commands.specs.declared.steps.Act.the-variants.{Solid, Color}
 use Rattle.fine.specs.Fine.{FineMet}
 use Rattle.frame.specs.Frame.{placedOf, drawnOf, checksOf, frameOf, FrameMet}
 use Rattle.frame.specs.declared.kinds.Stage.the-variants as Stage
@@ -158,11 +159,14 @@ fill-shut =
 
 -- ---- fine: SOLID and COLOR 204060ff on a screen of one tile; and a range past it
 
+abbrev one-list : List ℕ
+one-list = 0 ∷ encode Solid ++ encode (Color 0x2040_60ff) ++ (endNo ∷ [])
+
 abbrev FineAt : (to : ℕ) → Answer → List ℕ → Type 0
-FineAt to a m = FineMet (0 ∷ solidNo ∷ 0 ∷ colorNo ∷ 0x2040_60ff ∷ endNo ∷ []) [] tileWidth 1 1 0 to (replicate tileSize 0) a m
+FineAt to a m = FineMet one-list [] tileWidth 1 1 0 to (replicate tileSize 0) a m
 
 once-fine : (to : ℕ) → Once Answer (List ℕ) (FineAt to)
-once-fine to a b m n p q = one-fine (0 ∷ solidNo ∷ 0 ∷ colorNo ∷ 0x2040_60ff ∷ endNo ∷ []) [] tileWidth 1 1 0 to (replicate tileSize 0) a b m n p q
+once-fine to a b m n p q = one-fine one-list [] tileWidth 1 1 0 to (replicate tileSize 0) a b m n p q
 
 pub fine-shut : Shut Answer (List ℕ) Refuses (FineAt 1) (FineAt 2) (replicate tileSize 0)
 unfolding computing

@@ -20,7 +20,7 @@ use Rattle.panel.proofs.KindLaws.{paper-once}
 use Rattle.commands.specs.Numbers.{tileWords}
 use Rattle.write_lists.specs.Pairs.{Tables, tilePairs}
 use Rattle.write_lists.specs.Layout.{commandsOf, written}
-use Rattle.write_lists.specs.Lists.{callAnswer, longFrom, fillsFit, wordsNamed, roomChecks, screenTiles, regionsOf, thenCheck, answerOf, listsOf, writeListsOf, ListsMet, Left}
+use Rattle.write_lists.specs.Lists.{callAnswer, longFrom, fillsFit, roomChecks, screenTiles, regionsOf, thenCheck, answerOf, listsOf, writeListsOf, ListsMet, Left}
 use Rattle.theorems.proofs.Exact.{no-clash, row-exact}
 use Rattle.theorems.proofs.ExactPaths.{paths-exact}
 use Rattle.list_theorems.proofs.Written.{one-lists}
@@ -35,11 +35,10 @@ long-no s cols (u ∷ ts) n t e = go (leb (commandsOf (tilePairs s cols u)) most
     go true d ih = ih d
     go false d ih = let w : tooLong ≡ n = cc in sym w
 
-room-no : (a b c : Bool) (n t : ℕ) → unless (firstNo (check a noRoom ∷ check b noRoom ∷ check c noRoom ∷ [])) 0 Done ≡ Refused n t → (n ≡ noRoom) × (t ≡ 0)
-room-no true true true n t e = no-clash cc
-room-no true true false n t e = let w : noRoom ≡ n = cc in let z : 0 ≡ t = cc in (sym w, sym z)
-room-no true false c n t e = let w : noRoom ≡ n = cc in let z : 0 ≡ t = cc in (sym w, sym z)
-room-no false b c n t e = let w : noRoom ≡ n = cc in let z : 0 ≡ t = cc in (sym w, sym z)
+room-no : (a b : Bool) (n t : ℕ) → unless (firstNo (check a noRoom ∷ check b noRoom ∷ [])) 0 Done ≡ Refused n t → (n ≡ noRoom) × (t ≡ 0)
+room-no true true n t e = no-clash cc
+room-no true false n t e = let w : noRoom ≡ n = cc in let z : 0 ≡ t = cc in (sym w, sym z)
+room-no false b n t e = let w : noRoom ≡ n = cc in let z : 0 ≡ t = cc in (sym w, sym z)
 
 module _ (s : Tables) (cols rows room : ℕ) (ws : List ℕ) where
   abbrev Met : Answer → List ℕ → Type 0
@@ -92,7 +91,7 @@ module _ (s : Tables) (cols rows room : ℕ) (ws : List ℕ) where
           → (n ≡ tooLong) ⊎ ((n ≡ noRoom) × (item ≡ 0))
       go Done e d =
           inr
-          (room-no (leb (tileWords * regionsOf s cols rows) (length ws)) (leb (tileWords * regionsOf s cols rows) wordsNamed) (fillsFit s cols room (screenTiles cols rows)) n item d)
+          (room-no (leb (tileWords * regionsOf s cols rows) (length ws)) (fillsFit s cols room (screenTiles cols rows)) n item d)
       go (Refused m k) e d = let w : m ≡ n = cc in inl (sym w ∙ long-no s cols (screenTiles cols rows) m k e)
 
   -- an answer on its paper is the answer
