@@ -141,6 +141,11 @@ extern u32 gp_write_lists(const u32 *, usize, const u32 *, usize, const int *, u
                           u32 *, usize, u32 *);
 #endif
 
+#ifdef HAS_PIXEL
+extern u32 gp_pixel_area(const float *, usize, u32, u32, u32, int, float, float, u32, u32, float *);
+extern u32 gp_pixel(const u32 *, usize, const float *, usize, u32, u32, u32, u32 *);
+#endif
+
 static u32 run(u32 which) {
     u32 *n = numbers;
     switch (which) {
@@ -170,6 +175,10 @@ static u32 run(u32 which) {
 #endif
 #ifdef HAS_LISTS
     case 8: return gp_write_lists(W(0), W(1), I(2), W(3), W(4), n[0], n[1], n[2], W(5), &n[3]);
+#endif
+#ifdef HAS_PIXEL
+    case 9: return gp_pixel_area(F(0), n[0], n[1], n[2], (int)n[3], as_float(n[4]), as_float(n[5]), n[6], n[7], (float *)slices[1]);
+    case 10: return gp_pixel(W(0), F(1), n[0], n[1], n[2], slices[2]);
 #endif
     }
     leave();

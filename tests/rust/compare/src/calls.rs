@@ -3,7 +3,7 @@
 use crate::stage::{same, same_words};
 use cases::memory::{one_nan, Lent};
 
-pub const NAMES: [&str; 9] = ["", "count", "backdrop", "hand_out", "tile", "fill", "fine", "frame", "write_lists"];
+pub const NAMES: [&str; 11] = ["", "count", "backdrop", "hand_out", "tile", "fill", "fine", "frame", "write_lists", "pixel_area", "pixel"];
 
 #[derive(Clone, Debug)]
 pub struct Call {
@@ -28,18 +28,20 @@ pub fn changed(kind: u32) -> &'static [usize] {
         5 => &[1],
         6 => &[2],
         7 => &[3, 4, 5, 6, 7],
-        _ => &[5],
+        8 => &[5],
+        9 => &[1],
+        _ => &[2],
     }
 }
 
 /// How many slices and numbers a call of this kind takes.
 pub fn shape(kind: u32) -> (usize, usize) {
-    [(0, 0), (6, 3), (2, 0), (2, 1), (6, 2), (2, 6), (3, 5), (8, 0), (6, 3)][kind as usize]
+    [(0, 0), (6, 3), (2, 0), (2, 1), (6, 2), (2, 6), (3, 5), (8, 0), (6, 3), (2, 8), (3, 3)][kind as usize]
 }
 
 pub fn linked(kind: u32) -> bool {
     use ours::has::*;
-    [false, COUNT, BACKDROP, HAND_OUT, TILE, FILL, FINE, FRAME, LISTS][kind as usize]
+    [false, COUNT, BACKDROP, HAND_OUT, TILE, FILL, FINE, FRAME, LISTS, PIXEL, PIXEL][kind as usize]
 }
 
 macro_rules! answered_by {
@@ -107,6 +109,17 @@ macro_rules! answered_by {
                     );
                     vec![no, item]
                 }
+                // the pixel is the first word of the last slice; a slice of none has one beside it
+                (9, [s, area]) => {
+                    let (x, y, mut none) = (f32::from_bits(n[4]), f32::from_bits(n[5]), 0.0);
+                    let at = area.f32s_mut().first_mut().unwrap_or(&mut none);
+                    vec![$side::pixel_area(s.f32s(), n[0], n[1], n[2], n[3] as i32, x, y, n[6], n[7], at), 0]
+                }
+                (10, [w, s, px]) => {
+                    let mut none = 0;
+                    let at = px.u32s_mut().first_mut().unwrap_or(&mut none);
+                    vec![$side::pixel(w.u32s(), s.f32s(), n[0], n[1], n[2], at), 0]
+                }
                 _ => panic!("no call of kind {}", call.kind),
             };
             Outcome { answer, slices }
@@ -123,7 +136,7 @@ pub fn same_outcome(call: &Call, got: &Outcome, wanted: &Outcome) -> Result<(), 
     for (k, (g, w)) in got.slices.iter().zip(&wanted.slices).enumerate() {
         let what = format!("{}, slice {k}", NAMES[call.kind as usize]);
         // an area that was filled may hold any NaN for a NaN; all else is compared by bits
-        if call.kind == 5 && k == 1 && wanted.answer[0] == 0 {
+        if [5, 9].contains(&call.kind) && k == 1 && wanted.answer[0] == 0 {
             let one = |l: &Lent| l.u32s().iter().map(|&b| one_nan(b)).collect::<Vec<_>>();
             same_words(&what, &one(g), &one(w))?;
         } else {

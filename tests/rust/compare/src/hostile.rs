@@ -5,8 +5,8 @@ use crate::stage::{hex, Sides, Stage};
 use crate::table::Table;
 use cases::{boxes, floats, lines, segments, Rng};
 
-/// The number of the screen's call.
-const FINE: u32 = 6;
+/// The numbers of the calls whose lists may be endless: the screen's, and a pixel's.
+const LISTS: [u32; 2] = [6, 10];
 
 /// The calls whose stage is linked; all of them where only the rules are run.
 pub struct Hostile {
@@ -69,6 +69,15 @@ fn good(rng: &mut Rng, kind: u32) -> Call {
             let slices = vec![paths, words(rng, 2 * n_paths), words(rng, tiles), stored, words(rng, tiles), words(rng, regions)];
             (vec![cols, rows, room], slices)
         }
+        9 => {
+            let numbers = vec![0, n as u32, rng.below(3) as u32, rng.range(-2, 2) as u32, 0, 0, rng.below(17) as u32, rng.below(17) as u32];
+            (numbers, vec![list, words(rng, 1)])
+        }
+        10 => {
+            let tiles = rng.below(3) as u32;
+            let list_words = (0..64 * tiles).map(|k| if k % 64 == 0 { 0 } else { rng.below(6) as u32 }).collect();
+            (vec![rng.below(3) as u32, rng.below(17) as u32, rng.below(17) as u32], vec![list_words, list, words(rng, 1)])
+        }
         _ => {
             let (cols, rows) = (rng.below(3) as u32, rng.below(2) as u32);
             let list_words = (0..64 * cols * rows).map(|k| if k % 64 == 0 { 0 } else { rng.below(6) as u32 }).collect();
@@ -113,7 +122,7 @@ impl Stage for Hostile {
 
     fn make(&self, rng: &mut Rng) -> Call {
         let mut kind = rng.pick(&self.kinds);
-        if kind == FINE && !rng.one_in(5) {
+        if LISTS.contains(&kind) && !rng.one_in(5) {
             kind = rng.pick(&self.kinds); // its endless lists take the most time by far
         }
         let mut call = good(rng, kind);

@@ -22,6 +22,7 @@ mod hostile;
 mod limits;
 mod lists;
 mod order;
+mod pixel;
 mod stage;
 mod table;
 mod tiling;
@@ -101,6 +102,7 @@ fn stages(args: &Args) -> bool {
     well &= run(&fine::Fine, args, ours::has::FINE, 12.0);
     well &= run(&frame::Frame, args, ours::has::FRAME, 12.0);
     well &= run(&write_lists::WriteLists, args, ours::has::LISTS, 12.0);
+    well &= run(&pixel::Pixel, args, ours::has::PIXEL && ours::has::FILL && ours::has::FINE, 8.0);
     if ours::has::COUNT && ours::has::BACKDROP && args.mode != "rules-vs-oracle" && args.only.as_deref().is_none_or(|o| o == "order") {
         well &= order::run(args.seconds.unwrap_or(3.0 * args.longer), args.seed);
     }

@@ -194,4 +194,20 @@ mod exported {
         *item = n[3];
         answer
     }
+
+    #[no_mangle]
+    unsafe extern "C" fn gp_pixel_area(
+        segments: *const f32, segments_n: usize, first: u32, number: u32, even_odd: u32, backdrop: i32, x_tile: f32, y_tile: f32,
+        column: u32, row: u32, area: &mut f32,
+    ) -> u32 {
+        let mut n = [first, number, even_odd, backdrop as u32, x_tile.to_bits(), y_tile.to_bits(), column, row];
+        call(9, &mut n, vec![r(segments, segments_n), w(area, 1)])
+    }
+
+    #[no_mangle]
+    unsafe extern "C" fn gp_pixel(
+        words: *const u32, words_n: usize, segments: *const f32, segments_n: usize, tile: u32, column: u32, row: u32, pixel: &mut u32,
+    ) -> u32 {
+        call(10, &mut [tile, column, row], vec![r(words, words_n), r(segments, segments_n), w(pixel, 1)])
+    }
 }

@@ -22,6 +22,7 @@ pub mod has {
     pub const FINE: bool = cfg!(feature = "fine");
     pub const FRAME: bool = cfg!(feature = "frame");
     pub const LISTS: bool = cfg!(feature = "lists");
+    pub const PIXEL: bool = cfg!(feature = "pixel");
 }
 
 /// The body, or a panic where the stage's feature is off.
@@ -154,5 +155,61 @@ pub fn write_lists(
         "lists",
         told(groatpocket::write_lists(paths, paints, backdrops, stored, tally, cols, rows, room, words), item),
         paths, paints, backdrops, stored, tally, cols, rows, room, words, item
+    )
+}
+
+/// The number, and the value in `held` where there is one: `held` keeps what it held where the call refuses.
+#[cfg(feature = "pixel")]
+fn given<T>(answer: Result<T, groatpocket::Refused>, held: &mut T) -> u32 {
+    match answer {
+        Ok(value) => {
+            *held = value;
+            0
+        }
+        Err(refused) => refused.refusal.number(),
+    }
+}
+
+/// A rule word that is neither 0 nor 1, and a refusal, go past the safe call: what stands in `area` then is the call's own.
+#[rustfmt::skip]
+pub fn pixel_area(
+    segments: &[f32], first: u32, number: u32, even_odd: u32, backdrop: i32, x_tile: f32, y_tile: f32, column: u32, row: u32,
+    area: &mut f32,
+) -> u32 {
+    stage!(
+        "pixel",
+        {
+            let fill = groatpocket::Fill { first, number, even_odd: even_odd == 1, backdrop, x_tile, y_tile };
+            let by_safe = groatpocket::pixel_area(segments, fill, column, row);
+            if even_odd > 1 || by_safe.is_err() {
+                let (s, n) = (segments.as_ptr(), segments.len());
+                // SAFETY: the pointer and the length are a slice's, lent for the call alone.
+                unsafe { groatpocket::raw::gp_pixel_area(s, n, first, number, even_odd, backdrop, x_tile, y_tile, column, row, area) }
+            } else {
+                given(by_safe, area)
+            }
+        },
+        segments, first, number, even_odd, backdrop, x_tile, y_tile, column, row, area
+    )
+}
+
+/// A refusal goes past the safe call too: what stands in `pixel` then is the call's own.
+pub fn pixel(words: &[u32], segments: &[f32], tile: u32, column: u32, row: u32, pixel: &mut u32) -> u32 {
+    stage!(
+        "pixel",
+        match groatpocket::pixel(words, segments, tile, column, row) {
+            Err(_) => {
+                let (w, w_n, s, s_n) = (words.as_ptr(), words.len(), segments.as_ptr(), segments.len());
+                // SAFETY: every pointer and length is a slice's, lent for the call alone.
+                unsafe { groatpocket::raw::gp_pixel(w, w_n, s, s_n, tile, column, row, pixel) }
+            }
+            by_safe => given(by_safe, pixel),
+        },
+        words,
+        segments,
+        tile,
+        column,
+        row,
+        pixel
     )
 }

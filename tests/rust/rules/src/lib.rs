@@ -13,6 +13,7 @@ pub mod frame;
 pub mod hand_out;
 pub mod limits;
 pub mod lists;
+pub mod pixel;
 pub mod tile;
 pub mod walk;
 
@@ -23,4 +24,5 @@ pub use fine::fine;
 pub use frame::frame;
 pub use hand_out::hand_out;
 pub use lists::write_lists;
+pub use pixel::{pixel, pixel_area};
 pub use tile::tile;
