@@ -33,7 +33,7 @@ pub fn pixel_area(segments: &[f32], fill: Fill, column: u32, row: u32) -> Result
 ///
 /// ```
 /// // Tile 0: SOLID, then COLOR 0x204060ff, then END.
-/// let words = [0, 2, 0, 3, 0x204060ff, 0];
+/// let words = [0, 2, 3, 0x204060ff, 0];
 /// assert_eq!(groatpocket::pixel(&words, &[], 0, 15, 15), Ok(0xff604020));
 /// assert_eq!(groatpocket::pixel(&words, &[], 1, 0, 0).unwrap_err().refusal.number(), 13);
 /// ```

@@ -89,4 +89,15 @@ extern "C" {
         out: *mut u8, out_len: usize,
         width: &mut u32, height: &mut u32,
     ) -> u32;
+
+    pub fn gp_pixel_area(
+        segments: *const f32, segments_len: usize,
+        first: u32, number: u32, even_odd: u32, backdrop: i32, x_tile: f32, y_tile: f32, column: u32, row: u32, area: &mut f32,
+    ) -> u32;
+
+    pub fn gp_pixel(
+        words: *const u32, words_len: usize,
+        segments: *const f32, segments_len: usize,
+        tile: u32, column: u32, row: u32, pixel: &mut u32,
+    ) -> u32;
 }

@@ -70,6 +70,12 @@ extern uint32_t gp_ppm_write(const uint32_t *pixels, size_t pixels_len, uint32_t
 #ifdef HAS_PICTURE
 extern uint32_t gp_ppm_read(const uint8_t *file, size_t file_len, uint8_t *out, size_t out_len, uint32_t *width, uint32_t *height);
 #endif
+#ifdef HAS_PIXEL
+extern uint32_t gp_pixel_area(const float *segments, size_t segments_len, uint32_t first, uint32_t number, uint32_t even_odd, int32_t backdrop, float x_tile, float y_tile, uint32_t column, uint32_t row, float *area);
+#endif
+#ifdef HAS_PIXEL
+extern uint32_t gp_pixel(const uint32_t *words, size_t words_len, const float *segments, size_t segments_len, uint32_t tile, uint32_t column, uint32_t row, uint32_t *pixel);
+#endif
 
 static uint32_t run(uint32_t which) {
     uint32_t *n = numbers;
@@ -136,6 +142,20 @@ static uint32_t run(uint32_t which) {
 #ifdef HAS_PICTURE
     case 10: { /* ppm_read */
         uint32_t answer = gp_ppm_read(SLICE(0, uint8_t), SLICE(1, uint8_t), &n[0], &n[1]);
+        return answer;
+    }
+#endif
+#ifdef HAS_PIXEL
+    case 11: { /* pixel_area */
+        float area = as_float(n[8]);
+        uint32_t answer = gp_pixel_area(SLICE(0, float), (uint32_t)n[0], (uint32_t)n[1], (uint32_t)n[2], (int32_t)n[3], as_float(n[4]), as_float(n[5]), (uint32_t)n[6], (uint32_t)n[7], &area);
+        n[8] = as_bits(area);
+        return answer;
+    }
+#endif
+#ifdef HAS_PIXEL
+    case 12: { /* pixel */
+        uint32_t answer = gp_pixel(SLICE(0, uint32_t), SLICE(1, float), (uint32_t)n[0], (uint32_t)n[1], (uint32_t)n[2], &n[3]);
         return answer;
     }
 #endif

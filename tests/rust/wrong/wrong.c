@@ -120,6 +120,22 @@ uint32_t __wrap_gp_ppm_read(const uint8_t *file, size_t file_len, uint8_t *out, 
     return answer;
 }
 
+uint32_t __real_gp_pixel_area(const float *segments, size_t segments_len, uint32_t first, uint32_t number, uint32_t even_odd, int32_t backdrop, float x_tile, float y_tile, uint32_t column, uint32_t row, float *area);
+uint32_t __wrap_gp_pixel_area(const float *segments, size_t segments_len, uint32_t first, uint32_t number, uint32_t even_odd, int32_t backdrop, float x_tile, float y_tile, uint32_t column, uint32_t row, float *area) {
+    uint32_t answer = __real_gp_pixel_area(segments, segments_len, first, number, even_odd, backdrop, x_tile, y_tile, column, row, area);
+    if (strikes("pixel_area area", 1)) *area += 1;
+    if (strikes("pixel_area answer", 1)) answer ^= 1;
+    return answer;
+}
+
+uint32_t __real_gp_pixel(const uint32_t *words, size_t words_len, const float *segments, size_t segments_len, uint32_t tile, uint32_t column, uint32_t row, uint32_t *pixel);
+uint32_t __wrap_gp_pixel(const uint32_t *words, size_t words_len, const float *segments, size_t segments_len, uint32_t tile, uint32_t column, uint32_t row, uint32_t *pixel) {
+    uint32_t answer = __real_gp_pixel(words, words_len, segments, segments_len, tile, column, row, pixel);
+    if (strikes("pixel pixel", 1)) *pixel += 1;
+    if (strikes("pixel answer", 1)) answer ^= 1;
+    return answer;
+}
+
 #ifndef BRIDGED /* over the bridge the helpers are no functions of their own */
 
 float __real_gp_floor(float x);

@@ -1,6 +1,6 @@
 //! Every stage beside the unchanged Rust: same machine, same run, release builds, buffers cleared beforehand.
 //!
-//!     tests/rust/run bench [ROUNDS]
+//!     tests/rust/run bench [ROUNDS] [pixel]
 //!
 //! Runs of the two are interleaved; a row has a stage at its sizes, the median time of each side for one unit of work, and
 //! the ratios of ours to the Rust's. A ratio under 1 is faster than the Rust.
@@ -12,8 +12,8 @@ use std::fmt::Display;
 
 /// Median nanoseconds of one unit of work, on each side.
 pub struct Times {
-    rust: f64,
-    ours: f64,
+    pub rust: f64,
+    pub ours: f64,
 }
 
 /// Runs both sides in turn; each closure clears its buffers, then gives the time of the call alone.
@@ -75,6 +75,16 @@ fn main() {
         println!("The archive is for another processor and would run under an emulator: times would say nothing.");
         return;
     }
+    if std::env::args().nth(2).is_none_or(|only| only != "pixel") {
+        beside_the_rust(rounds);
+    }
+    if ours::has::PIXEL && ours::has::FINE {
+        println!("\n| One pixel beside a whole tile by fine | Fills | a tile, ns | a pixel, ns | ratio | 256 ratios |\n|---|---|---|---|---|---|");
+        stages::pixel(rounds);
+    }
+}
+
+fn beside_the_rust(rounds: usize) {
     println!("| Stage | Sizes | Unit | the Rust, ns | ours, ns | ratio |\n|---|---|---|---|---|---|");
     if ours::has::FLOATS {
         stages::floats(rounds);

@@ -277,3 +277,45 @@ fn hand_out(tiles: &mut [Tile], counts: &mut [u32]) {
         next += *kept;
     }
 }
+
+/// The pixels of a tile under a list of so many fills of 10 segments each, one call a pixel, beside the tile by one call of fine.
+pub fn pixel(rounds: usize) {
+    for fills in [1, 10, 100] {
+        let times = one_pixel(fills, rounds);
+        let ratio = times.ours / times.rust;
+        println!("| fills of 10 segments | {fills} | {:.0} | {:.0} | {ratio:.5} | {:.2} |", times.rust, times.ours, 256.0 * ratio);
+    }
+}
+
+fn one_pixel(fills: usize, rounds: usize) -> Times {
+    let mut rng = Rng::new(fills as u64);
+    let list = segments(&mut rng, 10 * fills);
+    let mut words = vec![0; 8 * fills + 8];
+    let mut at = 1;
+    for k in 0..fills {
+        let commands = [Command::Fill { number: 10, even_odd: k % 2 == 1, first: 10 * k as u32, backdrop: 0 }, Command::Color(rng.u32())];
+        for command in commands {
+            at = OURS.put(&mut words, at, command, 0);
+        }
+    }
+    let again = 100 / fills + 1;
+    let mut tile = vec![0; 256];
+    let mut mine = vec![0; 256];
+    let whole = || {
+        timed(|| {
+            for _ in 0..again {
+                assert_eq!(ours::fine(&words, &list, 16, 1, 1, 0, 1, black_box(&mut tile), &mut 0), 0);
+            }
+        })
+    };
+    let each = || {
+        timed(|| {
+            for (k, px) in mine.iter_mut().enumerate() {
+                assert_eq!(ours::pixel(black_box(&words), &list, 0, k as u32 % 16, k as u32 / 16, px), 0);
+            }
+        })
+    };
+    let both = measured(1, rounds, whole, each);
+    assert_eq!(tile, mine);
+    Times { rust: both.rust / again as f64, ours: both.ours / 256.0 }
+}

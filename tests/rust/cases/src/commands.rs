@@ -94,6 +94,11 @@ impl Lists {
         OURS.put(&mut self.ours, at, command, spare)
     }
 
+    /// Whether a command was written at word `at`: from there the Rust's list says the same.
+    pub fn begins(&self, at: usize) -> bool {
+        self.commands.contains_key(&at)
+    }
+
     /// Leaves so many words.
     pub fn cut(&mut self, words: usize) {
         self.ours.truncate(words);

@@ -86,6 +86,21 @@ fn write_lists(rng: &mut Rng) -> Call {
     Call { kind: 8, numbers: vec![1, 1, 0], slices }
 }
 
+/// A pixel on the tile or just off it, under commands about as many as a tile may have, an endless list, or one that is unknown.
+fn pixel(rng: &mut Rng, kind: u32) -> Call {
+    use rules::fine::{COLOR, END, JUMP, SOLID};
+    let words = match rng.below(4) {
+        0 => vec![0, JUMP, 1],
+        1 => {
+            let n = rules::limits::COMMANDS_MOST as usize - rng.below(2) as usize + rng.below(2) as usize;
+            [vec![0], vec![SOLID; n], vec![END]].concat()
+        }
+        2 => vec![0, SOLID, COLOR, rng.u32(), rng.pick(&[JUMP + 1, u32::MAX])],
+        _ => vec![0, SOLID, COLOR, rng.u32(), END],
+    };
+    Call { kind, numbers: vec![0, rng.range(14, 16) as u32, rng.range(14, 16) as u32, rng.u32()], slices: vec![words, vec![]] }
+}
+
 /// A call that leads to a rare answer of the kind, where it has one.
 pub fn toward(rng: &mut Rng, kind: u32) -> Option<Call> {
     Some(match NAMES[kind as usize] {
@@ -107,6 +122,7 @@ pub fn toward(rng: &mut Rng, kind: u32) -> Option<Call> {
             let file = format!("P6\n{width} {height}\n255\nabc").bytes().map(u32::from).collect();
             Call { kind, numbers: vec![], slices: vec![file, vec![7; 9]] }
         }
+        "pixel" => pixel(rng, kind),
         _ => return None,
     })
 }

@@ -20,6 +20,8 @@ pub const NAMES: &[&str] = &[
     "write_lists",
     "ppm_write",
     "ppm_read",
+    "pixel_area",
+    "pixel",
 ];
 
 /// The slices that a call of a kind may change.
@@ -35,6 +37,8 @@ pub const CHANGED: &[&[usize]] = &[
     &[5],
     &[1],
     &[1],
+    &[],
+    &[],
 ];
 
 /// The slices that are bytes, a word for each.
@@ -50,6 +54,8 @@ pub const BYTES: &[&[usize]] = &[
     &[],
     &[1],
     &[0, 1],
+    &[],
+    &[],
 ];
 
 /// How many slices and numbers a call of a kind takes.
@@ -65,6 +71,8 @@ pub const SHAPES: &[(usize, usize)] = &[
     (6, 3),
     (2, 2),
     (2, 0),
+    (1, 9),
+    (2, 4),
 ];
 
 /// Whether a call of a kind is linked.
@@ -80,6 +88,8 @@ pub const LINKED: &[bool] = &[
     ours::has::LISTS,
     ours::has::PICTURE,
     ours::has::PICTURE,
+    ours::has::PIXEL,
+    ours::has::PIXEL,
 ];
 
 macro_rules! answered_by {
@@ -230,6 +240,34 @@ macro_rules! answered_by {
                     file_bytes.give_back(file.u32s_mut());
                     out_bytes.give_back(out.u32s_mut());
                     vec![no, 0, width, height]
+                }
+                (11, [segments]) => {
+                    let mut area = f32::from_bits(n[8]);
+                    let no = $side::pixel_area(
+                        segments.f32s(),
+                        n[0],
+                        n[1],
+                        n[2],
+                        n[3] as i32,
+                        f32::from_bits(n[4]),
+                        f32::from_bits(n[5]),
+                        n[6],
+                        n[7],
+                        &mut area,
+                    );
+                    vec![no, 0, if no == 0 { cases::memory::one_nan(area.to_bits()) } else { area.to_bits() }]
+                }
+                (12, [words, segments]) => {
+                    let mut pixel = n[3];
+                    let no = $side::pixel(
+                        words.u32s(),
+                        segments.f32s(),
+                        n[0],
+                        n[1],
+                        n[2],
+                        &mut pixel,
+                    );
+                    vec![no, 0, pixel]
                 }
                 _ => panic!("no call of kind {}", call.kind),
             };

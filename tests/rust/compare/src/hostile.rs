@@ -23,8 +23,10 @@ const LIMITS: [u32; 11] = [
     COORD_MOST.to_bits(),
 ];
 
-/// The number of the screen's call.
+/// The numbers of the calls whose lists may be endless: the screen's, and a pixel's.
 const FINE: u32 = 6;
+const PIXEL: u32 = 12;
+const LISTS: [u32; 2] = [FINE, PIXEL];
 
 /// The kind of a call of a float helper: its number is the helper's place, its slices the operands.
 const HELPER: u32 = 0;
@@ -122,6 +124,16 @@ fn good(rng: &mut Rng, kind: u32) -> Call {
             let room = raster.saturating_add_signed(rng.range(-2, 3) as isize);
             (vec![], vec![file, words(rng, room)])
         }
+        11 => {
+            let place = [rng.below(17) as u32, rng.below(17) as u32];
+            let numbers = vec![0, n as u32, rng.below(3) as u32, rng.range(-2, 2) as u32, 0, 0, place[0], place[1], any_word(rng)];
+            (numbers, vec![list])
+        }
+        PIXEL => {
+            let tiles = rng.below(3) as u32;
+            let list_words = (0..64 * tiles).map(|k| if k % 64 == 0 { 0 } else { rng.below(6) as u32 }).collect();
+            (vec![rng.below(3) as u32, rng.below(17) as u32, rng.below(17) as u32, any_word(rng)], vec![list_words, list])
+        }
         FINE => {
             let (cols, rows) = (rng.below(3) as u32, rng.below(2) as u32);
             let list_words = (0..64 * cols * rows).map(|k| if k % 64 == 0 { 0 } else { rng.below(6) as u32 }).collect();
@@ -167,7 +179,7 @@ impl Stage for Hostile {
 
     fn make(&self, rng: &mut Rng) -> Call {
         let mut kind = rng.pick(&self.kinds);
-        if kind == FINE && !rng.one_in(5) {
+        if LISTS.contains(&kind) && !rng.one_in(5) {
             kind = rng.pick(&self.kinds); // its endless lists take the most time by far
         }
         if kind == HELPER {

@@ -21,7 +21,7 @@ impl Table {
 
     /// An answer of a call.
     pub fn answer(&mut self, number: u32) {
-        const NAMES: [&str; 17] = [
+        const NAMES: [&str; 20] = [
             "answer  0",
             "answer  1",
             "answer  2",
@@ -39,6 +39,9 @@ impl Table {
             "answer 14",
             "answer 15",
             "answer 16",
+            "answer 17",
+            "answer 18",
+            "answer 19",
         ];
         self.add(NAMES.get(number as usize).copied().unwrap_or("answer of no meaning"), 1);
     }

@@ -46,6 +46,19 @@ pub fn size(answer: Result<usize, Refused>, size: &mut usize) -> u32 {
     nothing(answer.map(|_| ()))
 }
 
+/// A refusal leaves what stands behind the pointer as it was.
+#[cfg(feature = "pixel")]
+pub fn area(answer: Result<f32, Refused>, area: &mut f32) -> u32 {
+    *area = answer.unwrap_or(*area);
+    nothing(answer.map(|_| ()))
+}
+
+#[cfg(feature = "pixel")]
+pub fn pixel(answer: Result<u32, Refused>, pixel: &mut u32) -> u32 {
+    *pixel = answer.unwrap_or(*pixel);
+    nothing(answer.map(|_| ()))
+}
+
 #[cfg(feature = "picture")]
 pub fn width_height(answer: Result<(u32, u32), Refused>, width: &mut u32, height: &mut u32) -> u32 {
     (*width, *height) = answer.unwrap_or((0, 0));

@@ -248,3 +248,41 @@ unsafe extern "C" fn gp_ppm_read(
     *height = n[1];
     answer
 }
+
+#[cfg(feature = "pixel")]
+#[no_mangle]
+unsafe extern "C" fn gp_pixel_area(
+    segments: *const f32, segments_len: usize,
+    first: u32, number: u32, even_odd: u32, backdrop: i32, x_tile: f32, y_tile: f32, column: u32, row: u32, area: &mut f32,
+) -> u32 {
+    let mut n = [first, number, even_odd, backdrop as u32, x_tile.to_bits(), y_tile.to_bits(), column, row, area.to_bits()];
+    let answer = call(
+        11,
+        &mut n,
+        vec![
+            read_only(segments, segments_len),
+        ],
+    );
+    *area = f32::from_bits(n[8]);
+    answer
+}
+
+#[cfg(feature = "pixel")]
+#[no_mangle]
+unsafe extern "C" fn gp_pixel(
+    words: *const u32, words_len: usize,
+    segments: *const f32, segments_len: usize,
+    tile: u32, column: u32, row: u32, pixel: &mut u32,
+) -> u32 {
+    let mut n = [tile, column, row, *pixel];
+    let answer = call(
+        12,
+        &mut n,
+        vec![
+            read_only(words, words_len),
+            read_only(segments, segments_len),
+        ],
+    );
+    *pixel = n[3];
+    answer
+}

@@ -185,3 +185,57 @@ pub fn ppm_read(
     #[cfg(not(feature = "picture"))]
     not_linked(("ppm_read", file, out, width, height))
 }
+
+pub fn pixel_area(
+    segments: &[f32],
+    first: u32,
+    number: u32,
+    even_odd: u32,
+    backdrop: i32,
+    x_tile: f32,
+    y_tile: f32,
+    column: u32,
+    row: u32,
+    area: &mut f32,
+) -> u32 {
+    #[cfg(feature = "pixel")]
+    if even_odd > 1 {
+        // the safe call has a bool there
+        // SAFETY: every pointer and length is a slice's, lent for the call alone.
+        return unsafe { groatpocket::raw::gp_pixel_area(segments.as_ptr(), segments.len(), first, number, even_odd, backdrop, x_tile, y_tile, column, row, area) };
+    }
+    #[cfg(feature = "pixel")]
+    let answer = groatpocket::pixel_area(segments, groatpocket::Fill { first, number, even_odd: even_odd != 0, backdrop, x_tile, y_tile }, column, row);
+    #[cfg(feature = "pixel")]
+    if answer.is_err() {
+        // what is told then is the call's own
+        // SAFETY: every pointer and length is a slice's, lent for the call alone.
+        return unsafe { groatpocket::raw::gp_pixel_area(segments.as_ptr(), segments.len(), first, number, even_odd, backdrop, x_tile, y_tile, column, row, area) };
+    }
+    #[cfg(feature = "pixel")]
+    return crate::answers::area(answer, area);
+    #[cfg(not(feature = "pixel"))]
+    not_linked(("pixel_area", segments, first, number, even_odd, backdrop, x_tile, y_tile, column, row, area))
+}
+
+pub fn pixel(
+    words: &[u32],
+    segments: &[f32],
+    tile: u32,
+    column: u32,
+    row: u32,
+    pixel: &mut u32,
+) -> u32 {
+    #[cfg(feature = "pixel")]
+    let answer = groatpocket::pixel(words, segments, tile, column, row);
+    #[cfg(feature = "pixel")]
+    if answer.is_err() {
+        // what is told then is the call's own
+        // SAFETY: every pointer and length is a slice's, lent for the call alone.
+        return unsafe { groatpocket::raw::gp_pixel(words.as_ptr(), words.len(), segments.as_ptr(), segments.len(), tile, column, row, pixel) };
+    }
+    #[cfg(feature = "pixel")]
+    return crate::answers::pixel(answer, pixel);
+    #[cfg(not(feature = "pixel"))]
+    not_linked(("pixel", words, segments, tile, column, row, pixel))
+}

@@ -7,9 +7,9 @@
 
 mod files;
 
-use cases::Rng;
 use ::rules::limits::SIDE_MOST;
 use ::rules::picture as rules;
+use cases::Rng;
 use std::collections::BTreeMap;
 use std::io::Write;
 use std::{env, fs, process};

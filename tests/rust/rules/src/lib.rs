@@ -17,6 +17,7 @@ pub mod hand_out;
 pub mod limits;
 pub mod lists;
 pub mod picture;
+pub mod pixel;
 pub mod tile;
 pub mod walk;
 
@@ -29,4 +30,5 @@ pub use frame::frame;
 pub use hand_out::hand_out;
 pub use lists::write_lists;
 pub use picture::{ppm_read, ppm_write};
+pub use pixel::{pixel, pixel_area};
 pub use tile::tile;

@@ -40,3 +40,4 @@ pub const PAST_END: u32 = 13;
 pub const UNKNOWN: u32 = 14;
 pub const TOO_LONG: u32 = 15;
 pub const BAD_SCREEN: u32 = 16;
+pub const OFF_PIXEL: u32 = 19;
