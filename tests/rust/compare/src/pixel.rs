@@ -40,13 +40,13 @@ impl Stage for Pixel {
     type Case = Case;
     const NAME: &'static str = "pixel";
     const REACHED: &'static [u32] = &[0, 1, 13, 14, 15, 19];
-    const LEAST: u64 = 12_000;
+    const LEAST: u64 = 16_000;
 
     fn make(&self, rng: &mut Rng) -> Case {
         let fine = fine::Fine.make(rng);
         let tiles = fine.cols.saturating_mul(fine.rows).max(1);
         let tile = if rng.one_in(12) { rng.pick(&[tiles, 1 << 26, (1 << 26) - 1, u32::MAX]) } else { rng.below(tiles.min(6) as u64) as u32 };
-        let mut at = || if rng.one_in(4) { rng.pick(&[16, 17, 255, 1 << 28, u32::MAX]) } else { rng.below(16) as u32 };
+        let mut at = || if rng.one_in(10) { rng.pick(&[16, 17, 255, 1 << 28, u32::MAX]) } else { rng.below(16) as u32 };
         let (column, row) = (at(), at());
         Case { fill: fill::Fill.make(rng), fine, tile, column, row }
     }
@@ -129,6 +129,7 @@ fn colours(case: &Case, sides: Sides, table: &mut Table) -> Result<(), String> {
     }
     let whole = c.segments.len() % rules::limits::SEGMENT == 0;
     let made = if whole { rules::fine::tile_pixels(words.u32s(), segments.f32s(), 64 * case.tile as u64 + 1) } else { Err(1) };
+    table.answer(made.err().unwrap_or(0));
     if sides.ours {
         for k in 0..TILE {
             let (column, row) = place(k);
