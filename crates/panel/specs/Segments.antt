@@ -1,4 +1,4 @@
--- A segment's floats among those lent: tiling writes them, coverage reads them. docs/RULES.md, "Records". Definitions only.
+-- A segment's floats among those lent: tiling writes them, coverage reads them. docs/RULES.md, "How the records are lent". Definitions only.
 use mathlib.Core.List.{List, [], _∷_}
 use Prim.Native.Nat.{ℕ, _+_, _*_}
 use lib.ListN.{getD}
