@@ -10,6 +10,7 @@
 --     Handed      tables as hand-out leaves them
 --     Instance    the premises can be met
 --     Refuted     statements near the theorems' that are false, refuted by instances
+--     AtLimit     a list of as many commands as may be
 pub mod Writes
 pub mod Regions
 pub mod Apart
@@ -21,3 +22,4 @@ pub mod Exact
 pub mod Handed
 pub mod Instance
 pub mod Refuted
+pub mod AtLimit

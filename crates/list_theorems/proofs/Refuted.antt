@@ -195,5 +195,5 @@ limit-passes s cols rows room ws ok t e p =
     omega arith
 
 -- and there is such a list: 20 pairs of FILL and COLOR, 1,978 of SOLID and COLOR, and 100 JUMPs
-pub limit-is-met : commandsOf (replicate 20 (Fill 0 0 0 0 0) ++ replicate 1978 (Solid 0)) ≡ mostCommands
+pub limit-is-met : commandsOf (replicate 20 (Fill 1 0 (not32 0) 1 0) ++ replicate 1978 (Solid 0)) ≡ mostCommands
 limit-is-met = refl
