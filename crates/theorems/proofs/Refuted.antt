@@ -1,19 +1,25 @@
 -- What the theorems don't say, refuted: statements near theirs that are false, each shown so by an instance. Assumes nothing.
 use mathlib.Core.Path.{_≡_, refl, sym, ap, _∙_}
 use mathlib.Core.List.{List, [], _∷_, Perm, Perm·swap}
-use Prim.Native.Nat.{ℕ, suc, _/_, _≤_, _<_}
+use mathlib.Core.Bool.{true}
+use Prim.Native.Nat.{ℕ, suc, _/_, _≤_, _<_, _^_}
 use native.Mathlib.Omega.{arith}
+use lib.Dec.{leb}
 use lib.ListN.{length, getD, replicate}
 use lib.IntN.{ℤ, pos, negsuc}
-use lib.Ieee.{Float, binary32, ofBits}
+use lib.Ieee.{Float, binary32, neg, ofBits}
+use borrow.Author.Tests.{leb-true}
+use Rattle.util.specs.declared.Vec2.{Vec2}
 use Rattle.lists.specs.Run.{All}
 use Rattle.lists.specs.Tally.{zeros}
+use Rattle.panel.specs.Limits.{coordMost}
 use Rattle.panel.specs.Refusals.{noRoom}
 use Rattle.panel.specs.Widths.{lineFloats}
 use Rattle.panel.specs.Kinds.{runningOf}
 use Rattle.panel.specs.declared.kinds.Running.{Running}
 use Rattle.panel.specs.declared.kinds.Answer.the-variants as Answer
-use Rattle.walk.specs.Lent.{lineAt}
+use Rattle.walk.specs.Lent.{lineAt, Reached}
+use Rattle.walk.specs.Page.{lineOf}
 use Rattle.path_count.specs.Count.{Told, counted}
 use Rattle.hand_out.specs.HandOut as HandOut
 use Rattle.path_tiling.specs.Look.{lent}
@@ -164,3 +170,29 @@ RoomTheOtherWay =
 
 pub room-this-way : RoomTheOtherWay → ⊥
 room-this-way f = let h : 2 < 1 = f _ _ _ _ _ _ _ _ _ _ _ _ _ _ no-slot in omega arith
+
+-- ---- step numbers: a checked line has fewer than 2 ^ 15 steps, and not fewer than 2 ^ 13
+
+abbrev FewerSteps : Type 0
+FewerSteps = (p0 p1 : Vec2) → Reached p0 p1 → lineOf p0 p1 .k .count < 2 ^ 13
+
+-- from one corner of what coordinates reach to the other
+abbrev low : Vec2
+low = record { x = neg coordMost; y = neg coordMost }
+
+abbrev high : Vec2
+high = record { x = coordMost; y = coordMost }
+
+all-reached : Reached low high
+unfolding computing
+all-reached = refl
+
+many-steps : leb (2 ^ 13) (lineOf low high .k .count) ≡ true
+unfolding computing
+many-steps = refl
+
+pub steps-are-many : FewerSteps → ⊥
+steps-are-many f =
+    let h : lineOf low high .k .count < 2 ^ 13 = f low high all-reached in
+    let g : 2 ^ 13 ≤ lineOf low high .k .count = leb-true _ _ many-steps in
+    omega arith

@@ -1,4 +1,4 @@
--- Why step numbers stay exact in a float, for the limits in force. docs/THEOREMS.md, 10. Definitions only.
+-- Why step numbers stay exact in a float, for the limits in force. docs/THEOREMS.md, 13. Definitions only.
 use mathlib.Core.Path.{_≡_}
 use Prim.Native.Nat.{ℕ, _^_, _≤_, _<_}
 use lib.Dec.{T}
