@@ -17,6 +17,7 @@ use Rattle.groatpocket.specs.Seen.{Seen, seen, SeenAt, seenAt}
 use Rattle.groatpocket.specs.Calls.{CountSeen, GpFillMet, GpBackdropMet, GpHandMet, GpTileMet, GpFineMet, GpCountMet}
 use Rattle.groatpocket.specs.CallFrame.{FrameSeen, GpFrameMet}
 use Rattle.groatpocket.specs.CallLists.{GpListsMet}
+use Rattle.groatpocket.specs.CallPixel.{GpPixelAreaMet, GpPixelMet}
 use Rattle.groatpocket.specs.CallPpm.{ReadSeen, GpWriteMet, GpReadMet}
 
 -- ---- the picture's writer and reader, whole
@@ -109,3 +110,11 @@ pub one-gp-read : (file out : List ℕ) (r s w₁ w₂ h₁ h₂ : ℕ) (out₁ 
     → (r ≡ s) × (w₁ ≡ w₂) × (h₁ ≡ h₂) × (out₁ ≡ out₂)
 one-gp-read file out r s w₁ w₂ h₁ h₂ out₁ out₂ p q =
     let e = p ∙ sym q in (ap (λ (x : ReadSeen). x .number) e, ap (λ (x : ReadSeen). x .width) e, ap (λ (x : ReadSeen). x .height) e, ap (λ (x : ReadSeen). x .bytes) e)
+
+pub one-gp-pixel-area : (segs : List Float) (first n flag : ℕ) (backdrop : ℤ) (x y : Float) (column row : ℕ) (old : Float) (r s : ℕ) (a b : Float)
+    → GpPixelAreaMet segs first n flag backdrop x y column row old r a → GpPixelAreaMet segs first n flag backdrop x y column row old s b → (r ≡ s) × (a ≡ b)
+one-gp-pixel-area segs first n flag backdrop x y column row old r s a b p q = same-seen r s a b _ p q
+
+pub one-gp-pixel : (ws : List ℕ) (segs : List Float) (t column row old r s px qx : ℕ)
+    → GpPixelMet ws segs t column row old r px → GpPixelMet ws segs t column row old s qx → (r ≡ s) × (px ≡ qx)
+one-gp-pixel ws segs t column row old r s px qx p q = same-seen r s px qx _ p q

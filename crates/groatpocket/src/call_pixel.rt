@@ -4,12 +4,7 @@ use panel::refusals::DONE;
 use pixel::kinds::Coloured;
 use pixel::kinds::Covered;
 ghost use mathlib.Core.Path.{_≡_};
-ghost use mathlib.Core.Bool.{not};
-ghost use lib.Dec.{eqb};
-ghost use Rattle.pixel.specs.Coverage.{coverageAtOf};
-ghost use Rattle.pixel.specs.Colour.{colourAtOf};
-ghost use Rattle.groatpocket.specs.Seen.{seen};
-ghost use Rattle.groatpocket.specs.CallPixel.{coveredNo, coveredOr, colouredNo, colouredOr, pixelSeen};
+ghost use Rattle.groatpocket.specs.CallPixel.{coveredNo, coveredOr, colouredNo, colouredOr, GpPixelAreaMet, GpPixelMet};
 
 // The number that an answer has on paper, and what stands behind the pointer: what did, where it is
 // refused.
@@ -63,8 +58,7 @@ pub extern "C" fn gp_pixel_area(
     row: u32,
     area: &mut f32,
 ) -> u32
-    ensures { λ r. ⌜ seen r (now (area .exit))
-        ≡ pixelSeen (coverageAtOf (now (segments .entry)) first count (not (eqb «even_odd» 0)) backdrop «x_tile» «y_tile» column row) (now (area .entry)) ⌝ }
+    ensures { λ r. ⌜ GpPixelAreaMet (now (segments .entry)) first count «even_odd» backdrop «x_tile» «y_tile» column row (now (area .entry)) r (now (area .exit)) ⌝ }
 {
     let c = pixel::coverage_at(
         segments,
@@ -91,8 +85,7 @@ pub extern "C" fn gp_pixel(
     row: u32,
     pixel: &mut u32,
 ) -> u32
-    ensures { λ r. ⌜ seen r (now (pixel .exit))
-        ≡ pixelSeen (colourAtOf (now (words .entry)) (now (segments .entry)) tile column row) (now (pixel .entry)) ⌝ }
+    ensures { λ r. ⌜ GpPixelMet (now (words .entry)) (now (segments .entry)) tile column row (now (pixel .entry)) r (now (pixel .exit)) ⌝ }
 {
     let c = pixel::colour_at(words, segments, tile, column, row);
     let old = *pixel;

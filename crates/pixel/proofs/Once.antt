@@ -7,8 +7,8 @@ use native.Mathlib.Omega.{arith}
 use lib.IntN.{ℤ}
 use lib.Ieee.{Float}
 use Rattle.pixel.specs.Answers.{Paper, coveragePaper, colourPaper}
-use Rattle.pixel.specs.Coverage.{coverageAtOf}
-use Rattle.pixel.specs.Colour.{colourAtOf}
+use Rattle.pixel.specs.Coverage.{CoverageAtMet}
+use Rattle.pixel.specs.Colour.{ColourAtMet}
 use Rattle.pixel.specs.declared.kinds.Covered.{Covered}
 use Rattle.pixel.specs.declared.kinds.Covered.the-variants as Covered′
 use Rattle.pixel.specs.declared.kinds.Coloured.{Coloured}
@@ -35,9 +35,9 @@ coloured-once (Coloured′.Refused n) (Coloured′.Done y) e =
 coloured-once (Coloured′.Refused n) (Coloured′.Refused m) e = ap Coloured′.Refused (ap (λ (p : Paper ℕ). p .number) e)
 
 pub one-coverage : (segs : List Float) (first n : ℕ) (eo : Bool) (z : ℤ) (xt yt : Float) (column row : ℕ) (a b : Covered)
-    → coveragePaper a ≡ coverageAtOf segs first n eo z xt yt column row → coveragePaper b ≡ coverageAtOf segs first n eo z xt yt column row → a ≡ b
+    → CoverageAtMet segs first n eo z xt yt column row a → CoverageAtMet segs first n eo z xt yt column row b → a ≡ b
 one-coverage segs first n eo z xt yt column row a b p q = covered-once a b (p ∙ sym q)
 
 pub one-colour : (ws : List ℕ) (segs : List Float) (t column row : ℕ) (a b : Coloured)
-    → colourPaper a ≡ colourAtOf ws segs t column row → colourPaper b ≡ colourAtOf ws segs t column row → a ≡ b
+    → ColourAtMet ws segs t column row a → ColourAtMet ws segs t column row b → a ≡ b
 one-colour ws segs t column row a b p q = coloured-once a b (p ∙ sym q)

@@ -20,9 +20,8 @@ use sums::coverage_of;
 ghost use mathlib.Core.Path.{_≡_};
 ghost use Rattle.panel.specs.Checks.{firstNo};
 ghost use Rattle.pixel.specs.Place.{placeChecks};
-ghost use Rattle.pixel.specs.Answers.{coveragePaper, colourPaper};
-ghost use Rattle.pixel.specs.Coverage.{coverageAtOf};
-ghost use Rattle.pixel.specs.Colour.{colourAtOf};
+ghost use Rattle.pixel.specs.Coverage.{CoverageAtMet};
+ghost use Rattle.pixel.specs.Colour.{ColourAtMet};
 
 // Whether the pixel is one of a tile's (19).
 fn check_place(column: u32, row: u32) -> Verdict
@@ -50,7 +49,7 @@ pub fn coverage_at(
     column: u32,
     row: u32,
 ) -> Covered
-    ensures { λ r. ⌜ coveragePaper r ≡ coverageAtOf (now (segments .entry)) first number «even_odd» backdrop «x_tile» «y_tile» column row ⌝ }
+    ensures { λ r. ⌜ CoverageAtMet (now (segments .entry)) first number «even_odd» backdrop «x_tile» «y_tile» column row r ⌝ }
 {
     let p = check_place(column, row);
     if let Verdict::Against(no) = p {
@@ -77,7 +76,7 @@ pub fn coverage_at(
 // The public call: the pixel in that column and row of screen tile t, packed, under the tile's list of
 // commands. 19, then 1, then as the tile has them 13, 14 and 15.
 pub fn colour_at(words: &[u32], segments: &[f32], t: u32, column: u32, row: u32) -> Coloured
-    ensures { λ r. ⌜ colourPaper r ≡ colourAtOf (now (words .entry)) (now (segments .entry)) t column row ⌝ }
+    ensures { λ r. ⌜ ColourAtMet (now (words .entry)) (now (segments .entry)) t column row r ⌝ }
 {
     let p = check_place(column, row);
     if let Verdict::Against(no) = p {
