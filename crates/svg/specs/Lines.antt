@@ -1,4 +1,5 @@
 -- What a call answers, and what the path numbers and coordinates lent hold after it. Definitions only.
+use mathlib.Core.Path.{_≡_}
 use mathlib.Core.Bool.{Bool, cond, _&&_}
 use mathlib.Core.List.{List, [], _∷_}
 use Prim.Native.Nat.{ℕ, _/_, _%_}
@@ -70,3 +71,7 @@ linesOf text d path ps cs =
     cond (leb d depthMost)
     (cond (pairedOf (length ps) (length cs)) (onVerdict (verdictOf Start 0 text) text d path ps cs) (refused notWhole 0 ps cs))
     (refused tooDeep 0 ps cs)
+
+-- the call's promise: the answer r, and all that was lent as it is afterwards, are these
+abbrev pub LinesMet : List ℕ → ℕ → ℕ → List ℕ → List Float → Answer → (ps′ : List ℕ) (cs′ : List Float) → Type 0
+LinesMet text d path ps cs r ps′ cs′ = record { answer = paperOf r; paths = ps′; coords = cs′ } ≡ linesOf text d path ps cs

@@ -16,7 +16,7 @@ ghost use lib.ListN.{length, replicate};
 ghost use lib.Seq.{sets};
 ghost use Rattle.panel.specs.Widths.{lineFloats};
 ghost use Rattle.svg_outline.specs.Outline.{depthMost};
-ghost use Rattle.svg.specs.Lines.{paperOf, linesOf, drawnOf, pairedOf, svgNumbers};
+ghost use Rattle.svg.specs.Lines.{paperOf, drawnOf, LinesMet, pairedOf, svgNumbers};
 
 // 21: a text that is no path data
 pub const BAD_TEXT: u32 = 21;
@@ -72,7 +72,7 @@ fn drawn(text: &[u8], depth: u32, path: u32, paths: &mut [u32], coords: &mut [f3
 
 // The lines of a text, from the first place on.
 pub fn lines(text: &[u8], depth: u32, path: u32, paths: &mut [u32], coords: &mut [f32]) -> Answer
-    ensures { λ r. ⌜ record { answer = paperOf r; paths = now (paths .exit); coords = now (coords .exit) } ≡ linesOf (now (text .entry)) depth path (now (paths .entry)) (now (coords .entry)) ⌝ }
+    ensures { λ r. ⌜ LinesMet (now (text .entry)) depth path (now (paths .entry)) (now (coords .entry)) r (now (paths .exit)) (now (coords .exit)) ⌝ }
 {
     if DEPTH_MOST < depth {
         return Answer::Refused(TOO_DEEP, 0);
