@@ -68,23 +68,24 @@ extern "C" {
  * shows nothing of what follows it, and the call still answers 0. Write such lists again, by
  * gp_write_lists or without that word, before they are drawn. */
 
-/* A whole frame: checks all that is lent, clears backdrops and tiles, counts all lines, sums the
+/* A whole frame: checks all that is lent, clears backdrops and counts, counts all lines, sums the
  * backdrops, hands out slots (as many as segments are lent) and tiles every reference. Afterwards
- * backdrops are the sums, tiles the indices, tally the counts, and segments below *made are written.
+ * backdrops are the sums, stored what hand-out left, tally the counts, and segments below *made are
+ * written.
  * Where it refuses, *stage says which part; *item is the line, path or reference; *lines and *made are
  * what was counted (0 and 0 where the checks refuse). What the parts before it did stands. */
 uint32_t gp_frame(const uint32_t *path_nos, size_t path_nos_len,
                   const float *coords, size_t coords_len,
                   const uint32_t *paths, size_t paths_len,
                   int32_t *backdrops, size_t backdrops_len,
-                  uint32_t *tiles, size_t tiles_len,
+                  uint32_t *stored, size_t stored_len,
                   uint32_t *tally, size_t tally_len,
                   uint32_t *refs, size_t refs_len,
                   float *segments, size_t segments_len,
                   uint32_t *stage, uint32_t *item, uint32_t *lines, uint32_t *made);
 
 /* The command lists of a screen of cols by rows tiles: the paths in their order, each with its paint.
- * backdrops, stored and tally are what gp_frame leaves in backdrops, tiles and tally; room is the
+ * backdrops, stored and tally are what gp_frame leaves in backdrops, stored and tally; room is the
  * number of segments that gp_fine will be lent. A list that fills its 64 words goes on in 64 fresh
  * ones past all tiles'; other words stay. 64 words for each tile and ten paths always suffice. 15 with
  * the first screen tile of too many commands in *item; 9 where the words or the room don't suffice. A
@@ -135,16 +136,17 @@ uint32_t gp_backdrop(const uint32_t *paths, size_t paths_len,
                      int32_t *backdrops, size_t backdrops_len, uint32_t *item);
 
 /* Hand-out: each tile with a count above 0 takes so many slots and holds the NOT of its first; an
- * empty tile holds 0. The counts are kept in the tally. 9 where they need more than room slots. */
+ * empty tile holds 0: the stored words, under which name gp_tile and gp_write_lists take them. The
+ * counts are kept in the tally. 9 where they need more than room slots. */
 uint32_t gp_hand_out(uint32_t *counts, size_t counts_len,
                      uint32_t *tally, size_t tally_len, uint32_t room);
 
 /* Tiling: references from .. to, each writes its segment, relative to its tile, at its slot. Stops
- * before the first refused, with its number in *item. indices are the counts after hand-out. */
+ * before the first refused, with its number in *item. stored is what gp_hand_out left in counts. */
 uint32_t gp_tile(const uint32_t *path_nos, size_t path_nos_len,
                  const float *coords, size_t coords_len,
                  const uint32_t *paths, size_t paths_len,
-                 const uint32_t *indices, size_t indices_len,
+                 const uint32_t *stored, size_t stored_len,
                  const uint32_t *refs, size_t refs_len,
                  uint32_t from, uint32_t to,
                  float *segments, size_t segments_len, uint32_t *item);

@@ -27,7 +27,7 @@ static const uint32_t paths[CHANNELS * GP_PATH_WORDS] = {
 static const uint32_t paints[CHANNELS * GP_PAINT_WORDS] = {0xff0000ff, 0, 0x0000ffff, 1, 0x00ff00ff, 0};
 
 static int32_t backdrops[TILES];
-static uint32_t tiles[TILES], tally[TILES], refs[ROOM * GP_REF_WORDS], words[WORDS], pixels[256 * COLS * ROWS];
+static uint32_t stored[TILES], tally[TILES], refs[ROOM * GP_REF_WORDS], words[WORDS], pixels[256 * COLS * ROWS];
 static float segments[ROOM * GP_SEGMENT_FLOATS];
 
 /* Takes the lines of one channel out, and gives the number of those left. */
@@ -49,7 +49,7 @@ int main(void) {
     /* A channel with a refused line is shown as faulty, and the frame is drawn without it. */
     for (;;) {
         no = gp_frame(path_nos, n, coords, n * GP_LINE_FLOATS, paths, CHANNELS * GP_PATH_WORDS,
-                      backdrops, TILES, tiles, TILES, tally, TILES, refs, ROOM * GP_REF_WORDS,
+                      backdrops, TILES, stored, TILES, tally, TILES, refs, ROOM * GP_REF_WORDS,
                       segments, ROOM * GP_SEGMENT_FLOATS, &stage, &item, &lines, &made);
         if (no == GP_DONE || (stage != GP_STAGE_COUNT && stage != GP_STAGE_TILE)) break;
         uint32_t line = stage == GP_STAGE_TILE ? refs[GP_REF_WORDS * item] : item;
@@ -61,7 +61,7 @@ int main(void) {
     if (no != GP_DONE) return 1;
 
     no = gp_write_lists(paths, CHANNELS * GP_PATH_WORDS, paints, CHANNELS * GP_PAINT_WORDS, backdrops, TILES,
-                        tiles, TILES, tally, TILES, COLS, ROWS, ROOM, words, WORDS, &item);
+                        stored, TILES, tally, TILES, COLS, ROWS, ROOM, words, WORDS, &item);
     printf("lists: %u\n", no);
     if (no != GP_DONE) return 1;
 

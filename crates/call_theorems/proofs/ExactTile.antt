@@ -84,7 +84,7 @@ module _ (from to : ℕ) (L : Lent) (segs : List Float) where
   slots = slotsOf (length segs)
 
   -- the call over its range, whole and with good paths
-  module _ (w : tileWhole from to L segs ≡ true) (ok : pathsAnswer (L .paths) (length (L .indices)) ≡ Done) where
+  module _ (w : tileWhole from to L segs ≡ true) (ok : pathsAnswer (L .paths) (length (L .stored)) ≡ Done) where
     met-range : (a : Answer) → rangeOf L slots (to - from) from .answer ≡ a → TileMet from to L segs a (applied (rangeOf L slots (to - from) from .writes) segs)
     met-range a e = ap (λ (x : Answer). tiled x (applied (rangeOf L slots (to - from) from .writes) segs)) (sym e) ∙ called from to L segs w ok
 
@@ -93,14 +93,14 @@ module _ (from to : ℕ) (L : Lent) (segs : List Float) where
 
   module _ (x : Answer) (segs′ : List Float) where
     why : TileMet from to L segs x segs′ → TileWay from to L segs x segs′
-    why p = go (tileWhole from to L segs) refl (pathsAnswer (L .paths) (length (L .indices))) refl (rangeOf L slots (to - from) from .answer) refl
+    why p = go (tileWhole from to L segs) refl (pathsAnswer (L .paths) (length (L .stored))) refl (rangeOf L slots (to - from) from .answer) refl
       where
-        go : (b : Bool) → tileWhole from to L segs ≡ b → (v : Answer) → pathsAnswer (L .paths) (length (L .indices)) ≡ v → (a : Answer) → rangeOf L slots (to - from) from .answer ≡ a
+        go : (b : Bool) → tileWhole from to L segs ≡ b → (v : Answer) → pathsAnswer (L .paths) (length (L .stored)) ≡ v → (a : Answer) → rangeOf L slots (to - from) from .answer ≡ a
             → TileWay from to L segs x segs′
         go false w v q a h = let e = one-tile from to L segs x (Refused notWhole 0) segs′ segs p (not-whole from to L segs w) in unwhole (e .0) w (e .1)
         go true w (Refused n item) q a h =
             let e = one-tile from to L segs x (Refused n item) segs′ segs p (bad-paths from to L segs n item w q) in
-            paths-refused n item (e .0) w (paths-exact (L .paths) (length (L .indices)) n item .0 q) (e .1)
+            paths-refused n item (e .0) w (paths-exact (L .paths) (length (L .stored)) n item .0 q) (e .1)
         go true w Done q (Refused n k) h =
             let r = range-exact L slots (to - from) from n k .0 h in
             let e = one-tile from to L segs x (Refused n k) segs′ (applied (rangeOf L slots (k - from) from .writes) segs) p (met-ref w q n k r) in
@@ -111,7 +111,7 @@ module _ (from to : ℕ) (L : Lent) (segs : List Float) where
 
     back : TileWay from to L segs x segs′ → TileMet from to L segs x segs′
     back (unwhole ex w es) = rw (ex, es) (not-whole from to L segs w)
-    back (paths-refused n item ex w k es) = rw (ex, es) (bad-paths from to L segs n item w (paths-exact (L .paths) (length (L .indices)) n item .1 k))
+    back (paths-refused n item ex w k es) = rw (ex, es) (bad-paths from to L segs n item w (paths-exact (L .paths) (length (L .stored)) n item .1 k))
     back (ref-refused n k ex w ok low high none h es) =
         rw (ex, es)
         (met-ref w ok n k

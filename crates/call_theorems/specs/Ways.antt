@@ -117,14 +117,14 @@ pub data TileWay (from to : ℕ) (L : Lent) (segs : List Float) (x : Answer) (se
   -- 1: a length or the range
   unwhole : x ≡ Refused notWhole 0 → tileWhole from to L segs ≡ false → segs′ ≡ segs → TileWay from to L segs x segs′
   -- 1 to 4 of the paths
-  paths-refused : (n item : ℕ) → x ≡ Refused n item → tileWhole from to L segs ≡ true → PathsWhy (L .paths) (length (L .indices)) n item → segs′ ≡ segs
+  paths-refused : (n item : ℕ) → x ≡ Refused n item → tileWhole from to L segs ≡ true → PathsWhy (L .paths) (length (L .stored)) n item → segs′ ≡ segs
       → TileWay from to L segs x segs′
   -- reference k is refused, the first: the segments of those before it are written, and no other
-  ref-refused : (n k : ℕ) → x ≡ Refused n k → tileWhole from to L segs ≡ true → pathsAnswer (L .paths) (length (L .indices)) ≡ Done → from ≤ k → k < to
+  ref-refused : (n k : ℕ) → x ≡ Refused n k → tileWhole from to L segs ≡ true → pathsAnswer (L .paths) (length (L .stored)) ≡ Done → from ≤ k → k < to
       → NoneRefused L (slotsOf (length segs)) from k → LookWhy L (slotsOf (length segs)) k n
       → segs′ ≡ applied (rangeOf L (slotsOf (length segs)) (k - from) from .writes) segs → TileWay from to L segs x segs′
   -- none is: all are written
-  all-tiled : x ≡ Done → tileWhole from to L segs ≡ true → pathsAnswer (L .paths) (length (L .indices)) ≡ Done → NoneRefused L (slotsOf (length segs)) from to
+  all-tiled : x ≡ Done → tileWhole from to L segs ≡ true → pathsAnswer (L .paths) (length (L .stored)) ≡ Done → NoneRefused L (slotsOf (length segs)) from to
       → segs′ ≡ applied (rangeOf L (slotsOf (length segs)) (to - from) from .writes) segs → TileWay from to L segs x segs′
 
 -- ---- coverage

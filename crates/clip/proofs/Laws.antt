@@ -3,7 +3,7 @@ use Prim.Native.Nat.{ℕ, _≤_}
 use native.Mathlib.Omega.{arith}
 use mathlib.Core.Path.{_≡_, subst}
 use Rattle.panel.specs.declared.kinds.Path.{Path}
-use Rattle.walk.specs.declared.setup.Walk.{Walk}
+use Rattle.walk.specs.declared.kinds.Walk.{Walk}
 use Rattle.clip.specs.Clip.{clipOf}
 use Rattle.clip.specs.Page.{clippedOf, by-parts}
 use Rattle.clip.specs.declared.Clip.{Clip}

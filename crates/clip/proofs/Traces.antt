@@ -16,11 +16,11 @@ use Rattle.walk.specs.Page.{lineOf}
 use Rattle.walk.specs.Skip.{flatOf, pastOf}
 use Rattle.walk.specs.Step.{zAt, tileIn, stepOf, crossesAt}
 use Rattle.walk.specs.Lent.{lineAt, walkedOf, walkAt}
-use Rattle.walk.specs.declared.setup.Pace.{Pace}
+use Rattle.walk.specs.declared.kinds.Pace.{Pace}
 use Rattle.walk.specs.declared.step.Step.{Step}
 use Rattle.walk.specs.declared.step.Step.the-variants.{Tile, Refused as Outside}
-use Rattle.walk.specs.declared.lent.Walked.{Walked}
-use Rattle.walk.specs.declared.lent.Walked.the-variants.{Refused, Skipped, Line}
+use Rattle.walk.specs.declared.kinds.Walked.{Walked}
+use Rattle.walk.specs.declared.kinds.Walked.the-variants.{Refused, Skipped, Line}
 use Rattle.clip.specs.Page.{clippedOf}
 use Rattle.clip.specs.declared.Clip.{Clip}
 

@@ -8,7 +8,7 @@ ghost use Rattle.clip.specs.Page.{clippedOf};
 use panel::kinds::Path;
 use util::pick;
 use walk::choose::row;
-use walk::setup::Walk;
+use walk::kinds::Walk;
 use walk::step::z_at;
 
 // Steps imin to imax of the walk are left, and rows ymin to ymax are marked in the box's first

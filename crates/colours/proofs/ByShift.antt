@@ -18,7 +18,7 @@ use Rattle.float32.proofs.Laws.{size-plus, round-to-fits, whole-u32}
 use Rattle.float32.proofs.Magic.{own}
 use Rattle.float32.proofs.Nearest as halves
 use Rattle.float32.proofs.Same.{sub-zero}
-use Rattle.float32.proofs.Steps.{lt-plus, gt-plus}
+use Rattle.float32.proofs.Floors.{lt-plus, gt-plus}
 use Rattle.util.specs.Constants.{zero, half, one, minusOne, byteMost}
 use Rattle.coverage.proofs.Even.{shape}
 use Rattle.colours.specs.Colour.{byteMany, byteOf}

@@ -17,7 +17,7 @@ use Rattle.panel.specs.Widths.{segmentFloats}
 use Rattle.coverage.specs.Tile.{tileSize}
 use Rattle.coverage.specs.Coverage.{pixelOf, coverageOf}
 use Rattle.coverage.proofs.Laws.{mapi-over}
-use Rattle.commands.specs.Steps.{countOf, fillMove, wholeMove, moveOf}
+use Rattle.commands.specs.Moves.{countOf, fillMove, wholeMove, moveOf}
 use Rattle.commands.specs.Numbers.{wordsOf}
 use Rattle.commands.specs.Pixel.{evenOddOf, signedOf, cover, paint, coverAll, paintAll, Within}
 use Rattle.commands.specs.declared.steps.Op.{Op}

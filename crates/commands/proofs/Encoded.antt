@@ -12,7 +12,7 @@ use Rattle.panel.specs.declared.kinds.Verdict.the-variants.{Fine}
 use Rattle.reader.specs.Look.{lookAt}
 use Rattle.reader.specs.declared.Look.the-variants.{Word}
 use Rattle.commands.specs.Numbers.{endNo, solidNo, encodeTo, encode, fillWords, solidWords, colorWords, jumpWords, tileWords, listStart}
-use Rattle.commands.specs.Steps.{opOf, countOf, fillMove, wholeMove, moveOf, ends, does, traceOf}
+use Rattle.commands.specs.Moves.{opOf, countOf, fillMove, wholeMove, moveOf, ends, does, traceOf}
 use Rattle.commands.specs.declared.steps.Act.{Act}
 use Rattle.commands.specs.declared.steps.Act.the-variants.{Fill, Solid, Color, Jump}
 use Rattle.commands.specs.declared.steps.Move.the-variants.{Goes}

@@ -1,4 +1,4 @@
 -- A tile's commands: how they run, and what they do to a pixel. Definitions only.
 pub mod Numbers
-pub mod Steps
+pub mod Moves
 pub mod Pixel

@@ -14,7 +14,7 @@ use Rattle.panel.specs.declared.kinds.Verdict.{Verdict}
 use Rattle.coverage.specs.Tile.{tileSize}
 use Rattle.coverage.specs.Coverage.{pixelOf}
 use Rattle.colours.specs.Colour.{colourOf, overOf}
-use Rattle.commands.specs.Steps.{countOf, Trace, ends, does, traceOf, endOf}
+use Rattle.commands.specs.Moves.{countOf, Trace, ends, does, traceOf, endOf}
 use Rattle.commands.specs.declared.steps.Act.{Act}
 use Rattle.commands.specs.declared.steps.Act.the-variants.{Fill, Solid, Color, Jump}
 

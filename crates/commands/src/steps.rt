@@ -13,7 +13,7 @@ ghost use mathlib.Core.Path.{_≡_};
 ghost use Prim.Native.Nat.{_+_, _≤_, _<_};
 ghost use lib.ListN.{length};
 ghost use Rattle.commands.specs.Numbers.{wordsOf, fillWords};
-ghost use Rattle.commands.specs.Steps.{opOf, fillMove, moveOf};
+ghost use Rattle.commands.specs.Moves.{opOf, fillMove, moveOf};
 
 // What a command's first word asks for.
 pub enum Op {

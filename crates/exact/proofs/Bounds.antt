@@ -25,7 +25,7 @@ use Rattle.float32.specs.Meaning.{whole, up-div, floorOf, ceilOf, absOf, signed
 use Rattle.float32.proofs.Whole.{whole-value}
 use Rattle.float32.proofs.Order.{not-lt-of-le, le-right}
 use Rattle.float32.proofs.MinMax.{min-picks, max-picks, max-right}
-use Rattle.float32.proofs.Steps.{trunc-exact, lt-plus, gt-minus}
+use Rattle.float32.proofs.Floors.{trunc-exact, lt-plus, gt-minus}
 use Rattle.float32.proofs.Laws.{size-plus, size-minus, down-most, up-most, up-exact, floor-fits, max-fits, min-fits}
 use Rattle.exact.specs.Whole.{IsWhole, floorZ, ceilZ, turn, Small}
 use Rattle.util.specs.Constants.{zero as zeroF, one, minusOne, tileScale}

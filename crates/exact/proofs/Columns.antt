@@ -17,7 +17,7 @@ use lib.Ieee.Nearest.{div-same}
 use lib.Ieee.Scale.{round-same, finite}
 use Rattle.float32.specs.Meaning.{whole, up-div, floorOf, ceilOf, unit}
 use Rattle.float32.proofs.Tests.{below-or-not}
-use Rattle.float32.proofs.Steps.{few-digits, not-low, not-high}
+use Rattle.float32.proofs.Floors.{few-digits, not-low, not-high}
 use Rattle.float32.proofs.Laws.{up-most}
 use Rattle.float32.proofs.Order.{not-lt-of-le, le-of-not-lt}
 use Rattle.float32.proofs.MinMax.{le-of-lt}

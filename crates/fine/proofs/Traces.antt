@@ -8,7 +8,7 @@ use Rattle.panel.specs.declared.kinds.Verdict.the-variants.{Fine, Against}
 use Rattle.panel.specs.Refusals.{pastEnd, unknown}
 use Rattle.colours.specs.Colour.{channelOf, colourOf, overOf, byteOf, packOf}
 use Rattle.commands.specs.Numbers.{colorNo, endNo, encode}
-use Rattle.commands.specs.Steps.{opOf, moveOf, wholeMove, traceOf}
+use Rattle.commands.specs.Moves.{opOf, moveOf, wholeMove, traceOf}
 use Rattle.commands.specs.Pixel.{cover, paint, pointOf}
 use Rattle.commands.specs.declared.steps.Act.the-variants.{Solid, Color}
 use Rattle.fine.specs.Screen.{tileTrace, endsAt, colourAt}

@@ -14,7 +14,7 @@ use Rattle.panel.specs.declared.kinds.Verdict.the-variants.{Fine, Against}
 use Rattle.coverage.specs.Tile.{tileWidth, tileHeight, tileSize}
 use Rattle.colours.specs.Colour.{packOf}
 use Rattle.commands.specs.Numbers.{startOf}
-use Rattle.commands.specs.Steps.{Trace, traceOf, endOf}
+use Rattle.commands.specs.Moves.{Trace, traceOf, endOf}
 use Rattle.commands.specs.Pixel.{point, pointOf}
 
 -- ---- where a tile lies. The screen's pixel p is in column p % width and row p / width

@@ -18,7 +18,7 @@ use Rattle.float32.specs.Meaning.{whole, unit, near-div, truncOf, roundO
 use Rattle.float32.proofs.Tests.{below-or-not, first, second}
 use Rattle.float32.proofs.Fields.{signed-own}
 use Rattle.float32.proofs.Whole.{whole-value}
-use Rattle.float32.proofs.Steps.{cross, few-digits, lt-plus, gt-minus}
+use Rattle.float32.proofs.Floors.{cross, few-digits, lt-plus, gt-minus}
 use Rattle.float32.proofs.Laws.{abs-fits}
 use Rattle.float32.proofs.Nearest.{half, half-above, minus-half-below, near-same, near-more, rest-value, round-up, round-stay}
 use Rattle.float32.proofs.Magic.{shift, shifted-plus, div-is, own, round-turned}

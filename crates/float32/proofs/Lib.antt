@@ -3,7 +3,7 @@ pub mod Tests
 pub mod Fields
 pub mod Whole
 pub mod Cut
-pub mod Steps
+pub mod Floors
 pub mod Nearest
 pub mod Casts
 pub mod Order

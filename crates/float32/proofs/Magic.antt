@@ -23,7 +23,7 @@ use Rattle.float32.proofs.Tests.{below-or-not, first}
 use Rattle.float32.proofs.Whole.{whole-fits, whole-value, reduced}
 use Rattle.float32.proofs.Order.{eq-not-lt, eq-not-gt}
 use Rattle.float32.proofs.Laws.{up-exact}
-use Rattle.float32.proofs.Steps.{lt-plus, gt-plus, lt-minus, gt-minus, one-less, up-same, trunc-exact}
+use Rattle.float32.proofs.Floors.{lt-plus, gt-plus, lt-minus, gt-minus, one-less, up-same, trunc-exact}
 
 -- ---- from 2 ^ 23 up to 2 ^ 24 a fraction rounds to the whole number closest to it
 size-is : (w j : ℕ) → 2 ^ j ≤ w → w < 2 ^ suc j → size w ≡ suc j

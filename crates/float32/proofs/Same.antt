@@ -16,7 +16,7 @@ use borrow.Author.Tests.{le-ltb, eqb-true}
 use Rattle.float32.specs.Meaning.{signOf}
 use Rattle.float32.proofs.Tests.{first}
 use Rattle.float32.proofs.Nearest.{part-exact}
-use Rattle.float32.proofs.Steps.{few-digits, not-low, trunc-exact}
+use Rattle.float32.proofs.Floors.{few-digits, not-low, trunc-exact}
 
 -- ---- a sign and a size are those of one value only: its bits are made from nothing else
 same-bits : (s : Bool) (m : ℕ) (e : ℤ) (n : ℕ) (d : ℤ) → n * up d * down e ≡ m * up e * down d → toBits binary32 (fin s n d) ≡ toBits binary32 (fin s m e)

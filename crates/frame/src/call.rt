@@ -54,20 +54,20 @@ pub fn frame(
     coords: &[f32],
     paths: &[u32],
     backdrops: &mut [i32],
-    tiles: &mut [u32],
+    stored: &mut [u32],
     tally: &mut [u32],
     refs: &mut [u32],
     segments: &mut [f32],
 ) -> Framed
-    ensures { λ r. ⌜ FrameMet (now («path_nos» .entry)) (now (coords .entry)) (now (paths .entry)) (now (backdrops .entry)) (now (tiles .entry)) (now (tally .entry)) (now (refs .entry)) (now (segments .entry))
-        r (now (backdrops .exit)) (now (tiles .exit)) (now (tally .exit)) (now (refs .exit)) (now (segments .exit)) ⌝ }
+    ensures { λ r. ⌜ FrameMet (now («path_nos» .entry)) (now (coords .entry)) (now (paths .entry)) (now (backdrops .entry)) (now (stored .entry)) (now (tally .entry)) (now (refs .entry)) (now (segments .entry))
+        r (now (backdrops .exit)) (now (stored .exit)) (now (tally .exit)) (now (refs .exit)) (now (segments .exit)) ⌝ }
 {
     let none = Running { lines: 0, refs: 0 };
     let v = check_lent(
         path_nos.len(),
         coords.len(),
         backdrops.len(),
-        tiles.len(),
+        stored.len(),
         tally.len(),
         refs.len(),
         segments.len(),
@@ -75,7 +75,7 @@ pub fn frame(
     if let Verdict::Against(why) = v {
         return Framed::Refused(Stage::Lent, why, 0, none);
     }
-    let a = check_paths(paths, tiles.len());
+    let a = check_paths(paths, stored.len());
     if let Answer::Refused(why, item) = a {
         return Framed::Refused(Stage::Lent, why, item, none);
     }
@@ -84,7 +84,7 @@ pub fn frame(
         coords,
         paths,
         backdrops,
-        tiles,
+        stored,
         tally,
         refs,
         segments,

@@ -34,21 +34,21 @@ fn place(
     coords: &[f32],
     paths: &[u32],
     backdrops: &mut [i32],
-    tiles: &mut [u32],
+    stored: &mut [u32],
     tally: &mut [u32],
     refs: &[u32],
     segments: &mut [f32],
 ) -> Framed
-    requires { ⌜ (pathsAnswer (now paths) (length (now tiles)) ≡ Done) × (length (now backdrops) ≡ length (now tiles)) ⌝ }
-    ensures { λ r. ⌜ outOf r (now (backdrops .exit)) (now (tiles .exit)) (now (tally .exit)) (now (refs .entry)) (now (segments .exit))
-        ≡ placedOf s (now («path_nos» .entry)) (now (coords .entry)) (now (paths .entry)) (now (backdrops .entry)) (now (tiles .entry)) (now (tally .entry)) (now (refs .entry)) (now (segments .entry)) ⌝ }
+    requires { ⌜ (pathsAnswer (now paths) (length (now stored)) ≡ Done) × (length (now backdrops) ≡ length (now stored)) ⌝ }
+    ensures { λ r. ⌜ outOf r (now (backdrops .exit)) (now (stored .exit)) (now (tally .exit)) (now (refs .entry)) (now (segments .exit))
+        ≡ placedOf s (now («path_nos» .entry)) (now (coords .entry)) (now (paths .entry)) (now (backdrops .entry)) (now (stored .entry)) (now (tally .entry)) (now (refs .entry)) (now (segments .entry)) ⌝ }
 {
     let summed = backdrop::backdrop_checked(paths, backdrops);
     if let Answer::Refused(why, item) = summed {
         return Framed::Refused(Stage::Backdrop, why, item, s);
     }
     let room = path_tiling::slots_of(segments.len());
-    let handed = hand_out::hand_out(tiles, tally, room);
+    let handed = hand_out::hand_out(stored, tally, room);
     if let Answer::Refused(why, item) = handed {
         return Framed::Refused(Stage::HandOut, why, item, s);
     }
@@ -58,7 +58,7 @@ fn place(
         path_nos,
         coords,
         paths,
-        tiles,
+        stored,
         refs,
         segments,
     );
@@ -74,20 +74,20 @@ pub(crate) fn draw(
     coords: &[f32],
     paths: &[u32],
     backdrops: &mut [i32],
-    tiles: &mut [u32],
+    stored: &mut [u32],
     tally: &mut [u32],
     refs: &mut [u32],
     segments: &mut [f32],
 ) -> Framed
-    requires { ⌜ (pathsAnswer (now paths) (length (now tiles)) ≡ Done) × (length (now backdrops) ≡ length (now tiles)) ⌝ }
-    ensures { λ r. ⌜ outOf r (now (backdrops .exit)) (now (tiles .exit)) (now (tally .exit)) (now (refs .exit)) (now (segments .exit))
-        ≡ drawnOf (now («path_nos» .entry)) (now (coords .entry)) (now (paths .entry)) (now (backdrops .entry)) (now (tiles .entry)) (now (tally .entry)) (now (refs .entry)) (now (segments .entry)) ⌝ }
+    requires { ⌜ (pathsAnswer (now paths) (length (now stored)) ≡ Done) × (length (now backdrops) ≡ length (now stored)) ⌝ }
+    ensures { λ r. ⌜ outOf r (now (backdrops .exit)) (now (stored .exit)) (now (tally .exit)) (now (refs .exit)) (now (segments .exit))
+        ≡ drawnOf (now («path_nos» .entry)) (now (coords .entry)) (now (paths .entry)) (now (backdrops .entry)) (now (stored .entry)) (now (tally .entry)) (now (refs .entry)) (now (segments .entry)) ⌝ }
 {
     clear_backdrops(backdrops);
-    clear_tiles(tiles);
+    clear_tiles(stored);
     let none = Running { lines: 0, refs: 0 };
     let end = end_of(path_nos.len());
-    match path_count::count_checked(none, end, path_nos, coords, paths, backdrops, tiles, refs) {
+    match path_count::count_checked(none, end, path_nos, coords, paths, backdrops, stored, refs) {
         Counted::Done(s) => {
             place(
                 s,
@@ -95,7 +95,7 @@ pub(crate) fn draw(
                 coords,
                 paths,
                 backdrops,
-                tiles,
+                stored,
                 tally,
                 refs,
                 segments,

@@ -49,7 +49,7 @@ pub extern "C" fn gp_frame(
     coords: &[f32],
     paths: &[u32],
     backdrops: &mut [i32],
-    tiles: &mut [u32],
+    stored: &mut [u32],
     tally: &mut [u32],
     refs: &mut [u32],
     segments: &mut [f32],
@@ -58,16 +58,16 @@ pub extern "C" fn gp_frame(
     lines: &mut u32,
     made: &mut u32,
 ) -> u32
-    ensures { λ r. ⌜ GpFrameMet (now («path_nos» .entry)) (now (coords .entry)) (now (paths .entry)) (now (backdrops .entry)) (now (tiles .entry)) (now (tally .entry)) (now (refs .entry)) (now (segments .entry))
+    ensures { λ r. ⌜ GpFrameMet (now («path_nos» .entry)) (now (coords .entry)) (now (paths .entry)) (now (backdrops .entry)) (now (stored .entry)) (now (tally .entry)) (now (refs .entry)) (now (segments .entry))
         r (now (stage .exit)) (now (item .exit)) (now (lines .exit)) (now (made .exit))
-        (now (backdrops .exit)) (now (tiles .exit)) (now (tally .exit)) (now (refs .exit)) (now (segments .exit)) ⌝ }
+        (now (backdrops .exit)) (now (stored .exit)) (now (tally .exit)) (now (refs .exit)) (now (segments .exit)) ⌝ }
 {
     let f = frame::frame(
         path_nos,
         coords,
         paths,
         backdrops,
-        tiles,
+        stored,
         tally,
         refs,
         segments,

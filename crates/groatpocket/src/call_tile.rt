@@ -9,17 +9,17 @@ pub extern "C" fn gp_tile(
     path_nos: &[u32],
     coords: &[f32],
     paths: &[u32],
-    indices: &[u32],
+    stored: &[u32],
     refs: &[u32],
     from: u32,
     to: u32,
     segments: &mut [f32],
     at: &mut u32,
 ) -> u32
-    ensures { λ r. ⌜ GpTileMet from to (lent (now («path_nos» .entry)) (now (coords .entry)) (now (paths .entry)) (now (indices .entry)) (now (refs .entry))) (now (segments .entry))
+    ensures { λ r. ⌜ GpTileMet from to (lent (now («path_nos» .entry)) (now (coords .entry)) (now (paths .entry)) (now (stored .entry)) (now (refs .entry))) (now (segments .entry))
         r (now (at .exit)) (now (segments .exit)) ⌝ }
 {
-    let r = path_tiling::tile(from, to, path_nos, coords, paths, indices, refs, segments);
+    let r = path_tiling::tile(from, to, path_nos, coords, paths, stored, refs, segments);
     *at = item(r);
     number(r)
 }

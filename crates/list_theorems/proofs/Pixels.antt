@@ -19,7 +19,7 @@ use Rattle.panel.proofs.BoolLaws.{both}
 use Rattle.panel.specs.Signed.{inI32}
 use Rattle.coverage.specs.Coverage.{pixelOf}
 use Rattle.colours.specs.Colour as Colour
-use Rattle.commands.specs.Steps.{countOf, Trace, endOf}
+use Rattle.commands.specs.Moves.{countOf, Trace, endOf}
 use Rattle.commands.specs.Pixel.{signedOf, evenOddOf, cover, paint, Point, point, pointOf}
 use Rattle.fine.specs.Screen.{clear}
 use Rattle.write_lists.specs.Pairs.{Tables, colourAt, ruleAt, inBox, covers, bitsOf, onTile, byPath, onPath, pairsOf, tilePairs, fillRule, coverOf, colourOf}

@@ -27,7 +27,7 @@ use Rattle.coverage.specs.Coverage.{areaAfter, finishOf, sumOf, pixelOf}
 use Rattle.colours.specs.Colour.{channelOf, colourOf, overOf, byteOf, packOf}
 use Rattle.commands.specs.Numbers.{endNo, tileWords}
 use Rattle.commands.specs.Pixel.{evenOddOf, cover, paint, pointOf}
-use Rattle.commands.specs.Steps.{Trace, ends, does, opOf, fillMove, wholeMove, moveOf, traceOf}
+use Rattle.commands.specs.Moves.{Trace, ends, does, opOf, fillMove, wholeMove, moveOf, traceOf}
 use Rattle.fine.specs.Screen.{clear, putTile, tileTrace, endsAt, colourAt as shownAt, tilePixels}
 use Rattle.fine.specs.Fine.{Shown, shown, tileStep, tilesOf, fineOf}
 use Rattle.write_lists.specs.Pairs.{Tables, tables, colourAt, ruleAt, inBox, covers, onTile, onPath, tilePairs}

@@ -10,7 +10,7 @@ use lib.Seq.{sets, length-sets}
 use Rattle.lists.specs.Cells.{getD-sets-before, getD-sets-after}
 use Rattle.lists.specs.Run.{All}
 use Rattle.commands.specs.Numbers.{encode, tileWords}
-use Rattle.commands.specs.Steps.{does, traceOf}
+use Rattle.commands.specs.Moves.{does, traceOf}
 use Rattle.commands.specs.declared.steps.Act.the-variants as Act
 use Rattle.commands.proofs.Encoded.{Stands, written-stands, act-goes, end-goes}
 use Rattle.write_lists.specs.Pairs.{coverOf, colourOf}

@@ -20,7 +20,7 @@ use Rattle.panel.proofs.CheckLaws.{none-fails}
 use Rattle.panel.proofs.KindLaws.{paper-once}
 use Rattle.coverage.specs.Tile.{tileWidth, tileHeight}
 use Rattle.commands.specs.Numbers.{tileWords, startOf}
-use Rattle.commands.specs.Steps.{Trace, endOf}
+use Rattle.commands.specs.Moves.{Trace, endOf}
 use Rattle.commands.specs.Pixel.{point, pointOf}
 use Rattle.fine.specs.Screen.{clear, tileTrace, colourAt}
 use Rattle.fine.specs.Fine.{fineChecks, tilesOf, shownOf, unlessNo, fineOf}

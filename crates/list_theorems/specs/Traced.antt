@@ -3,7 +3,7 @@ use mathlib.Core.Bool.{Bool, true, false}
 use mathlib.Core.List.{List, [], _∷_}
 use Prim.Native.Nat.{ℕ}
 use Rattle.panel.specs.declared.kinds.Verdict.the-variants.{Fine}
-use Rattle.commands.specs.Steps.{Trace, ends, does}
+use Rattle.commands.specs.Moves.{Trace, ends, does}
 use Rattle.commands.specs.declared.steps.Act.the-variants.{Color, Jump}
 use Rattle.write_lists.specs.Pairs.{coverOf, colourOf}
 use Rattle.write_lists.specs.Layout.{fits, leftAfter}

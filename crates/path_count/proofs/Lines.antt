@@ -22,10 +22,10 @@ use Rattle.panel.specs.declared.kinds.Verdict.{Verdict}
 use Rattle.panel.specs.declared.kinds.Verdict.the-variants.{Fine, Against}
 use Rattle.panel.proofs.PathLaws.{Fits, checked}
 use Rattle.walk.specs.Lent.{walkAt}
-use Rattle.walk.specs.declared.setup.Pace.{Pace}
-use Rattle.walk.specs.declared.setup.Walk.{Walk}
-use Rattle.walk.specs.declared.lent.Walked.{Walked}
-use Rattle.walk.specs.declared.lent.Walked.the-variants.{Refused as WalkRefused, Skipped, Line}
+use Rattle.walk.specs.declared.kinds.Pace.{Pace}
+use Rattle.walk.specs.declared.kinds.Walk.{Walk}
+use Rattle.walk.specs.declared.kinds.Walked.{Walked}
+use Rattle.walk.specs.declared.kinds.Walked.the-variants.{Refused as WalkRefused, Skipped, Line}
 use Rattle.walk.proofs.Boxes.{fits-boxed}
 use Rattle.walk.proofs.Walks.{StartsAt, line-starts, line-told}
 use Rattle.clip.specs.Page.{clippedOf}
@@ -41,7 +41,7 @@ use Rattle.path_count.specs.Notes.{OnTiles}
 use Rattle.path_count.specs.Count.{rowsBy, planBy, planOf, walkedStep, lineStep, lineRan, tallyRan, unwalkedOf, Lent, Walkable, Clipped}
 use Rattle.path_count.specs.declared.kinds.Tallied.{Tallied}
 use Rattle.path_count.specs.declared.kinds.Tallied.the-variants.{On, Against as TallyAgainst}
-use Rattle.path_count.proofs.Steps.{apart}
+use Rattle.path_count.proofs.StepLaws.{apart}
 
 -- ---- a walk that a line has
 

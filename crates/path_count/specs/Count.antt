@@ -19,10 +19,10 @@ use Rattle.panel.specs.declared.kinds.Answer.{Answer}
 use Rattle.panel.specs.declared.kinds.Answer.the-variants.{Done as AnswerDone, Refused as AnswerRefused}
 use Rattle.walk.specs.Page.{lineOf}
 use Rattle.walk.specs.Lent.{Reached, walkAt}
-use Rattle.walk.specs.declared.setup.Pace.{Pace}
-use Rattle.walk.specs.declared.setup.Walk.{Walk}
-use Rattle.walk.specs.declared.lent.Walked.{Walked}
-use Rattle.walk.specs.declared.lent.Walked.the-variants.{Refused as WalkRefused, Skipped, Line}
+use Rattle.walk.specs.declared.kinds.Pace.{Pace}
+use Rattle.walk.specs.declared.kinds.Walk.{Walk}
+use Rattle.walk.specs.declared.kinds.Walked.{Walked}
+use Rattle.walk.specs.declared.kinds.Walked.the-variants.{Refused as WalkRefused, Skipped, Line}
 use Rattle.clip.specs.Page.{clippedOf}
 use Rattle.clip.specs.declared.Clip.{Clip}
 use Rattle.util.specs.declared.Vec2.{Vec2}

@@ -14,7 +14,7 @@ use Rattle.panel.specs.declared.kinds.Verdict.{Verdict}
 use Rattle.panel.specs.declared.kinds.Verdict.the-variants.{Fine, Against}
 use Rattle.walk.specs.Num.{float}
 use Rattle.walk.specs.Step.{Boxed, zAt}
-use Rattle.walk.specs.declared.setup.Pace.{Pace}
+use Rattle.walk.specs.declared.kinds.Pace.{Pace}
 use Rattle.acts.specs.Acts.{Hit, on, off}
 use Rattle.path_count.specs.declared.kinds.Noted.{Noted}
 use Rattle.path_count.specs.declared.kinds.Noted.the-variants.{Passed as NotedPassed, Against as NotedAgainst}

@@ -2,7 +2,7 @@
 use Prim.Native.Nat.{ℕ}
 use Rattle.panel.specs.declared.kinds.Path.{Path}
 use Rattle.walk.specs.Step.{stepOf, lastZ, crossOf}
-use Rattle.walk.specs.declared.setup.Pace.{Pace}
+use Rattle.walk.specs.declared.kinds.Pace.{Pace}
 use Rattle.walk.specs.declared.step.Step.{Step}
 use Rattle.walk.specs.declared.step.Step.the-variants.{Tile, Refused}
 use Rattle.acts.specs.Acts.{Hit, on, off}

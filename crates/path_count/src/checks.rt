@@ -24,7 +24,7 @@ use panel::refusals::SUM_OVER;
 use walk::edges::Edges;
 use walk::edges::edges_of;
 use walk::edges::step_by;
-use walk::setup::Pace;
+use walk::kinds::Pace;
 use walk::step::Step;
 use walk::step::crosses;
 use walk::step::step_at;

@@ -35,10 +35,10 @@ use panel::refusals::COUNT_OVER;
 use panel::refusals::LINE_NUMBER;
 use panel::refusals::NO_ROOM;
 use panel::widths::REF_WORDS;
-use walk::found::walk_at;
-use walk::lent::Walked;
-use walk::setup::Pace;
-use walk::setup::Walk;
+use walk::kinds::Pace;
+use walk::kinds::Walk;
+use walk::kinds::Walked;
+use walk::setup::walk_at;
 
 // The rows that a line passes left of its path's box.
 fn rows_by(path: Path, clip: Clip) -> Rows

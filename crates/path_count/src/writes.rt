@@ -16,7 +16,7 @@ use acts::visit;
 use panel::kinds::LineNo;
 use panel::kinds::Path;
 use panel::kinds::TileNo;
-use walk::setup::Pace;
+use walk::kinds::Pace;
 use walk::step::Step;
 use walk::step::crosses;
 use walk::step::step_at;

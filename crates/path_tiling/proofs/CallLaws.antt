@@ -38,17 +38,17 @@ module _ (from to : ℕ) (L : Lent) (segs : List Float) where
   unfolding checksOf callOf
   not-whole e = rw e
 
-  pub bad-paths : (why item : ℕ) → Whole from to L segs ≡ true → pathsAnswer (L .paths) (length (L .indices)) ≡ Refused why item
+  pub bad-paths : (why item : ℕ) → Whole from to L segs ≡ true → pathsAnswer (L .paths) (length (L .stored)) ≡ Refused why item
       → tiled (Refused why item) segs ≡ tiledOf from to L segs
   unfolding checksOf callOf
   bad-paths why item e q = rw (e, q)
 
-  pub called : Whole from to L segs ≡ true → pathsAnswer (L .paths) (length (L .indices)) ≡ Done
+  pub called : Whole from to L segs ≡ true → pathsAnswer (L .paths) (length (L .stored)) ≡ Done
       → rangeTiled (rangeOf L (slotsOf (length segs)) (to - from) from) segs ≡ tiledOf from to L segs
   unfolding checksOf callOf
   called e q = rw (e, q)
 
-  pub ready : Whole from to L segs ≡ true → pathsAnswer (L .paths) (length (L .indices)) ≡ Done → Ready from to L
+  pub ready : Whole from to L segs ≡ true → pathsAnswer (L .paths) (length (L .stored)) ≡ Done → Ready from to L
   unfolding wholeOf
   ready e q =
       let t =

@@ -14,12 +14,12 @@ use Rattle.walk.specs.Num.{cutOf}
 use Rattle.walk.specs.Step.{Boxed, Within, tileIn, stepOf}
 use Rattle.walk.proofs.Walks.{StartsAt}
 use Rattle.walk.proofs.Boxes.{okOf, ok-told, told-within, tile-below}
-use Rattle.walk.specs.declared.setup.Pace.{Pace}
-use Rattle.walk.specs.declared.setup.Walk.{Walk}
+use Rattle.walk.specs.declared.kinds.Pace.{Pace}
+use Rattle.walk.specs.declared.kinds.Walk.{Walk}
 use Rattle.walk.specs.declared.step.Step.{Step}
 use Rattle.walk.specs.declared.step.Step.the-variants.{Tile, Refused}
-use Rattle.walk.specs.declared.lent.Walked.{Walked}
-use Rattle.walk.specs.declared.lent.Walked.the-variants.{Line}
+use Rattle.walk.specs.declared.kinds.Walked.{Walked}
+use Rattle.walk.specs.declared.kinds.Walked.the-variants.{Line}
 use Rattle.path_tiling.specs.Look.{StepFits, FoundFits}
 
 pub tile-fits : {n : ℕ} {s : Step} {t : TileNo} {x y : ℕ} {z : Float} → s ≡ Tile t x y z → StepFits n s → (t .0 < n) × (x ≤ edgeMost) × (y ≤ edgeMost)

@@ -12,11 +12,11 @@ use Rattle.panel.specs.Kinds.{slotNoOf}
 use Rattle.panel.specs.Refusals.{noRoom}
 use Rattle.panel.specs.declared.kinds.SlotNo.{SlotNo}
 use Rattle.walk.specs.Step.{stepOf}
-use Rattle.walk.specs.declared.setup.Walk.{Walk}
+use Rattle.walk.specs.declared.kinds.Walk.{Walk}
 use Rattle.walk.specs.declared.step.Step.{Step}
 use Rattle.walk.specs.declared.step.Step.the-variants as On
-use Rattle.walk.specs.declared.lent.Walked.{Walked}
-use Rattle.walk.specs.declared.lent.Walked.the-variants as Found
+use Rattle.walk.specs.declared.kinds.Walked.{Walked}
+use Rattle.walk.specs.declared.kinds.Walked.the-variants as Found
 use Rattle.segment.specs.Clips.{InTile, pieceOf}
 use Rattle.panel.specs.declared.segments.Segment.{Segment}
 use Rattle.segment.specs.declared.Piece.{Piece}

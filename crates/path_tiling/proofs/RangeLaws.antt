@@ -26,8 +26,8 @@ use Rattle.util.specs.declared.Vec2.{Vec2}
 use Rattle.walk.specs.Page.{lineOf}
 use Rattle.walk.specs.Lent as Lines
 use Rattle.walk.specs.Lent.{reachedOf, walkedOf, walkAt}
-use Rattle.walk.specs.declared.lent.Walked.{Walked}
-use Rattle.walk.specs.declared.lent.Walked.the-variants as Found
+use Rattle.walk.specs.declared.kinds.Walked.{Walked}
+use Rattle.walk.specs.declared.kinds.Walked.the-variants as Found
 use Rattle.walk.proofs.Boxes.{fits-boxed}
 use Rattle.walk.proofs.Lines.{skipped}
 use Rattle.walk.proofs.Walks.{line-starts}
@@ -65,7 +65,7 @@ found-fits ns cs ps n l e =
 -- ---- a reference
 
 pub look-is : (L : Lent) (slots k : ℕ)
-    → lookOf L slots k ≡ foundTo (L .indices) slots (packedAt (L .refs) k) (foundOf (L .pathNos) (L .coords) (L .paths) (lineAt (L .refs) k))
+    → lookOf L slots k ≡ foundTo (L .stored) slots (packedAt (L .refs) k) (foundOf (L .pathNos) (L .coords) (L .paths) (lineAt (L .refs) k))
 unfolding lookOf
 look-is L slots k = refl
 

@@ -20,7 +20,7 @@ use Rattle.panel.specs.declared.kinds.Answer.{Answer}
 use Rattle.panel.specs.declared.kinds.Answer.the-variants.{Done, Refused}
 use Rattle.panel.specs.declared.kinds.Verdict.{Verdict}
 use Rattle.panel.specs.declared.kinds.Verdict.the-variants as Verdict
-use Rattle.walk.specs.declared.lent.Walked.{Walked}
+use Rattle.walk.specs.declared.kinds.Walked.{Walked}
 use Rattle.path_tiling.specs.Look.{Lent, lineAt, packedAt, foundOf, foundTo, lookOf}
 use Rattle.panel.specs.Segments.{putOf, floatsOf}
 use Rattle.path_tiling.specs.Tiling.{Range, range, lookThen, rangeOf, One, one, oneOf, Tiled, tiled, rangeTiled, slotsOf}
@@ -52,17 +52,17 @@ against-on k (Against why′) rest why segs segs′ e =
     rw (w, s)
 
 -- ---- the loop over a run
-module _ (indices : List ℕ) (slots : ℕ) (refs : List ℕ) (found : Walked) (line : ℕ) where
+module _ (stored : List ℕ) (slots : ℕ) (refs : List ℕ) (found : Walked) (line : ℕ) where
   left-of : ℕ → ℕ → List Float → Run
-  left-of to k segs = runOf indices slots refs found line (to - k) k segs
+  left-of to k segs = runOf stored slots refs found line (to - k) k segs
 
   run-suc : (n k : ℕ) (segs : List Float)
-      → runOf indices slots refs found line (suc n) k segs
-      ≡ cond (eqb (lineAt refs k) line) (lookOn k (foundTo indices slots (packedAt refs k) found) (runOf indices slots refs found line n (suc k)) segs) (run Done k segs)
+      → runOf stored slots refs found line (suc n) k segs
+      ≡ cond (eqb (lineAt refs k) line) (lookOn k (foundTo stored slots (packedAt refs k) found) (runOf stored slots refs found line n (suc k)) segs) (run Done k segs)
   unfolding runOf
   run-suc n k segs = refl
 
-  run-none : (k : ℕ) (segs : List Float) → runOf indices slots refs found line 0 k segs ≡ run Done k segs
+  run-none : (k : ℕ) (segs : List Float) → runOf stored slots refs found line 0 k segs ≡ run Done k segs
   unfolding runOf
   run-none k segs = refl
 
@@ -71,44 +71,44 @@ module _ (indices : List ℕ) (slots : ℕ) (refs : List ℕ) (found : Walked) (
     pub low : from ≤ k
     pub high : k ≤ to
     pub long : length segs ≡ length segs₀
-    pub left : runOf indices slots refs found line (to - k) k segs ≡ runOf indices slots refs found line (to - from) from segs₀
+    pub left : runOf stored slots refs found line (to - k) k segs ≡ runOf stored slots refs found line (to - from) from segs₀
 
   module _ (from to : ℕ) (segs₀ segs : List Float) (k : ℕ) (g : Running from to segs₀ segs k) where
-    pub other : k < to → eqb (lineAt refs k) line ≡ false → run Done k segs ≡ runOf indices slots refs found line (to - from) from segs₀
+    pub other : k < to → eqb (lineAt refs k) line ≡ false → run Done k segs ≡ runOf stored slots refs found line (to - from) from segs₀
     other h e =
         let one-more : to - k ≡ suc (to - suc k) = omega arith in
-        let here : runOf indices slots refs found line (to - k) k segs ≡ run Done k segs = rw (one-more, run-suc (to - suc k) k segs, e) refl in
+        let here : runOf stored slots refs found line (to - k) k segs ≡ run Done k segs = rw (one-more, run-suc (to - suc k) k segs, e) refl in
         sym here ∙ g .left
 
     pub stopped : (v : Verdict) (segs′ : List Float) (why : ℕ) → k < to → eqb (lineAt refs k) line ≡ true
-        → one v segs′ ≡ oneOf (foundTo indices slots (packedAt refs k) found) segs → v ≡ Verdict.Against why
-        → run (Refused why k) k segs′ ≡ runOf indices slots refs found line (to - from) from segs₀
+        → one v segs′ ≡ oneOf (foundTo stored slots (packedAt refs k) found) segs → v ≡ Verdict.Against why
+        → run (Refused why k) k segs′ ≡ runOf stored slots refs found line (to - from) from segs₀
     stopped v segs′ why h e o q =
         let one-more : to - k ≡ suc (to - suc k) = omega arith in
-        let here : runOf indices slots refs found line (to - k) k segs ≡ run (Refused why k) k segs′ =
+        let here : runOf stored slots refs found line (to - k) k segs ≡ run (Refused why k) k segs′ =
         rw (one-more, run-suc (to - suc k) k segs, e)
-        (against-on k (foundTo indices slots (packedAt refs k) found) (runOf indices slots refs found line (to - suc k) (suc k)) why segs segs′ (rw q at o)) in
+        (against-on k (foundTo stored slots (packedAt refs k) found) (runOf stored slots refs found line (to - suc k) (suc k)) why segs segs′ (rw q at o)) in
         sym here ∙ g .left
 
     pub turned : (v : Verdict) (segs′ : List Float) → k < to → eqb (lineAt refs k) line ≡ true
-        → one v segs′ ≡ oneOf (foundTo indices slots (packedAt refs k) found) segs → v ≡ Verdict.Fine
+        → one v segs′ ≡ oneOf (foundTo stored slots (packedAt refs k) found) segs → v ≡ Verdict.Fine
         → Running from to segs₀ segs′ (k + 1)
     turned v segs′ h e o q =
         let one-more : to - k ≡ suc (to - suc k) = omega arith in
-        let here : runOf indices slots refs found line (to - k) k segs ≡ runOf indices slots refs found line (to - (k + 1)) (k + 1) segs′ =
+        let here : runOf stored slots refs found line (to - k) k segs ≡ runOf stored slots refs found line (to - (k + 1)) (k + 1) segs′ =
         rw (one-more, add-one, run-suc (to - suc k) k segs, e)
-        (fine-on k (foundTo indices slots (packedAt refs k) found) (runOf indices slots refs found line (to - suc k) (suc k)) segs segs′ (rw q at o)) in
+        (fine-on k (foundTo stored slots (packedAt refs k) found) (runOf stored slots refs found line (to - suc k) (suc k)) segs segs′ (rw q at o)) in
         record {
           low = omega (arith, g .low);
           high = omega arith;
-          long = one-length (foundTo indices slots (packedAt refs k) found) v segs segs′ o ∙ g .long;
+          long = one-length (foundTo stored slots (packedAt refs k) found) v segs segs′ o ∙ g .long;
           left = sym here ∙ g .left;
         }
 
-    pub over : to ≤ k → run Done k segs ≡ runOf indices slots refs found line (to - from) from segs₀
+    pub over : to ≤ k → run Done k segs ≡ runOf stored slots refs found line (to - from) from segs₀
     over h =
         let none-left : to - k ≡ 0 = omega arith in
-        let here : runOf indices slots refs found line (to - k) k segs ≡ run Done k segs = rw (none-left, run-none k segs) refl in
+        let here : runOf stored slots refs found line (to - k) k segs ≡ run Done k segs = rw (none-left, run-none k segs) refl in
         sym here ∙ g .left
 
   -- how far a run goes, and that it leaves as many segments
@@ -127,25 +127,25 @@ module _ (indices : List ℕ) (slots : ℕ) (refs : List ℕ) (found : Walked) (
       record { low = omega (arith, g .low); high = omega (arith, g .high); long = g .long }
   look-long k (Against why) rest n segs h = record { low = le-refl _; high = omega arith; long = refl }
 
-  pub run-goes : (n k : ℕ) (segs : List Float) → Goes k n segs (runOf indices slots refs found line n k segs)
+  pub run-goes : (n k : ℕ) (segs : List Float) → Goes k n segs (runOf stored slots refs found line n k segs)
   unfolding runOf
   run-goes zero k segs = record { low = le-refl _; high = omega arith; long = refl }
   run-goes (suc n) k segs = go (λ s. run-goes n (suc k) s) (eqb (lineAt refs k) line)
     where
-      go : ((s : List Float) → Goes (suc k) n s (runOf indices slots refs found line n (suc k) s)) → (t : Bool)
-          → Goes k (suc n) segs (cond t (lookOn k (foundTo indices slots (packedAt refs k) found) (runOf indices slots refs found line n (suc k)) segs) (run Done k segs))
-      go h true = look-long k (foundTo indices slots (packedAt refs k) found) (runOf indices slots refs found line n (suc k)) n segs h
+      go : ((s : List Float) → Goes (suc k) n s (runOf stored slots refs found line n (suc k) s)) → (t : Bool)
+          → Goes k (suc n) segs (cond t (lookOn k (foundTo stored slots (packedAt refs k) found) (runOf stored slots refs found line n (suc k)) segs) (run Done k segs))
+      go h true = look-long k (foundTo stored slots (packedAt refs k) found) (runOf stored slots refs found line n (suc k)) n segs h
       go h false = record { low = le-refl _; high = omega arith; long = refl }
 
   -- a run whose first reference names the line, and which is not refused, has it
   pub run-some : (n k : ℕ) (segs : List Float) → eqb (lineAt refs k) line ≡ true → 0 < n
-      → runOf indices slots refs found line n k segs .answer ≡ Done → k < runOf indices slots refs found line n k segs .next
+      → runOf stored slots refs found line n k segs .answer ≡ Done → k < runOf stored slots refs found line n k segs .next
   unfolding runOf
   run-some zero k segs e h a = absurd (omega arith)
-  run-some (suc n) k segs e h a = rw e (go (foundTo indices slots (packedAt refs k) found) (rw e at a))
+  run-some (suc n) k segs e h a = rw e (go (foundTo stored slots (packedAt refs k) found) (rw e at a))
     where
-      go : (l : Look) → lookOn k l (runOf indices slots refs found line n (suc k)) segs .answer ≡ Done
-          → k < lookOn k l (runOf indices slots refs found line n (suc k)) segs .next
+      go : (l : Look) → lookOn k l (runOf stored slots refs found line n (suc k)) segs .answer ≡ Done
+          → k < lookOn k l (runOf stored slots refs found line n (suc k)) segs .next
       go (Put slot s) a = omega (arith, run-goes n (suc k) (putOf (slot .0) s segs) .low)
       go Empty a = omega (arith, run-goes n (suc k) segs .low)
       go (Against why) a = let z : _≡_ {A = ℕ} 0 1 = cc in absurd (omega arith)
@@ -170,23 +170,23 @@ module _ (L : Lent) (slots line : ℕ) where
 
   pub run-range : (n k : ℕ) (segs : List Float)
       → rangeTiled (rangeOf L slots n k) segs
-      ≡ after L slots (k + n) (runOf (L .indices) slots (L .refs) (foundOf (L .pathNos) (L .coords) (L .paths) line) line n k segs)
+      ≡ after L slots (k + n) (runOf (L .stored) slots (L .refs) (foundOf (L .pathNos) (L .coords) (L .paths) line) line n k segs)
   unfolding rangeOf runOf
   run-range zero k segs = let none : k + 0 - k ≡ 0 = omega arith in rw none refl
   run-range (suc n) k segs = go (λ s. run-range n (suc k) s) (eqb (lineAt (L .refs) k) line) refl
     where
       rest : List Float → Run
-      rest = runOf (L .indices) slots (L .refs) (foundOf (L .pathNos) (L .coords) (L .paths) line) line n (suc k)
+      rest = runOf (L .stored) slots (L .refs) (foundOf (L .pathNos) (L .coords) (L .paths) line) line n (suc k)
 
       go : ((s : List Float) → rangeTiled (rangeOf L slots n (suc k)) s ≡ after L slots (suc k + n) (rest s)) → (t : Bool) → eqb (lineAt (L .refs) k) line ≡ t
           → rangeTiled (lookThen L k (lookOf L slots k) (rangeOf L slots n (suc k))) segs
           ≡ after L slots (k + suc n)
-          (cond t (lookOn k (foundTo (L .indices) slots (packedAt (L .refs) k) (foundOf (L .pathNos) (L .coords) (L .paths) line)) rest segs) (run Done k segs))
+          (cond t (lookOn k (foundTo (L .stored) slots (packedAt (L .refs) k) (foundOf (L .pathNos) (L .coords) (L .paths) line)) rest segs) (run Done k segs))
       go h true e =
           let same : suc k + n ≡ k + suc n = omega arith in
           let named : lineAt (L .refs) k ≡ line = eqb-true _ _ e in
           rw (look-is L slots k, named)
-          (look-after (k + suc n) k (foundTo (L .indices) slots (packedAt (L .refs) k) (foundOf (L .pathNos) (L .coords) (L .paths) line)) (rangeOf L slots n (suc k)) rest segs (λ s. rw same at (h s)))
+          (look-after (k + suc n) k (foundTo (L .stored) slots (packedAt (L .refs) k) (foundOf (L .pathNos) (L .coords) (L .paths) line)) (rangeOf L slots n (suc k)) rest segs (λ s. rw same at (h s)))
       go h false e = let left : k + suc n - k ≡ suc n = omega arith in rw left refl
 
 -- what holds at each turn of the loop over the runs of a range
@@ -199,7 +199,7 @@ pub record Going (from to : ℕ) (L : Lent) (slots : ℕ) (segs₀ segs : List F
 -- the run from reference k on, whose line was found
 module _ (from to : ℕ) (L : Lent) (slots : ℕ) (segs₀ segs : List Float) (k : ℕ) (g : Going from to L slots segs₀ segs k) where
   abbrev runAt : Run
-  runAt = runOf (L .indices) slots (L .refs) (foundOf (L .pathNos) (L .coords) (L .paths) (lineAt (L .refs) k)) (lineAt (L .refs) k) (to - k) k segs
+  runAt = runOf (L .stored) slots (L .refs) (foundOf (L .pathNos) (L .coords) (L .paths) (lineAt (L .refs) k)) (lineAt (L .refs) k) (to - k) k segs
 
   whole : slots ≡ slotsOf (length segs₀)
       → rangeTiled (rangeOf L slots (to - from) from) segs₀ ≡ rangeTiled (rangeOf L (slotsOf (length segs₀)) (to - from) from) segs₀
@@ -216,7 +216,7 @@ module _ (from to : ℕ) (L : Lent) (slots : ℕ) (segs₀ segs : List Float) (k
 
   pub on : (r : Run) → k < to → r ≡ runAt → r .answer ≡ Done → Going from to L slots segs₀ (r .segments) (r .next)
   on r h e a =
-      let far = run-goes (L .indices) slots (L .refs) (foundOf (L .pathNos) (L .coords) (L .paths) (lineAt (L .refs) k)) (lineAt (L .refs) k) (to - k) k segs in
+      let far = run-goes (L .stored) slots (L .refs) (foundOf (L .pathNos) (L .coords) (L .paths) (lineAt (L .refs) k)) (lineAt (L .refs) k) (to - k) k segs in
       let next : r .next ≡ runAt .next = ap (λ (x : Run). x .next) e in
       let here : after L slots to r ≡ rangeTiled (rangeOf L slots (to - r .next) (r .next)) (r .segments) = ap (λ (x : Answer). afterBy L slots to x (r .next) (r .segments)) a in
       record {
@@ -231,7 +231,7 @@ module _ (from to : ℕ) (L : Lent) (slots : ℕ) (segs₀ segs : List Float) (k
   less r h e a =
       let next : r .next ≡ runAt .next = ap (λ (x : Run). x .next) e in
       let some =
-      run-some (L .indices) slots (L .refs) (foundOf (L .pathNos) (L .coords) (L .paths) (lineAt (L .refs) k)) (lineAt (L .refs) k) (to - k) k segs
+      run-some (L .stored) slots (L .refs) (foundOf (L .pathNos) (L .coords) (L .paths) (lineAt (L .refs) k)) (lineAt (L .refs) k) (to - k) k segs
       (eq-eqb (lineAt (L .refs) k) (lineAt (L .refs) k) refl)
       (omega arith)
       (sym (ap (λ (x : Run). x .answer) e) ∙ a) in

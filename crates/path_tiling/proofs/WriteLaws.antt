@@ -50,7 +50,7 @@ module _ (L : Lent) (slots : ℕ) where
       go (Against why) e h = tt
 
   made-good : (n k : ℕ) (w : Write) → Made L slots n k w → Good slots (w .slot) (w .segment)
-  made-good n k w m = put-good (L .indices) slots (packedAt (L .refs) (w .ref)) _ (sym (look-is L slots (w .ref)) ∙ m .looked)
+  made-good n k w m = put-good (L .stored) slots (packedAt (L .refs) (w .ref)) _ (sym (look-is L slots (w .ref)) ∙ m .looked)
 
   pub range-good : (n k : ℕ) → All (λ w. Good slots (w .slot) (w .segment)) (rangeOf L slots n k .writes)
   range-good n k = all-more (made-good n k) (rangeOf L slots n k .writes) (range-made n k)

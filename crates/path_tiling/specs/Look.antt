@@ -14,11 +14,11 @@ use Rattle.panel.specs.Slots.{skips, slotOf}
 use Rattle.exact.specs.Reach.{Starts}
 use Rattle.walk.specs.Step.{Boxed, stepOf}
 use Rattle.walk.specs.Lent.{walkAt}
-use Rattle.walk.specs.declared.setup.Walk.{Walk}
+use Rattle.walk.specs.declared.kinds.Walk.{Walk}
 use Rattle.walk.specs.declared.step.Step as Step
 use Rattle.walk.specs.declared.step.Step.the-variants as On
-use Rattle.walk.specs.declared.lent.Walked as Walked
-use Rattle.walk.specs.declared.lent.Walked.the-variants as Found
+use Rattle.walk.specs.declared.kinds.Walked as Walked
+use Rattle.walk.specs.declared.kinds.Walked.the-variants as Found
 use Rattle.segment.specs.Clips.{pieceOf}
 use Rattle.segment.specs.declared.Piece.{Piece}
 use Rattle.segment.specs.declared.Piece.the-variants.{Kept, Crooked}
@@ -30,11 +30,11 @@ pub record Lent : Type 0 where
   pub pathNos : List ℕ
   pub coords : List Float
   pub paths : List ℕ
-  pub indices : List ℕ
+  pub stored : List ℕ
   pub refs : List ℕ
 
 abbrev pub lent : List ℕ → List Float → List ℕ → List ℕ → List ℕ → Lent
-lent ns cs ps xs rs = record { pathNos = ns; coords = cs; paths = ps; indices = xs; refs = rs }
+lent ns cs ps xs rs = record { pathNos = ns; coords = cs; paths = ps; stored = xs; refs = rs }
 
 -- reference k: its line, and its second word, slice number times `stepRange` plus step number
 abbrev pub lineAt : List ℕ → ℕ → ℕ
@@ -66,8 +66,8 @@ wordTo slots word slice piece =
 
 -- step i, which must lie in its path's box
 unfoldable pub stepTo : List ℕ → ℕ → Walk → ℕ → ℕ → Step.Step → Look
-stepTo indices slots w i slice (On.Tile t x y z) = wordTo slots (getD indices (t .0) 0) slice (pieceOf w i z x y)
-stepTo indices slots w i slice On.Refused = Against outside
+stepTo stored slots w i slice (On.Tile t x y z) = wordTo slots (getD stored (t .0) 0) slice (pieceOf w i z x y)
+stepTo stored slots w i slice On.Refused = Against outside
 
 -- what a step's tile is known to be: one of n tiles, in a box within the limits
 abbrev pub StepFits : ℕ → Step.Step → Type 0
@@ -76,10 +76,10 @@ StepFits n On.Refused = Unit {0}
 
 -- a line that was found
 unfoldable pub foundTo : List ℕ → ℕ → ℕ → Walked.Walked → Look
-foundTo indices slots packed (Found.Line w p) =
-    stepTo indices slots w (stepNo packed) (sliceNo packed) (stepOf (w .pace) p (stepNo packed))
-foundTo indices slots packed Found.Skipped = Against noSuch
-foundTo indices slots packed (Found.Refused why) = Against why
+foundTo stored slots packed (Found.Line w p) =
+    stepTo stored slots w (stepNo packed) (sliceNo packed) (stepOf (w .pace) p (stepNo packed))
+foundTo stored slots packed Found.Skipped = Against noSuch
+foundTo stored slots packed (Found.Refused why) = Against why
 
 -- what a line that was found is known of: its path's box is within the limits, its tiles are among n, and it was checked
 abbrev pub FoundFits : ℕ → Walked.Walked → Type 0
@@ -89,4 +89,4 @@ FoundFits n (Found.Refused why) = Unit {0}
 
 -- reference k
 unfoldable pub lookOf : Lent → ℕ → ℕ → Look
-lookOf L slots k = foundTo (L .indices) slots (packedAt (L .refs) k) (foundOf (L .pathNos) (L .coords) (L .paths) (lineAt (L .refs) k))
+lookOf L slots k = foundTo (L .stored) slots (packedAt (L .refs) k) (foundOf (L .pathNos) (L .coords) (L .paths) (lineAt (L .refs) k))

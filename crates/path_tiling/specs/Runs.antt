@@ -7,7 +7,7 @@ use lib.Dec.{eqb}
 use lib.Ieee.{Float}
 use Rattle.panel.specs.declared.kinds.Answer.{Answer}
 use Rattle.panel.specs.declared.kinds.Answer.the-variants.{Done, Refused}
-use Rattle.walk.specs.declared.lent.Walked.{Walked}
+use Rattle.walk.specs.declared.kinds.Walked.{Walked}
 use Rattle.path_tiling.specs.Look.{lineAt, packedAt, foundTo}
 use Rattle.panel.specs.Segments.{putOf}
 use Rattle.path_tiling.specs.declared.Ran.{Ran}
@@ -33,9 +33,9 @@ lookOn k Empty rest segs = rest segs
 lookOn k (Against why) rest segs = run (Refused why k) k segs
 
 -- n references from reference k on, up to the first that names another line
-unfoldable pub runOf : (indices : List ℕ) (slots : ℕ) (refs : List ℕ) → Walked → (line n k : ℕ) → List Float → Run
-runOf indices slots refs found line zero k segs = run Done k segs
-runOf indices slots refs found line (suc n) k segs =
+unfoldable pub runOf : (stored : List ℕ) (slots : ℕ) (refs : List ℕ) → Walked → (line n k : ℕ) → List Float → Run
+runOf stored slots refs found line zero k segs = run Done k segs
+runOf stored slots refs found line (suc n) k segs =
     cond (eqb (lineAt refs k) line)
-    (lookOn k (foundTo indices slots (packedAt refs k) found) (runOf indices slots refs found line n (suc k)) segs)
+    (lookOn k (foundTo stored slots (packedAt refs k) found) (runOf stored slots refs found line n (suc k)) segs)
     (run Done k segs)

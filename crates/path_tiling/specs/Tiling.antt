@@ -90,7 +90,7 @@ wholeOf from to lines coords paths refs segs =
 unfoldable pub checksOf : ℕ → ℕ → Lent → List Float → Answer
 checksOf from to L segs =
     cond (wholeOf from to (length (L .pathNos)) (length (L .coords)) (length (L .paths)) (length (L .refs)) (length segs))
-    (pathsAnswer (L .paths) (length (L .indices)))
+    (pathsAnswer (L .paths) (length (L .stored)))
     (Refused notWhole 0)
 
 -- what is known of the lent once it is checked
@@ -98,7 +98,7 @@ pub record Ready (from to : ℕ) (L : Lent) : Type 0 where
   pub forward : from ≤ to
   pub there : to ≤ length (L .refs) / refWords
   pub lines : length (L .pathNos) * lineFloats ≤ length (L .coords)
-  pub paths : pathsAnswer (L .paths) (length (L .indices)) ≡ Done
+  pub paths : pathsAnswer (L .paths) (length (L .stored)) ≡ Done
 
 -- where that refuses, nothing is written
 abbrev pub checkedThen : Answer → Range → Range

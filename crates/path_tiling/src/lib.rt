@@ -22,20 +22,14 @@ use panel::widths::LINE_FLOATS;
 use panel::widths::PATH_WORDS;
 use panel::widths::REF_WORDS;
 use panel::widths::SEGMENT_FLOATS;
-use walk::lent::Walked;
+use walk::kinds::Walked;
 
 // One reference, whose line is as the walk found it.
-fn tile_one(
-    found: Walked,
-    packed: u32,
-    indices: &[u32],
-    slots: u32,
-    segments: &mut [f32],
-) -> Verdict
-    requires { ⌜ FoundFits (length (now indices)) found × (slots * segmentFloats ≤ length (now segments)) ⌝ }
-    ensures { λ r. ⌜ one r (now (segments .exit)) ≡ oneOf (foundTo (now (indices .entry)) slots packed found) (now (segments .entry)) ⌝ }
+fn tile_one(found: Walked, packed: u32, stored: &[u32], slots: u32, segments: &mut [f32]) -> Verdict
+    requires { ⌜ FoundFits (length (now stored)) found × (slots * segmentFloats ≤ length (now segments)) ⌝ }
+    ensures { λ r. ⌜ one r (now (segments .exit)) ≡ oneOf (foundTo (now (stored .entry)) slots packed found) (now (segments .entry)) ⌝ }
 {
-    match look::look_at(found, packed, indices, slots) {
+    match look::look_at(found, packed, stored, slots) {
         Look::Put(slot, s) => {
             put(segments, slot, s);
             Verdict::Fine
@@ -70,13 +64,13 @@ fn tile_run(
     line: LineNo,
     from: u32,
     to: u32,
-    indices: &[u32],
+    stored: &[u32],
     refs: &[u32],
     slots: u32,
     segments: &mut [f32],
 ) -> Ran
-    requires { ⌜ FoundFits (length (now indices)) found × (slots * segmentFloats ≤ length (now segments)) × (from ≤ to) × (to ≤ length (now refs) / refWords) ⌝ }
-    ensures { λ r. ⌜ ranOf r (now (segments .exit)) ≡ runOf (now (indices .entry)) slots (now (refs .entry)) found (line .0) (to - from) from (now (segments .entry)) ⌝ }
+    requires { ⌜ FoundFits (length (now stored)) found × (slots * segmentFloats ≤ length (now segments)) × (from ≤ to) × (to ≤ length (now refs) / refWords) ⌝ }
+    ensures { λ r. ⌜ ranOf r (now (segments .exit)) ≡ runOf (now (stored .entry)) slots (now (refs .entry)) found (line .0) (to - from) from (now (segments .entry)) ⌝ }
 {
     let mut k = from;
     while k < to {
@@ -87,7 +81,7 @@ fn tile_run(
             return Ran { answer, next: k };
         }
         let packed = refs[at + 1];
-        let v = tile_one(found, packed, indices, slots, segments);
+        let v = tile_one(found, packed, stored, slots, segments);
         if let Verdict::Against(why) = v {
             let answer = Answer::Refused(why, k);
             return Ran { answer, next: k };
@@ -105,12 +99,12 @@ fn tile_range(
     path_nos: &[u32],
     coords: &[f32],
     paths: &[u32],
-    indices: &[u32],
+    stored: &[u32],
     refs: &[u32],
     segments: &mut [f32],
 ) -> Answer
-    requires { ⌜ Ready from to (lent (now «path_nos») (now coords) (now paths) (now indices) (now refs)) ⌝ }
-    ensures { λ r. ⌜ tiled r (now (segments .exit)) ≡ rangeTiled (rangeOf (lent (now («path_nos» .entry)) (now (coords .entry)) (now (paths .entry)) (now (indices .entry)) (now (refs .entry))) (slotsOf (length (now (segments .entry)))) (to - from) from) (now (segments .entry)) ⌝ }
+    requires { ⌜ Ready from to (lent (now «path_nos») (now coords) (now paths) (now stored) (now refs)) ⌝ }
+    ensures { λ r. ⌜ tiled r (now (segments .exit)) ≡ rangeTiled (rangeOf (lent (now («path_nos» .entry)) (now (coords .entry)) (now (paths .entry)) (now (stored .entry)) (now (refs .entry))) (slotsOf (length (now (segments .entry)))) (to - from) from) (now (segments .entry)) ⌝ }
 {
     let slots = slots_of(segments.len());
     let mut k = from;
@@ -119,7 +113,7 @@ fn tile_range(
         let named = refs[at];
         let line = LineNo(named);
         let found = look::found_at(path_nos, coords, paths, line);
-        let ran = tile_run(found, line, k, to, indices, refs, slots, segments);
+        let ran = tile_run(found, line, k, to, stored, refs, slots, segments);
         let answer = ran.answer;
         if let Answer::Refused(why, item) = answer {
             return Answer::Refused(why, item);
@@ -157,12 +151,12 @@ pub fn tile_checked(
     path_nos: &[u32],
     coords: &[f32],
     paths: &[u32],
-    indices: &[u32],
+    stored: &[u32],
     refs: &[u32],
     segments: &mut [f32],
 ) -> Answer
-    requires { ⌜ pathsAnswer (now paths) (length (now indices)) ≡ Done ⌝ }
-    ensures { λ r. ⌜ TileMet from to (lent (now («path_nos» .entry)) (now (coords .entry)) (now (paths .entry)) (now (indices .entry)) (now (refs .entry))) (now (segments .entry)) r (now (segments .exit)) ⌝ }
+    requires { ⌜ pathsAnswer (now paths) (length (now stored)) ≡ Done ⌝ }
+    ensures { λ r. ⌜ TileMet from to (lent (now («path_nos» .entry)) (now (coords .entry)) (now (paths .entry)) (now (stored .entry)) (now (refs .entry))) (now (segments .entry)) r (now (segments .exit)) ⌝ }
 {
     if !whole(
         from,
@@ -175,7 +169,7 @@ pub fn tile_checked(
     ) {
         return Answer::Refused(NOT_WHOLE, 0);
     }
-    tile_range(from, to, path_nos, coords, paths, indices, refs, segments)
+    tile_range(from, to, path_nos, coords, paths, stored, refs, segments)
 }
 
 // A segment for each of the references from `from` up to `to`. It stops before the first refused,
@@ -187,11 +181,11 @@ pub fn tile(
     path_nos: &[u32],
     coords: &[f32],
     paths: &[u32],
-    indices: &[u32],
+    stored: &[u32],
     refs: &[u32],
     segments: &mut [f32],
 ) -> Answer
-    ensures { λ r. ⌜ TileMet from to (lent (now («path_nos» .entry)) (now (coords .entry)) (now (paths .entry)) (now (indices .entry)) (now (refs .entry))) (now (segments .entry)) r (now (segments .exit)) ⌝ }
+    ensures { λ r. ⌜ TileMet from to (lent (now («path_nos» .entry)) (now (coords .entry)) (now (paths .entry)) (now (stored .entry)) (now (refs .entry))) (now (segments .entry)) r (now (segments .exit)) ⌝ }
 {
     if !whole(
         from,
@@ -204,9 +198,9 @@ pub fn tile(
     ) {
         return Answer::Refused(NOT_WHOLE, 0);
     }
-    let checked = panel::checks::check_paths(paths, indices.len());
+    let checked = panel::checks::check_paths(paths, stored.len());
     if let Answer::Refused(why, item) = checked {
         return Answer::Refused(why, item);
     }
-    tile_checked(from, to, path_nos, coords, paths, indices, refs, segments)
+    tile_checked(from, to, path_nos, coords, paths, stored, refs, segments)
 }

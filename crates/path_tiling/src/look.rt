@@ -22,8 +22,8 @@ use panel::widths::STEP_RANGE;
 use segment::Piece;
 use walk::edges::edges_of;
 use walk::edges::step_by;
-use walk::lent::Walked;
-use walk::setup::Walk;
+use walk::kinds::Walk;
+use walk::kinds::Walked;
 use walk::step::Step;
 
 // A tile's word below this was handed no slot: its NOT is negative as an i32.
@@ -62,29 +62,29 @@ fn look_word(w: Walk, i: u32, z: f32, x: u32, y: u32, word: u32, slice: u32, slo
 }
 
 // Step i of a line that is walked: its tile must be in the box (10).
-fn look_step(w: Walk, step: Step, i: u32, slice: u32, indices: &[u32], slots: u32) -> Look
-    requires { ⌜ (i < stepRange) × (slice < 2 ^ 31) × StepFits (length (now indices)) step ⌝ }
-    ensures { λ r. ⌜ r ≡ stepTo (now (indices .entry)) slots w i slice step ⌝ }
+fn look_step(w: Walk, step: Step, i: u32, slice: u32, stored: &[u32], slots: u32) -> Look
+    requires { ⌜ (i < stepRange) × (slice < 2 ^ 31) × StepFits (length (now stored)) step ⌝ }
+    ensures { λ r. ⌜ r ≡ stepTo (now (stored .entry)) slots w i slice step ⌝ }
 {
     let Step::Tile(tile, x, y, z) = step else {
         return Look::Against(OUTSIDE);
     };
-    look_word(w, i, z, x, y, indices[tile.0 as usize], slice, slots)
+    look_word(w, i, z, x, y, stored[tile.0 as usize], slice, slots)
 }
 
 // Step i of a line and its slice number.
-fn look_line(w: Walk, p: Path, i: u32, slice: u32, indices: &[u32], slots: u32) -> Look
-    requires { ⌜ (i < stepRange) × (slice < 2 ^ 31) × Boxed p × (endOf p ≤ length (now indices)) × Starts (w .pace .sign) (w .pace .x0) (w .pace .y0) ⌝ }
-    ensures { λ r. ⌜ r ≡ stepTo (now (indices .entry)) slots w i slice (stepOf (w .pace) p i) ⌝ }
+fn look_line(w: Walk, p: Path, i: u32, slice: u32, stored: &[u32], slots: u32) -> Look
+    requires { ⌜ (i < stepRange) × (slice < 2 ^ 31) × Boxed p × (endOf p ≤ length (now stored)) × Starts (w .pace .sign) (w .pace .x0) (w .pace .y0) ⌝ }
+    ensures { λ r. ⌜ r ≡ stepTo (now (stored .entry)) slots w i slice (stepOf (w .pace) p i) ⌝ }
 {
     let step = step_by(w.pace, p, edges_of(p), i);
-    look_step(w, step, i, slice, indices, slots)
+    look_step(w, step, i, slice, stored, slots)
 }
 
 // A reference's second word, where its line is as the walk found it: refused, or skipped (7).
-pub fn look_at(found: Walked, packed: u32, indices: &[u32], slots: u32) -> Look
-    requires { ⌜ FoundFits (length (now indices)) found ⌝ }
-    ensures { λ r. ⌜ r ≡ foundTo (now (indices .entry)) slots packed found ⌝ }
+pub fn look_at(found: Walked, packed: u32, stored: &[u32], slots: u32) -> Look
+    requires { ⌜ FoundFits (length (now stored)) found ⌝ }
+    ensures { λ r. ⌜ r ≡ foundTo (now (stored .entry)) slots packed found ⌝ }
 {
     match found {
         Walked::Refused(why) => Look::Against(why),
@@ -94,7 +94,7 @@ pub fn look_at(found: Walked, packed: u32, indices: &[u32], slots: u32) -> Look
             p,
             packed % STEP_RANGE,
             packed / STEP_RANGE,
-            indices,
+            stored,
             slots,
         ),
     }
@@ -106,7 +106,7 @@ pub(crate) fn found_at(path_nos: &[u32], coords: &[f32], paths: &[u32], line: Li
     ensures { λ r. ⌜ r ≡ foundOf (now («path_nos» .entry)) (now (coords .entry)) (now (paths .entry)) (line .0) ⌝ }
 {
     if (line.0 as usize) < path_nos.len() {
-        walk::found::walk_at(path_nos, coords, paths, line.0)
+        walk::setup::walk_at(path_nos, coords, paths, line.0)
     } else {
         Walked::Refused(NO_SUCH)
     }

@@ -8,7 +8,7 @@ use Rattle.panel.specs.Limits.{mostCommands}
 use Rattle.panel.specs.Widths.{segmentFloats}
 use Rattle.colours.specs.Colour.{overOf, packOf}
 use Rattle.commands.specs.Numbers.{startOf}
-use Rattle.commands.specs.Steps.{Trace, does, traceOf, endOf}
+use Rattle.commands.specs.Moves.{Trace, does, traceOf, endOf}
 use Rattle.commands.specs.Pixel.{Point, point, cover, paint, pointOf}
 use Rattle.commands.specs.declared.steps.Act.{Act}
 use Rattle.commands.specs.declared.steps.Act.the-variants.{Fill, Solid, Color, Jump}

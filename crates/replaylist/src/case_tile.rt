@@ -1,4 +1,4 @@
-// Kind 4: path_nos, coords, paths, indices, refs, segments*; from, to.
+// Kind 4: path_nos, coords, paths, stored, refs, segments*; from, to.
 use super::places;
 use super::places::Row;
 use super::rooms;
@@ -10,7 +10,7 @@ struct Parts {
     path_nos: Row,
     coords: Row,
     paths: Row,
-    indices: Row,
+    stored: Row,
     refs: Row,
     segments: Row,
     answer: usize,
@@ -21,8 +21,8 @@ fn parts_at(words: &[u32], at: usize) -> Parts {
     let path_nos = places::first(words, at, 1, 9);
     let coords = places::follow(words, at, 2, path_nos);
     let paths = places::follow(words, at, 3, coords);
-    let indices = places::follow(words, at, 4, paths);
-    let refs = places::follow(words, at, 5, indices);
+    let stored = places::follow(words, at, 4, paths);
+    let refs = places::follow(words, at, 5, stored);
     let segments = places::follow(words, at, 6, refs);
     let answer = places::after(words, segments);
     let later = places::first(words, answer, 2, 3);
@@ -30,7 +30,7 @@ fn parts_at(words: &[u32], at: usize) -> Parts {
         path_nos,
         coords,
         paths,
-        indices,
+        stored,
         refs,
         segments,
         answer,
@@ -46,11 +46,11 @@ fn right(
     path_nos: &[u32],
     coords: &[f32],
     paths: &[u32],
-    indices: &mut [u32],
+    stored: &mut [u32],
     refs: &mut [u32],
     segments: &mut [f32],
 ) -> bool {
-    let whole = rows::put_words(words, at.indices, indices)
+    let whole = rows::put_words(words, at.stored, stored)
         & rows::put_words(words, at.refs, refs)
         & rows::put_floats(words, at.segments, segments);
     let a = path_tiling::tile(
@@ -59,7 +59,7 @@ fn right(
         path_nos,
         coords,
         paths,
-        indices,
+        stored,
         refs,
         segments,
     );
@@ -77,10 +77,10 @@ fn right_of(
     coords: &[f32],
     paths: &[u32],
 ) -> bool {
-    let mut indices = rooms::words();
+    let mut stored = rooms::words();
     let mut refs = rooms::words();
     let mut segments = rooms::floats();
-    let ni = rooms::of_words(at.indices, &indices);
+    let ni = rooms::of_words(at.stored, &stored);
     let nr = rooms::of_words(at.refs, &refs);
     let ns = rooms::of_floats(at.segments, &segments);
     right(
@@ -90,7 +90,7 @@ fn right_of(
         path_nos,
         coords,
         paths,
-        &mut indices[..ni],
+        &mut stored[..ni],
         &mut refs[..nr],
         &mut segments[..ns],
     )

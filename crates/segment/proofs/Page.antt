@@ -3,7 +3,7 @@ use Prim.Native.Nat.{ℕ}
 use mathlib.Core.Path.{_≡_, refl}
 use lib.Ieee.{Float}
 use Rattle.walk.specs.Step.{zAt}
-use Rattle.walk.specs.declared.setup.Walk.{Walk}
+use Rattle.walk.specs.declared.kinds.Walk.{Walk}
 use Rattle.segment.specs.Clips.{cornerOf, farOf, atRowOf, atColOf, clipOf, makeOf, edgeOf, offOf, turnOf, firstOf, lastOf, segmentOf}
 use Rattle.segment.specs.Page.{pageOf}
 

@@ -6,7 +6,7 @@ use mathlib.Core.Bool.{Bool, true, false, cond, _&&_}
 use lib.Ieee.{Float, le}
 use Rattle.util.specs.Constants.{zero, tileSide}
 use Rattle.util.specs.declared.Vec2.{Vec2}
-use Rattle.walk.specs.declared.setup.Walk.{Walk}
+use Rattle.walk.specs.declared.kinds.Walk.{Walk}
 use Rattle.panel.proofs.BoolLaws.{both}
 use Rattle.segment.specs.Clips.{InTile, heldOf, segmentOf, pieceOf}
 use Rattle.panel.specs.declared.segments.Segment.{Segment}

@@ -9,7 +9,7 @@ use Rattle.util.specs.Constants.{zero, one, two, tileSide, nudge, epsilon, noEd
 use Rattle.util.specs.Vec.{newOf, addOf, subOf}
 use Rattle.util.specs.declared.Vec2.{Vec2}
 use Rattle.walk.specs.Num.{float}
-use Rattle.walk.specs.declared.setup.Walk.{Walk}
+use Rattle.walk.specs.declared.kinds.Walk.{Walk}
 use Rattle.panel.specs.declared.segments.Segment.{Segment}
 
 unfoldable pub pageOf : Walk → ℕ → Float → ℕ → ℕ → Segment

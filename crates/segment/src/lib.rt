@@ -9,7 +9,7 @@ ghost use Rattle.segment.specs.Clips.{cornerOf, farOf, atRowOf, atColOf,
 use panel::segments::Segment;
 use util::Vec2;
 use util::pick;
-use walk::setup::Walk;
+use walk::kinds::Walk;
 
 // path_tiling.rs: what a clipped end keeps from its tile's left or top edge, what an end on a whole
 // column is moved by, and the y_edge of a segment that has none.

@@ -17,7 +17,7 @@ use Rattle.svg_outline.specs.declared.steps.Kind.the-variants.{Rest, Move, Line
 use Rattle.svg_outline.specs.declared.steps.Gait.{Gait}
 use Rattle.svg_outline.specs.declared.strokes.Hand.{Hand}
 use Rattle.svg_outline.specs.Outline.{Pen, Drawn, floatOf, group, groups, after, kindOf, relativeOf, withClose, command, drawnOf, outlineOf}
-use Rattle.svg_outline.specs.Steps.{sizeOf, laterOf, actOf, gaitOf, startOf}
+use Rattle.svg_outline.specs.Tokens.{sizeOf, laterOf, actOf, gaitOf, startOf}
 use Rattle.svg_outline.specs.Strokes.{heldOf, penOf, strokeOf, linesAt, turnLines, turnHand, linesFrom, originOf, textLines}
 use Rattle.svg.proofs.Tokens.{tokOf, flat, Sized, toksOf, allToks, AllFit, Fit, closes, pairs, axes, quads, either, only, path-tokens}
 

@@ -19,7 +19,7 @@ use Rattle.svg_outline.specs.declared.steps.Kind.the-variants.{Rest, Mov
 use Rattle.svg_outline.specs.declared.steps.Gait.{Gait}
 use Rattle.svg_outline.specs.declared.strokes.Hand.{Hand}
 use Rattle.svg_outline.specs.Outline.{placed, relativeOf}
-use Rattle.svg_outline.specs.Steps.{actOf}
+use Rattle.svg_outline.specs.Tokens.{actOf}
 use Rattle.svg_outline.specs.Strokes.{heldOf, handTo, linesAt, strokeOf, shutLines, turnLines, turnHand}
 
 pub line-length : (a b c d : Float) → length (lineOf a b c d) ≡ lineFloats

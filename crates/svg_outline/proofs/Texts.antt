@@ -23,7 +23,7 @@ use Rattle.svg_outline.specs.declared.strokes.Hand.{Hand}
 use Rattle.svg_outline.specs.declared.count.Sum.{Sum}
 use Rattle.svg_outline.specs.declared.count.Sum.the-variants.{Lines, Over}
 use Rattle.svg_outline.specs.Outline.{depthMost, relativeOf}
-use Rattle.svg_outline.specs.Steps.{actOf, gaitOf, startOf, manyOf, tokenOf, countOf}
+use Rattle.svg_outline.specs.Tokens.{actOf, gaitOf, startOf, manyOf, tokenOf, countOf}
 use Rattle.svg_outline.specs.Strokes.{heldOf, originOf, linesAt, shutLines, turnLines, turnHand, linesFrom, textLines}
 use Rattle.svg_outline.specs.Counts.{textCount, sumOf, roomMost}
 use Rattle.svg_outline.proofs.Draws.{held-at, line-length}

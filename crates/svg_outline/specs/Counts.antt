@@ -6,7 +6,7 @@ use lib.Dec.{leb}
 use Rattle.svg_tokens.specs.Tokens.{tokensOf}
 use Rattle.svg_outline.specs.declared.count.Sum.{Sum}
 use Rattle.svg_outline.specs.declared.count.Sum.the-variants.{Lines, Over}
-use Rattle.svg_outline.specs.Steps.{startOf, countOf}
+use Rattle.svg_outline.specs.Tokens.{startOf, countOf}
 
 -- no room is larger: lines have four floats each
 abbrev pub roomMost : ℕ

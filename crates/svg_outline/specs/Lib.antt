@@ -1,4 +1,4 @@
 pub mod Outline
-pub mod Steps
+pub mod Tokens
 pub mod Strokes
 pub mod Counts

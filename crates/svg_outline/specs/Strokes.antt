@@ -14,7 +14,7 @@ use Rattle.svg_outline.specs.declared.steps.Kind.the-variants.{Rest, Mov
 use Rattle.svg_outline.specs.declared.steps.Gait.{Gait}
 use Rattle.svg_outline.specs.declared.strokes.Hand.{Hand}
 use Rattle.svg_outline.specs.Outline.{Pen, Drawn, floatOf, zeroF, group, relativeOf}
-use Rattle.svg_outline.specs.Steps.{actOf, gaitOf, startOf, tokenOf}
+use Rattle.svg_outline.specs.Tokens.{actOf, gaitOf, startOf, tokenOf}
 
 -- at 0, 0, with no numbers yet
 abbrev pub originOf : Hand

@@ -9,7 +9,7 @@ use svg_tokens::Token;
 ghost use mathlib.Core.Path.{_≡_};
 ghost use Prim.Native.Nat.{_≤_};
 ghost use Rattle.svg_outline.specs.Outline.{kindOf, relativeOf, depthMost};
-ghost use Rattle.svg_outline.specs.Steps.{sizeOf, laterOf, actOf, gaitOf, manyOf, startOf};
+ghost use Rattle.svg_outline.specs.Tokens.{sizeOf, laterOf, actOf, gaitOf, manyOf, startOf};
 ghost use Rattle.svg_tokens.specs.Tokens.{placeOf};
 
 // How often a curve is halved, at the most.

@@ -30,9 +30,9 @@ use Rattle.backdrop.proofs.CalmLaws.{calm-path}
 use Rattle.backdrop.proofs.CellLaws.{path-elsewhere}
 use Rattle.backdrop.proofs.PathSums.{call-done}
 use Rattle.walk.specs.Lent.{walkAt}
-use Rattle.walk.specs.declared.setup.Walk.{Walk}
-use Rattle.walk.specs.declared.lent.Walked.{Walked}
-use Rattle.walk.specs.declared.lent.Walked.the-variants.{Refused, Skipped, Line}
+use Rattle.walk.specs.declared.kinds.Walk.{Walk}
+use Rattle.walk.specs.declared.kinds.Walked.{Walked}
+use Rattle.walk.specs.declared.kinds.Walked.the-variants.{Refused, Skipped, Line}
 use Rattle.clip.specs.Page.{clippedOf}
 use Rattle.acts.specs.Acts.{St, stOf, Act, mark, visit, stop, deltaOf}
 use Rattle.acts.specs.Line.{planActs, tooFar, atLine, batchOf}
@@ -40,7 +40,7 @@ use Rattle.acts.proofs.Once as Once
 use Rattle.acts.proofs.Once.{Free, Once}
 use Rattle.acts.proofs.Plans.{plan-marks}
 use Rattle.path_count.specs.Count.{planOf, planBy, lineStep, batch, Lent}
-use Rattle.path_count.proofs.Steps.{apart}
+use Rattle.path_count.proofs.StepLaws.{apart}
 use Rattle.path_count.proofs.Lines.{not-far, starts, walkable, on-tiles, left}
 use Rattle.theorems.specs.Drawn.{drawnAt, drawn, actsBy, deltaBy, marksIn, marksOf}
 use Rattle.theorems.specs.Refs.{AllCounted}

@@ -18,9 +18,9 @@ use Rattle.panel.specs.Paths.{pathAt, pathCount, pathsAnswer}
 use Rattle.panel.specs.declared.kinds.Path.{Path}
 use Rattle.panel.specs.declared.kinds.Answer.the-variants.{Done}
 use Rattle.walk.specs.Lent.{walkAt}
-use Rattle.walk.specs.declared.setup.Walk.{Walk}
-use Rattle.walk.specs.declared.lent.Walked.{Walked}
-use Rattle.walk.specs.declared.lent.Walked.the-variants.{Refused, Skipped, Line}
+use Rattle.walk.specs.declared.kinds.Walk.{Walk}
+use Rattle.walk.specs.declared.kinds.Walked.{Walked}
+use Rattle.walk.specs.declared.kinds.Walked.the-variants.{Refused, Skipped, Line}
 use Rattle.walk.proofs.Walks.{line-told}
 use Rattle.acts.specs.Acts.{St, Act, mark, visit, stop}
 use Rattle.acts.specs.Line.{planActs, atLine, batchOf}

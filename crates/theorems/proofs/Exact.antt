@@ -25,9 +25,9 @@ use Rattle.util.specs.declared.Vec2.{Vec2}
 use Rattle.walk.specs.Page.{lineOf}
 use Rattle.walk.proofs.Lines.{skipped}
 use Rattle.walk.specs.Lent.{lineAt, reachedOf, walkedOf, walkAt}
-use Rattle.walk.specs.declared.setup.Walk.{Walk}
-use Rattle.walk.specs.declared.lent.Walked.{Walked}
-use Rattle.walk.specs.declared.lent.Walked.the-variants as Found
+use Rattle.walk.specs.declared.kinds.Walk.{Walk}
+use Rattle.walk.specs.declared.kinds.Walked.{Walked}
+use Rattle.walk.specs.declared.kinds.Walked.the-variants as Found
 use Rattle.panel.specs.Signed.{inI32}
 use Rattle.acts.specs.Acts.{St, Act, mark, visit, stop, marked, visited, takeIf, act, runActs, deltaOf}
 use Rattle.acts.specs.Line.{Plan, planActs, haltIf, tooFar, planStep}

@@ -14,7 +14,7 @@ use Rattle.panel.specs.Refusals.{pastEnd, tooLong}
 use Rattle.panel.specs.declared.kinds.Verdict.the-variants.{Fine, Against}
 use Rattle.reader.specs.Look.{lookAt}
 use Rattle.commands.specs.Numbers.{endNo, wordsOf}
-use Rattle.commands.specs.Steps.{opOf, countOf, fillMove, wholeMove, moveOf, Trace, ends, does, onMove, onLook, traceOf, endOf}
+use Rattle.commands.specs.Moves.{opOf, countOf, fillMove, wholeMove, moveOf, Trace, ends, does, onMove, onLook, traceOf, endOf}
 use Rattle.commands.specs.declared.steps.Op.{Op}
 use Rattle.commands.specs.declared.steps.Op.the-variants.{Fill, Solid, Color, Jump, Unknown}
 use Rattle.commands.specs.declared.steps.Act.{Act}

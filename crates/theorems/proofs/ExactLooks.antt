@@ -15,11 +15,11 @@ use Rattle.panel.specs.declared.kinds.Path.{Path}
 use Rattle.util.specs.declared.Vec2.{Vec2}
 use Rattle.walk.specs.Step.{stepOf}
 use Rattle.walk.specs.Lent.{lineAt, reachedOf, walkedOf, walkAt}
-use Rattle.walk.specs.declared.setup.Walk.{Walk}
+use Rattle.walk.specs.declared.kinds.Walk.{Walk}
 use Rattle.walk.specs.declared.step.Step.{Step}
 use Rattle.walk.specs.declared.step.Step.the-variants as On
-use Rattle.walk.specs.declared.lent.Walked.{Walked}
-use Rattle.walk.specs.declared.lent.Walked.the-variants as Found
+use Rattle.walk.specs.declared.kinds.Walked.{Walked}
+use Rattle.walk.specs.declared.kinds.Walked.the-variants as Found
 use Rattle.segment.specs.Clips.{pieceOf}
 use Rattle.segment.specs.declared.Piece.{Piece}
 use Rattle.segment.specs.declared.Piece.the-variants.{Kept, Crooked}
@@ -49,16 +49,16 @@ module _ (L : Lent) (slots k n : ℕ) where
   line = Look.lineAt (L .refs) k
 
   step-why : (w : Walk) (b : Path) → RefWalks L k w b → (s : Step) → stepOf (w .pace) b (stepNo (packedAt (L .refs) k)) ≡ s
-      → stepTo (L .indices) slots w (stepNo (packedAt (L .refs) k)) (sliceNo (packedAt (L .refs) k)) s ≡ Against n → LookWhy L slots k n
+      → stepTo (L .stored) slots w (stepNo (packedAt (L .refs) k)) (sliceNo (packedAt (L .refs) k)) s ≡ Against n → LookWhy L slots k n
   unfolding stepTo
   step-why w b h (On.Tile t x y z) e f =
-      let r = word-why slots (getD (L .indices) (t .0) 0) (sliceNo (packedAt (L .refs) k)) (pieceOf w (stepNo (packedAt (L .refs) k)) z x y) n f in
+      let r = word-why slots (getD (L .stored) (t .0) 0) (sliceNo (packedAt (L .refs) k)) (pieceOf w (stepNo (packedAt (L .refs) k)) z x y) n f in
       let o : RefOn L k w b = record { tile = t; x = x; y = y; z = z; fell = e; handed = r .0 } in
       ⊎-elim (λ q. nineSlot (q .0) w b h o (q .1)) (λ q. twelve (q .0) w b h o (q .1) (piece-exact w (stepNo (packedAt (L .refs) k)) z x y .0 (q .2))) (r .1)
   step-why w b h On.Refused e f = tenStep (cc) w b h (step-exact (w .pace) b (stepNo (packedAt (L .refs) k)) .0 e)
 
   found-why : Look.lineAt (L .refs) k < length (L .pathNos) → (x : Walked) → walkAt (L .pathNos) (L .coords) (L .paths) (Look.lineAt (L .refs) k) ≡ x
-      → foundTo (L .indices) slots (packedAt (L .refs) k) x ≡ Against n → LookWhy L slots k n
+      → foundTo (L .stored) slots (packedAt (L .refs) k) x ≡ Against n → LookWhy L slots k n
   unfolding foundTo walkAt
   found-why h (Found.Line w b) e f = step-why w b (h, e) (stepOf (w .pace) b (stepNo (packedAt (L .refs) k))) refl f
   found-why h Found.Skipped e f = sevenSkipped (cc) h e
@@ -85,7 +85,7 @@ module _ (L : Lent) (slots k n : ℕ) where
 
   -- and back
   is-found : Look.lineAt (L .refs) k < length (L .pathNos) → (x : Walked) → walkAt (L .pathNos) (L .coords) (L .paths) (Look.lineAt (L .refs) k) ≡ x
-      → lookOf L slots k ≡ foundTo (L .indices) slots (packedAt (L .refs) k) x
+      → lookOf L slots k ≡ foundTo (L .stored) slots (packedAt (L .refs) k) x
   unfolding lookOf foundOf
   is-found h x e = rw (lt-ltb (Look.lineAt (L .refs) k) (length (L .pathNos)) h, e)
 
@@ -113,7 +113,7 @@ module _ (L : Lent) (slots k n : ℕ) where
   no-skip h e = is-found h Found.Skipped e
 
   by-step : (w : Walk) (b : Path) → RefWalks L k w b → (s : Step) → stepOf (w .pace) b (stepNo (packedAt (L .refs) k)) ≡ s
-      → lookOf L slots k ≡ stepTo (L .indices) slots w (stepNo (packedAt (L .refs) k)) (sliceNo (packedAt (L .refs) k)) s
+      → lookOf L slots k ≡ stepTo (L .stored) slots w (stepNo (packedAt (L .refs) k)) (sliceNo (packedAt (L .refs) k)) s
   unfolding foundTo
   by-step w b h s e = is-found (h .0) (Found.Line w b) (h .1) ∙ rw e
 
@@ -122,7 +122,7 @@ module _ (L : Lent) (slots k n : ℕ) where
   step-ten w b h e = by-step w b h On.Refused e
 
   by-word : (w : Walk) (b : Path) → RefWalks L k w b → (o : RefOn L k w b)
-      → lookOf L slots k ≡ wordTo slots (getD (L .indices) (o .tile .0) 0) (sliceNo (packedAt (L .refs) k)) (pieceOf w (stepNo (packedAt (L .refs) k)) (o .z) (o .x) (o .y))
+      → lookOf L slots k ≡ wordTo slots (getD (L .stored) (o .tile .0) 0) (sliceNo (packedAt (L .refs) k)) (pieceOf w (stepNo (packedAt (L .refs) k)) (o .z) (o .x) (o .y))
   unfolding stepTo
   by-word w b h o = by-step w b h (On.Tile (o .tile) (o .x) (o .y) (o .z)) (o .fell)
 
@@ -151,8 +151,8 @@ module _ (L : Lent) (slots k n : ℕ) where
       halts (sevenPath q h e f) = no-walk noSuch h (walk-seven (ends-good (lineAt (L .coords) (Look.lineAt (L .refs) k)) e) f) ∙ ap Against (sym q)
       halts (sevenSkipped q h e) = no-skip h e ∙ ap Against (sym q)
       halts (tenStep q w b h e) = step-ten w b h (step-exact (w .pace) b (stepNo (packedAt (L .refs) k)) .1 e) ∙ ap Against (sym q)
-      halts (nineSlot q w b h o f) = by-word w b h o ∙ word-nine (getD (L .indices) (o .tile .0) 0) (sliceNo (packedAt (L .refs) k)) _ (o .handed) f ∙ ap Against (sym q)
+      halts (nineSlot q w b h o f) = by-word w b h o ∙ word-nine (getD (L .stored) (o .tile .0) 0) (sliceNo (packedAt (L .refs) k)) _ (o .handed) f ∙ ap Against (sym q)
       halts (twelve q w b h o f e) =
           by-word w b h o
-          ∙ word-twelve (getD (L .indices) (o .tile .0) 0) (sliceNo (packedAt (L .refs) k)) _ (o .handed) f (piece-exact w (stepNo (packedAt (L .refs) k)) (o .z) (o .x) (o .y) .1 e)
+          ∙ word-twelve (getD (L .stored) (o .tile .0) 0) (sliceNo (packedAt (L .refs) k)) _ (o .handed) f (piece-exact w (stepNo (packedAt (L .refs) k)) (o .z) (o .x) (o .y) .1 e)
           ∙ ap Against (sym q)

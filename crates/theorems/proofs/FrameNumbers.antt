@@ -18,7 +18,7 @@ use Rattle.walk.specs.Step.{stepOf}
 use Rattle.walk.specs.Lent as WalkLent
 use Rattle.walk.specs.Lent.{walkAt}
 use Rattle.walk.specs.declared.step.Step.the-variants as On
-use Rattle.walk.specs.declared.lent.Walked.the-variants.{Line}
+use Rattle.walk.specs.declared.kinds.Walked.the-variants.{Line}
 use Rattle.walk.proofs.Walks.{line-told}
 use Rattle.acts.specs.Acts.{St, stOf, Act, mark, visit, stop, deltaOf}
 use Rattle.acts.specs.Line.{planActs}

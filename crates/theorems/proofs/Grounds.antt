@@ -21,9 +21,9 @@ use Rattle.panel.specs.declared.kinds.Path.{Path}
 use Rattle.walk.specs.Num.{insideOf}
 use Rattle.walk.specs.Lent.{reachedOf}
 use Rattle.walk.specs.Step.{tileIn, stepOf}
-use Rattle.walk.specs.declared.lent.LineEnds.{LineEnds}
-use Rattle.walk.specs.declared.setup.Pace.{Pace}
-use Rattle.walk.specs.declared.setup.Walk.{Walk}
+use Rattle.walk.specs.declared.kinds.LineEnds.{LineEnds}
+use Rattle.walk.specs.declared.kinds.Pace.{Pace}
+use Rattle.walk.specs.declared.kinds.Walk.{Walk}
 use Rattle.walk.specs.declared.step.Step.{Step}
 use Rattle.walk.specs.declared.step.Step.the-variants as On
 use Rattle.walk.proofs.Boxes.{okOf, tile-yes, tile-no}

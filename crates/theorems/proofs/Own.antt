@@ -18,11 +18,11 @@ use Rattle.panel.proofs.PathLaws.{Holds, checked}
 use Rattle.panel.proofs.BoolLaws.{both}
 use Rattle.walk.specs.Lent.{walkAt}
 use Rattle.walk.specs.Step.{Boxed, stepOf, lastZ, crossOf}
-use Rattle.walk.specs.declared.setup.Walk.{Walk}
+use Rattle.walk.specs.declared.kinds.Walk.{Walk}
 use Rattle.walk.specs.declared.step.Step as S
 use Rattle.walk.specs.declared.step.Step.the-variants as On
-use Rattle.walk.specs.declared.lent.Walked.{Walked}
-use Rattle.walk.specs.declared.lent.Walked.the-variants.{Refused, Skipped, Line}
+use Rattle.walk.specs.declared.kinds.Walked.{Walked}
+use Rattle.walk.specs.declared.kinds.Walked.the-variants.{Refused, Skipped, Line}
 use Rattle.walk.proofs.Boxes.{fits-boxed}
 use Rattle.walk.proofs.Tiles.{tile-in, mark-in}
 use Rattle.walk.proofs.Walks.{line-told}

@@ -25,7 +25,7 @@ use Rattle.path_tiling.specs.Look.{foundOf, pieceTo, wordTo, stepTo, foundTo, l
 use Rattle.path_tiling.specs.Tiling.{rangeOf, wholeOf, checksOf, callOf}
 use Rattle.coverage.specs.Coverage.{areaAfter, finishOf, sumOf, pixelOf}
 use Rattle.colours.specs.Colour.{channelOf, colourOf, overOf, byteOf, packOf}
-use Rattle.commands.specs.Steps.{opOf, moveOf, wholeMove, traceOf}
+use Rattle.commands.specs.Moves.{opOf, moveOf, wholeMove, traceOf}
 use Rattle.commands.specs.Pixel.{cover, paint, pointOf}
 use Rattle.fine.specs.Screen.{putTile, tileTrace, colourAt, tilePixels}
 use Rattle.fine.specs.Fine.{tileStep, tilesOf, fineOf}

@@ -20,10 +20,10 @@ use Rattle.walk.specs.Num.{float}
 use Rattle.walk.specs.Page.{lineOf}
 use Rattle.walk.specs.Lent.{Reached}
 use Rattle.walk.specs.Step.{Boxed, zAt, stepOf}
-use Rattle.walk.specs.declared.setup.Pace.{Pace}
+use Rattle.walk.specs.declared.kinds.Pace.{Pace}
 use Rattle.walk.specs.declared.step.Step.the-variants.{Tile}
 use Rattle.walk.proofs.Walks.{line-starts, line-few}
-use Rattle.walk.proofs.Steps.{z-fits, zWhole, z-whole, turned-whole}
+use Rattle.walk.proofs.StepTiles.{z-fits, zWhole, z-whole, turned-whole}
 use Rattle.walk.proofs.Tiles.{step-told, step-exact}
 use Rattle.theorems.specs.StepNumbers.{ExactAt, ExactTile, ExactLine}
 

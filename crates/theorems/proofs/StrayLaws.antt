@@ -27,11 +27,11 @@ use Rattle.hand_out.specs.HandOut.{hand, handChecks, onFine, handOutOf, outOf}
 use Rattle.hand_out.proofs.HandLaws.{length-hand, reads-back, skips-no-other, out-once}
 use Rattle.walk.specs.Step.{stepOf}
 use Rattle.walk.specs.Lent.{walkAt}
-use Rattle.walk.specs.declared.setup.Walk.{Walk}
+use Rattle.walk.specs.declared.kinds.Walk.{Walk}
 use Rattle.walk.specs.declared.step.Step.{Step}
 use Rattle.walk.specs.declared.step.Step.the-variants as On
-use Rattle.walk.specs.declared.lent.Walked.{Walked}
-use Rattle.walk.specs.declared.lent.Walked.the-variants as Found
+use Rattle.walk.specs.declared.kinds.Walked.{Walked}
+use Rattle.walk.specs.declared.kinds.Walked.the-variants as Found
 use Rattle.segment.specs.Clips.{pieceOf}
 use Rattle.panel.specs.declared.segments.Segment.{Segment}
 use Rattle.segment.specs.declared.Piece.{Piece}

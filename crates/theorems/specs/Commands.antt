@@ -7,7 +7,7 @@ use Prim.Native.Nat.{ℕ, zero, suc, _+_, _-_, _≤_, _<_}
 use lib.ListN.{length, getD}
 use Rattle.panel.specs.Refusals.{pastEnd, unknown, tooLong}
 use Rattle.commands.specs.Numbers.{endNo, wordsOf}
-use Rattle.commands.specs.Steps.{opOf, countOf, moveOf}
+use Rattle.commands.specs.Moves.{opOf, countOf, moveOf}
 use Rattle.commands.specs.declared.steps.Op.{Op}
 use Rattle.commands.specs.declared.steps.Op.the-variants.{Fill, Solid, Color, Jump, Unknown}
 use Rattle.commands.specs.declared.steps.Act.{Act}

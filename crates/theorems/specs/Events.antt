@@ -12,9 +12,9 @@ use Rattle.panel.specs.declared.kinds.Path.{Path}
 use Rattle.panel.specs.declared.kinds.TileNo.{TileNo}
 use Rattle.walk.specs.Lent.{walkAt}
 use Rattle.walk.specs.Step.{stepOf}
-use Rattle.walk.specs.declared.setup.Walk.{Walk}
+use Rattle.walk.specs.declared.kinds.Walk.{Walk}
 use Rattle.walk.specs.declared.step.Step.the-variants.{Tile}
-use Rattle.walk.specs.declared.lent.Walked.the-variants.{Line}
+use Rattle.walk.specs.declared.kinds.Walked.the-variants.{Line}
 use Rattle.acts.specs.Acts.{Act, mark, visit, stop, packed}
 use Rattle.theorems.specs.Drawn.{drawnAt, walkOf, actsBy}
 

@@ -13,8 +13,8 @@ use Rattle.walk.specs.Step.{stepOf}
 use Rattle.walk.specs.Lent.{walkAt}
 use Rattle.walk.specs.declared.step.Step.{Step}
 use Rattle.walk.specs.declared.step.Step.the-variants as On
-use Rattle.walk.specs.declared.lent.Walked.{Walked}
-use Rattle.walk.specs.declared.lent.Walked.the-variants.{Refused, Skipped, Line}
+use Rattle.walk.specs.declared.kinds.Walked.{Walked}
+use Rattle.walk.specs.declared.kinds.Walked.the-variants.{Refused, Skipped, Line}
 use Rattle.acts.specs.Acts.{stOf}
 use Rattle.path_count.specs.Count.{Told, toldOf, paperOf, counted}
 use Rattle.path_count.specs.declared.kinds.Counted.the-variants.{Done}

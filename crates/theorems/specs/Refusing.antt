@@ -26,10 +26,10 @@ use Rattle.backdrop.specs.Backdrop as Backdrop
 use Rattle.hand_out.specs.HandOut.{Out}
 use Rattle.walk.specs.Num.{float}
 use Rattle.walk.specs.Lent.{lineAt, walkAt}
-use Rattle.walk.specs.declared.lent.LineEnds.{LineEnds}
-use Rattle.walk.specs.declared.setup.Pace.{Pace}
-use Rattle.walk.specs.declared.setup.Walk.{Walk}
-use Rattle.walk.specs.declared.lent.Walked.the-variants.{Line, Skipped}
+use Rattle.walk.specs.declared.kinds.LineEnds.{LineEnds}
+use Rattle.walk.specs.declared.kinds.Pace.{Pace}
+use Rattle.walk.specs.declared.kinds.Walk.{Walk}
+use Rattle.walk.specs.declared.kinds.Walked.the-variants.{Line, Skipped}
 use Rattle.walk.specs.Step.{zAt, stepOf}
 use Rattle.walk.specs.declared.step.Step.the-variants as On
 use Rattle.panel.specs.declared.kinds.TileNo.{TileNo}
@@ -165,10 +165,10 @@ pub record RefOn (L : Lent) (k : ℕ) (w : Walk) (b : Path) : Type 0 where
   pub y : ℕ
   pub z : Float
   pub fell : stepOf (w .pace) b (stepNo (packedAt (L .refs) k)) ≡ On.Tile tile x y z
-  pub handed : handedFrom ≤ getD (L .indices) (tile .0) 0
+  pub handed : handedFrom ≤ getD (L .stored) (tile .0) 0
 
 abbrev pub refSlot : (L : Lent) (k : ℕ) {w : Walk} {b : Path} → RefOn L k w b → ℕ
-refSlot L k o = slotOf (getD (L .indices) (o .tile .0) 0) (sliceNo (packedAt (L .refs) k))
+refSlot L k o = slotOf (getD (L .stored) (o .tile .0) 0) (sliceNo (packedAt (L .refs) k))
 
 pub data LookWhy (L : Lent) (slots k n : ℕ) : Type 0 where
   -- 7: no such line

@@ -12,8 +12,8 @@ use Rattle.exact.specs.Whole.{IsWhole, turn}
 use Rattle.exact.specs.Reach.{Starts}
 use Rattle.walk.specs.Num.{float}
 use Rattle.walk.specs.Step.{Boxed, zAt, stepOf}
-use Rattle.walk.specs.declared.setup.Pace.{Pace}
-use Rattle.walk.specs.declared.setup.Walk.{Walk}
+use Rattle.walk.specs.declared.kinds.Pace.{Pace}
+use Rattle.walk.specs.declared.kinds.Walk.{Walk}
 use Rattle.walk.specs.declared.step.Step.the-variants.{Tile}
 
 -- what the walk's numbers are below: far under 2 ^ 24, up to which an `f32` holds every whole number

@@ -2,16 +2,16 @@
 --     Counts  a checked line's ends, and how many steps it has
 --     Boxes   tiles in a box, and their numbers
 --     Lines   the cases of a line as it is lent
---     Steps   a step's column and row in whole numbers
+--     StepTiles   a step's column and row in whole numbers
 --     Sides   a step's tests by the box's edges as floats
 --     Tiles   no tile twice in a line, and one tile for counting and tiling
 --     Walks   what is known of a line that is walked
---     FoundLaws  what the set-up of a line stands on
+--     AroundLaws  what the set-up of a line stands on
 pub mod Counts
 pub mod Boxes
 pub mod Lines
-pub mod Steps
+pub mod StepTiles
 pub mod Sides
 pub mod Tiles
 pub mod Walks
-pub mod FoundLaws
+pub mod AroundLaws

@@ -15,10 +15,10 @@ use Rattle.walk.specs.Setup.{endsOf, walkOn}
 use Rattle.walk.specs.Page.{by-parts}
 use Rattle.walk.specs.Skip.{flatOf, pastOf}
 use Rattle.walk.specs.Lent.{lineAt, reachedOf, Reached, walkedOf, walkAt}
-use Rattle.walk.specs.declared.setup.Walk.{Walk}
-use Rattle.walk.specs.declared.lent.LineEnds.{LineEnds}
-use Rattle.walk.specs.declared.lent.Walked.{Walked}
-use Rattle.walk.specs.declared.lent.Walked.the-variants.{Refused, Skipped, Line}
+use Rattle.walk.specs.declared.kinds.Walk.{Walk}
+use Rattle.walk.specs.declared.kinds.LineEnds.{LineEnds}
+use Rattle.walk.specs.declared.kinds.Walked.{Walked}
+use Rattle.walk.specs.declared.kinds.Walked.the-variants.{Refused, Skipped, Line}
 
 -- a test turned round
 pub turned-on : (t : Bool) → not t ≡ true → t ≡ false

@@ -23,7 +23,7 @@ use borrow.Author.Tests.{lt-ltb, le-ltb, le-leb, lt-leb, ltb-false}
 use Rattle.float32.specs.Meaning.{whole, signed, unit}
 use Rattle.float32.proofs.Whole.{whole-value}
 use Rattle.float32.proofs.Order.{not-lt-of-le, le-right}
-use Rattle.float32.proofs.Steps.{lt-plus}
+use Rattle.float32.proofs.Floors.{lt-plus}
 use Rattle.float32.proofs.Tests.{below-or-not}
 use Rattle.util.specs.Constants.{one}
 use Rattle.panel.specs.Widths.{stepRange}
@@ -38,10 +38,10 @@ use Rattle.exact.proofs.Limits.{far}
 use Rattle.walk.specs.Num.{float, cutOf, insideOf}
 use Rattle.walk.specs.Step.{Boxed, zAt, tileIn, stepOf, edgesOf}
 use Rattle.walk.specs.declared.edges.Edges.{Edges}
-use Rattle.walk.specs.declared.setup.Pace.{Pace}
+use Rattle.walk.specs.declared.kinds.Pace.{Pace}
 use Rattle.panel.proofs.BoolLaws.{both}
 use Rattle.walk.proofs.Boxes.{okOf, inside-bounds}
-use Rattle.walk.proofs.Steps.{z-fits, zWhole, z-whole, turned-whole}
+use Rattle.walk.proofs.StepTiles.{z-fits, zWhole, z-whole, turned-whole}
 
 -- the test in the code
 abbrev pub betweenOf : Float → (lo hi : Float) → Bool

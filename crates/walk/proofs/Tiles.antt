@@ -25,11 +25,11 @@ use Rattle.exact.specs.Whole.{turn}
 use Rattle.exact.specs.Reach.{Starts}
 use Rattle.walk.specs.Num.{float, cutOf, insideOf}
 use Rattle.walk.specs.Step.{Boxed, Within, zAt, tileIn, stepOf, stepAgainOf}
-use Rattle.walk.specs.declared.setup.Pace.{Pace}
+use Rattle.walk.specs.declared.kinds.Pace.{Pace}
 use Rattle.walk.specs.declared.step.Step.{Step}
 use Rattle.walk.specs.declared.step.Step.the-variants.{Tile, Refused}
 use Rattle.walk.proofs.Boxes.{Told, okOf, ok-told, told-within, inside-bounds, in-box, tile-below}
-use Rattle.walk.proofs.Steps.{colOf, colAgain, rowAt, inside-small, z-fits, zWhole, z-whole, col-is, row-is, col-same, col-again, steps-apart}
+use Rattle.walk.proofs.StepTiles.{colOf, colAgain, rowAt, inside-small, z-fits, zWhole, z-whole, col-is, row-is, col-same, col-again, steps-apart}
 
 -- ---- what a tile tells
 pub record TileTold (b : Path) (u v : ℤ) (f : Float) (t : TileNo) (x y : ℕ) (z : Float) : Type 0 where

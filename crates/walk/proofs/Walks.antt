@@ -29,10 +29,10 @@ use Rattle.walk.specs.Page.{lineOf, by-parts}
 use Rattle.walk.specs.Skip.{flatOf, pastOf}
 use Rattle.walk.specs.Step.{zAt, lastZ}
 use Rattle.walk.specs.Lent.{lineAt, reachedOf, Reached, walkedOf, walkAt}
-use Rattle.walk.specs.declared.setup.Pace.{Pace}
-use Rattle.walk.specs.declared.setup.Walk.{Walk}
-use Rattle.walk.specs.declared.lent.Walked.{Walked}
-use Rattle.walk.specs.declared.lent.Walked.the-variants.{Refused, Skipped, Line}
+use Rattle.walk.specs.declared.kinds.Pace.{Pace}
+use Rattle.walk.specs.declared.kinds.Walk.{Walk}
+use Rattle.walk.specs.declared.kinds.Walked.{Walked}
+use Rattle.walk.specs.declared.kinds.Walked.the-variants.{Refused, Skipped, Line}
 use Rattle.walk.proofs.Counts.{Few, ends-scaled, counts-few}
 use Rattle.walk.proofs.Lines.{skipped}
 

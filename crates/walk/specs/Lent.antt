@@ -15,9 +15,9 @@ use Rattle.panel.specs.declared.kinds.Path.{Path}
 use Rattle.walk.specs.Setup.{endsOf}
 use Rattle.walk.specs.Page.{lineOf}
 use Rattle.walk.specs.Skip.{flatOf, pastOf}
-use Rattle.walk.specs.declared.lent.LineEnds.{LineEnds}
-use Rattle.walk.specs.declared.lent.Walked.{Walked}
-use Rattle.walk.specs.declared.lent.Walked.the-variants.{Refused, Skipped, Line}
+use Rattle.walk.specs.declared.kinds.LineEnds.{LineEnds}
+use Rattle.walk.specs.declared.kinds.Walked.{Walked}
+use Rattle.walk.specs.declared.kinds.Walked.the-variants.{Refused, Skipped, Line}
 
 -- line l's two points
 unfoldable pub lineAt : List Float → ℕ → LineEnds

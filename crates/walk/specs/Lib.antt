@@ -5,11 +5,11 @@
 --     Skip    the skip rules
 --     Step    a step's tile
 --     Lent    a line as it is lent: what is refused, skipped or walked
---     Found   the tile edges around a line, taken once; for proofs
+--     Around   the tile edges around a line, taken once; for proofs
 pub mod Num
 pub mod Setup
 pub mod Page
 pub mod Skip
 pub mod Step
 pub mod Lent
-pub mod Found
+pub mod Around

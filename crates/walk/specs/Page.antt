@@ -10,7 +10,7 @@ use Rattle.util.specs.Span.{spanOf}
 use Rattle.util.specs.declared.Vec2.{Vec2}
 use Rattle.walk.specs.Num.{float}
 use Rattle.walk.specs.Setup.{endsOf, countsOf, slopeOf, aOf, bOf, walkOn}
-use Rattle.walk.specs.declared.setup.Walk.{Walk}
+use Rattle.walk.specs.declared.kinds.Walk.{Walk}
 
 unfoldable pub lineOf : Vec2 → Vec2 → Walk
 lineOf p0 p1 =

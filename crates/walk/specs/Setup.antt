@@ -11,11 +11,11 @@ use Rattle.util.specs.Span.{spanOf}
 use Rattle.util.specs.declared.Vec2.{Vec2}
 use Rattle.exact.specs.Reach.{Near}
 use Rattle.walk.specs.Num.{float}
-use Rattle.walk.specs.declared.setup.Ends.{Ends}
-use Rattle.walk.specs.declared.setup.Counts.{Counts}
-use Rattle.walk.specs.declared.setup.Slope.{Slope}
-use Rattle.walk.specs.declared.setup.Pace.{Pace}
-use Rattle.walk.specs.declared.setup.Walk.{Walk}
+use Rattle.walk.specs.declared.kinds.Ends.{Ends}
+use Rattle.walk.specs.declared.kinds.Counts.{Counts}
+use Rattle.walk.specs.declared.kinds.Slope.{Slope}
+use Rattle.walk.specs.declared.kinds.Pace.{Pace}
+use Rattle.walk.specs.declared.kinds.Walk.{Walk}
 
 -- a point in tiles whose coordinates were checked
 pub record Scaled (s : Vec2) : Type 0 where

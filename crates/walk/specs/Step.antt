@@ -12,7 +12,7 @@ use Rattle.panel.specs.Kinds.{tileNoOf}
 use Rattle.panel.specs.Paths.{endOf, tileOf}
 use Rattle.panel.specs.declared.kinds.Path.{Path}
 use Rattle.walk.specs.Num.{float, cutOf, insideOf}
-use Rattle.walk.specs.declared.setup.Pace.{Pace}
+use Rattle.walk.specs.declared.kinds.Pace.{Pace}
 use Rattle.walk.specs.declared.step.Step.{Step}
 use Rattle.walk.specs.declared.edges.Edges.{Edges}
 use Rattle.walk.specs.declared.step.Step.the-variants.{Tile, Refused}

@@ -6,7 +6,7 @@ ghost use Prim.Native.Nat.{_<_};
 ghost use Rattle.panel.specs.Widths.{stepRange};
 ghost use Rattle.exact.specs.Reach.{Starts};
 ghost use Rattle.walk.specs.Step.{Boxed, edgesOf, stepOf};
-use super::setup::Pace;
+use super::kinds::Pace;
 use super::step::Step;
 use super::step::tile_at;
 use super::step::z_at;

@@ -2,7 +2,6 @@
 // a step's tile. docs/RULES.md, "The walk of a line".
 pub mod choose;
 pub mod edges;
-pub mod found;
-pub mod lent;
+pub mod kinds;
 pub mod setup;
 pub mod step;

@@ -9,7 +9,7 @@ ghost use Rattle.walk.specs.Step.{zAt, Boxed, Within, tileIn, stepOf, cr
 use super::choose::cut;
 use super::choose::inside;
 use super::choose::pick_bool;
-use super::setup::Pace;
+use super::kinds::Pace;
 use panel::kinds::Path;
 use panel::kinds::TileNo;
 

@@ -23,7 +23,7 @@ use Rattle.write_lists.specs.declared.pairs.Pair.the-variants.{Fill, Sol
 
 -- ---- 1 to 4
 
--- the lengths lent: paths, paints, backdrops, stored indices, tally. Then the screen
+-- the lengths lent: paths, paints, backdrops, stored words, tally. Then the screen
 abbrev pub lentChecks : (np nc nb ns nk cols rows : ℕ) → List Check
 lentChecks np nc nb ns nk cols rows =
     check (eqb (np % pathWords) 0) notWhole

@@ -19,7 +19,7 @@ use Rattle.write_lists.specs.declared.pairs.Pair.the-variants.{Fill, Sol
 use Rattle.write_lists.specs.declared.pairs.Put.{Put}
 use Rattle.write_lists.specs.declared.pairs.Put.the-variants.{Nothing, Puts}
 
--- what is lent to be read: the paths in painting order, a paint for each, and the tiles' backdrops, stored indices and tally
+-- what is lent to be read: the paths in painting order, a paint for each, and the tiles' backdrops, stored words and tally
 pub record Tables : Type 0 where
   pub paths : List ℕ
   pub paints : List ℕ

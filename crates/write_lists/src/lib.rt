@@ -33,7 +33,7 @@ ghost use Rattle.write_lists.specs.Layout.{written};
 ghost use Rattle.write_lists.specs.Lists.{lentChecks, callAnswer, roomChecks, freshOf, fillsFit, listsFrom, ListsMet};
 ghost use Rattle.write_lists.specs.Ready.{Ready, tilesAnswer, wordsNamed};
 
-// The lengths lent: whole paths, a paint for each, equally many backdrops, stored indices and tally
+// The lengths lent: whole paths, a paint for each, equally many backdrops, stored words and tally
 // words (1); then the screen (2).
 fn check_lent(
     paths: usize,

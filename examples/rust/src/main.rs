@@ -21,7 +21,7 @@ fn main() -> Result<(), Box<dyn Error>> {
     // Each channel may draw on the whole screen: its box, then its first tile.
     let paths = [0, 0, 3, 2, 0, 0, 0, 3, 2, 6, 0, 0, 3, 2, 12];
     let paints = [0xff0000ff, 0, 0x0000ffff, 1, 0x00ff00ff, 0];
-    let (mut backdrops, mut tiles, mut tally) = ([0; 18], [0; 18], [0; 18]);
+    let (mut backdrops, mut stored, mut tally) = ([0; 18], [0; 18], [0; 18]);
     let (mut refs, mut segments) = ([0; REF_WORDS * ROOM], [0.0; SEGMENT_FLOATS * ROOM]);
 
     // A channel with a refused line is shown as faulty, and the frame is drawn without it.
@@ -31,7 +31,7 @@ fn main() -> Result<(), Box<dyn Error>> {
             &coords,
             &paths,
             &mut backdrops,
-            &mut tiles,
+            &mut stored,
             &mut tally,
             &mut refs,
             &mut segments,
@@ -62,7 +62,7 @@ fn main() -> Result<(), Box<dyn Error>> {
         &paths,
         &paints,
         &backdrops,
-        &tiles,
+        &stored,
         &tally,
         SCREEN.cols,
         SCREEN.rows,

@@ -43,18 +43,18 @@ impl fmt::Display for FrameStopped {
 
 impl std::error::Error for FrameStopped {}
 
-/// Draws all lines into tiles and segments: backdrops and tiles are cleared, the lines counted, the
+/// Draws all lines into tiles and segments: backdrops and counts are cleared, the lines counted, the
 /// backdrops summed, slots handed out with room for the segments lent, and every reference tiled.
-/// Afterwards `backdrops` are the sums, `tiles` the indices of hand-out, `tally` the counts, and the
+/// Afterwards `backdrops` are the sums, `stored` what hand-out left, `tally` the counts, and the
 /// segments below `references` are written.
 ///
 /// ```
 /// use groatpocket::{frame, Refusal, Stage};
 /// let (path_nos, coords, paths) = ([0], [8.0, 8.0, 8.0, 24.0], [0, 0, 2, 2, 0]);
-/// let (mut backdrops, mut tiles, mut tally) = ([7; 4], [7; 4], [7; 4]);
+/// let (mut backdrops, mut stored, mut tally) = ([7; 4], [7; 4], [7; 4]);
 /// let (mut refs, mut segments) = ([0; 8], [0.0; 10]);
 /// let done = frame(
-///     &path_nos, &coords, &paths, &mut backdrops, &mut tiles, &mut tally, &mut refs, &mut segments,
+///     &path_nos, &coords, &paths, &mut backdrops, &mut stored, &mut tally, &mut refs, &mut segments,
 /// ).unwrap();
 /// assert_eq!((done.lines, done.references), (1, 2));
 /// assert_eq!((backdrops, tally), ([0, 0, 0, -1], [1, 0, 1, 0]));
@@ -62,7 +62,7 @@ impl std::error::Error for FrameStopped {}
 ///
 /// // Room for one segment only: hand-out refuses, and what was counted stands.
 /// let stopped = frame(
-///     &path_nos, &coords, &paths, &mut backdrops, &mut tiles, &mut tally, &mut refs, &mut segments[..5],
+///     &path_nos, &coords, &paths, &mut backdrops, &mut stored, &mut tally, &mut refs, &mut segments[..5],
 /// ).unwrap_err();
 /// assert_eq!((stopped.stage, stopped.refused.refusal), (Stage::HandOut, Refusal::NoRoom));
 /// ```
@@ -72,7 +72,7 @@ pub fn frame(
     coords: &[f32],
     paths: &[u32],
     backdrops: &mut [i32],
-    tiles: &mut [u32],
+    stored: &mut [u32],
     tally: &mut [u32],
     refs: &mut [u32],
     segments: &mut [f32],
@@ -86,7 +86,7 @@ pub fn frame(
             coords.as_ptr(), coords.len(),
             paths.as_ptr(), paths.len(),
             backdrops.as_mut_ptr(), backdrops.len(),
-            tiles.as_mut_ptr(), tiles.len(),
+            stored.as_mut_ptr(), stored.len(),
             tally.as_mut_ptr(), tally.len(),
             refs.as_mut_ptr(), refs.len(),
             segments.as_mut_ptr(), segments.len(),

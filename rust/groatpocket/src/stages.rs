@@ -109,7 +109,7 @@ pub fn hand_out(counts: &mut [u32], tally: &mut [u32], room: u32) -> Result<(), 
 }
 
 /// Writes the segments of the references `from..to`, each at its slot, relative to its tile. It stops
-/// before the first refused. `indices` are the counts after [`hand_out`].
+/// before the first refused. `stored` is what [`hand_out`] left in the counts.
 #[allow(clippy::too_many_arguments)]
 pub fn tile(
     from: u32,
@@ -117,7 +117,7 @@ pub fn tile(
     path_nos: &[u32],
     coords: &[f32],
     paths: &[u32],
-    indices: &[u32],
+    stored: &[u32],
     refs: &[u32],
     segments: &mut [f32],
 ) -> Result<(), Refused> {
@@ -129,7 +129,7 @@ pub fn tile(
             path_nos.as_ptr(), path_nos.len(),
             coords.as_ptr(), coords.len(),
             paths.as_ptr(), paths.len(),
-            indices.as_ptr(), indices.len(),
+            stored.as_ptr(), stored.len(),
             refs.as_ptr(), refs.len(),
             from, to,
             segments.as_mut_ptr(), segments.len(),

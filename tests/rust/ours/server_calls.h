@@ -50,7 +50,7 @@ extern uint32_t gp_backdrop(const uint32_t *paths, size_t paths_len, int32_t *ba
 extern uint32_t gp_hand_out(uint32_t *counts, size_t counts_len, uint32_t *tally, size_t tally_len, uint32_t room);
 #endif
 #ifdef HAS_TILE
-extern uint32_t gp_tile(const uint32_t *path_nos, size_t path_nos_len, const float *coords, size_t coords_len, const uint32_t *paths, size_t paths_len, const uint32_t *indices, size_t indices_len, const uint32_t *refs, size_t refs_len, uint32_t from, uint32_t to, float *segments, size_t segments_len, uint32_t *item);
+extern uint32_t gp_tile(const uint32_t *path_nos, size_t path_nos_len, const float *coords, size_t coords_len, const uint32_t *paths, size_t paths_len, const uint32_t *stored, size_t stored_len, const uint32_t *refs, size_t refs_len, uint32_t from, uint32_t to, float *segments, size_t segments_len, uint32_t *item);
 #endif
 #ifdef HAS_FILL
 extern uint32_t gp_fill(const float *segments, size_t segments_len, uint32_t first, uint32_t number, uint32_t even_odd, int32_t backdrop, float x_tile, float y_tile, float *area, size_t area_len);
@@ -59,7 +59,7 @@ extern uint32_t gp_fill(const float *segments, size_t segments_len, uint32_t fir
 extern uint32_t gp_fine(const uint32_t *words, size_t words_len, const float *segments, size_t segments_len, uint32_t width, uint32_t cols, uint32_t rows, uint32_t from, uint32_t to, uint32_t *pixels, size_t pixels_len, uint32_t *item);
 #endif
 #ifdef HAS_FRAME
-extern uint32_t gp_frame(const uint32_t *path_nos, size_t path_nos_len, const float *coords, size_t coords_len, const uint32_t *paths, size_t paths_len, int32_t *backdrops, size_t backdrops_len, uint32_t *tiles, size_t tiles_len, uint32_t *tally, size_t tally_len, uint32_t *refs, size_t refs_len, float *segments, size_t segments_len, uint32_t *stage, uint32_t *item, uint32_t *lines, uint32_t *made);
+extern uint32_t gp_frame(const uint32_t *path_nos, size_t path_nos_len, const float *coords, size_t coords_len, const uint32_t *paths, size_t paths_len, int32_t *backdrops, size_t backdrops_len, uint32_t *stored, size_t stored_len, uint32_t *tally, size_t tally_len, uint32_t *refs, size_t refs_len, float *segments, size_t segments_len, uint32_t *stage, uint32_t *item, uint32_t *lines, uint32_t *made);
 #endif
 #ifdef HAS_LISTS
 extern uint32_t gp_write_lists(const uint32_t *paths, size_t paths_len, const uint32_t *paints, size_t paints_len, const int32_t *backdrops, size_t backdrops_len, const uint32_t *stored, size_t stored_len, const uint32_t *tally, size_t tally_len, uint32_t cols, uint32_t rows, uint32_t room, uint32_t *words, size_t words_len, uint32_t *item);

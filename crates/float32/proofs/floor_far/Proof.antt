@@ -6,7 +6,7 @@ use lib.Dec.{T}
 use lib.Ieee.{Float, binary32, fits, lt, sub, ofBits}
 use Rattle.float32.specs.Meaning.{truncOf, floorOf, unit}
 use Rattle.float32.proofs.Tests.{yes}
-use Rattle.float32.proofs.Steps.{floor-down, floor-stay}
+use Rattle.float32.proofs.Floors.{floor-down, floor-stay}
 use Rattle.float32.proofs.floor_far.Statement.{statement}
 use Rattle.float32.proofs.floor_far.Tie as tie
 

@@ -13,11 +13,11 @@ use Rattle.path_tiling.proofs.tile_range.Statement.{statement}
 use Rattle.path_tiling.proofs.tile_range.Tie as tie
 
 abbrev Inv-loop : tie.InvT-loop
-Inv-loop from to path-nos coords paths indices refs segments₀ slots k₀ segments k =
-    Going from to (lent path-nos coords paths indices refs) slots segments₀ segments k
+Inv-loop from to path-nos coords paths stored refs segments₀ slots k₀ segments k =
+    Going from to (lent path-nos coords paths stored refs) slots segments₀ segments k
 
 abbrev μ-loop : tie.MeasureT-loop
-μ-loop from to path-nos coords paths indices refs segments₀ slots k₀ segments k = to - k
+μ-loop from to path-nos coords paths stored refs segments₀ slots k₀ segments k = to - k
 
 slots-of-requires : tie.Need-slots-of-requires Inv-loop μ-loop
 slots-of-requires c κs = search needs

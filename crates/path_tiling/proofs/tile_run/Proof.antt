@@ -11,10 +11,10 @@ use Rattle.path_tiling.proofs.tile_run.Statement.{statement}
 use Rattle.path_tiling.proofs.tile_run.Tie as tie
 
 abbrev Inv-loop : tie.InvT-loop
-Inv-loop found line from to indices refs slots segments₀ k₀ segments k = Running indices slots refs found (line .0) from to segments₀ segments k
+Inv-loop found line from to stored refs slots segments₀ k₀ segments k = Running stored slots refs found (line .0) from to segments₀ segments k
 
 abbrev μ-loop : tie.MeasureT-loop
-μ-loop found line from to indices refs slots segments₀ k₀ segments k = to - k
+μ-loop found line from to stored refs slots segments₀ k₀ segments k = to - k
 
 loop-holds : tie.Need-loop-holds Inv-loop μ-loop
 loop-holds c = record { low = le-refl _; high = c .before .before .before .pre .2; long = refl; left = refl }

@@ -83,17 +83,17 @@ impl Scene {
         let mut records = vec![SegmentCount::default(); self.room];
         let mut bump = oracle::BumpAllocators { lines: lines.len() as u32, seg_counts: 0 };
         oracle::raw::count(&mut bump, &lines, &paths, &mut tiles, &mut records);
-        let mut indices: Vec<u32> = tiles.iter().map(|t| t.segment_count_or_ix).collect();
-        let mut tally = indices.clone();
-        assert_eq!(rules::hand_out(&mut indices, &mut tally, self.room as u32), 0);
+        let mut stored: Vec<u32> = tiles.iter().map(|t| t.segment_count_or_ix).collect();
+        let mut tally = stored.clone();
+        assert_eq!(rules::hand_out(&mut stored, &mut tally, self.room as u32), 0);
         let refs = records.iter().flat_map(|r| [r.line_ix, r.counts]).collect();
-        Counted { refs, indices, records }
+        Counted { refs, stored, records }
     }
 }
 
 pub struct Counted {
     pub refs: Vec<u32>,
-    pub indices: Vec<u32>,
+    pub stored: Vec<u32>,
     pub records: Vec<SegmentCount>,
 }
 

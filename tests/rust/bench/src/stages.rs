@@ -113,7 +113,7 @@ fn tile_scene(kind: Kind, n: usize, rounds: usize) -> Times {
     let counted = scene.counted();
     let lines = oracle::lines_of(&scene.path_nos, &scene.coords);
     let paths = oracle::paths_of(&scene.paths);
-    let tiles: Vec<Tile> = counted.indices.iter().map(|&i| Tile { backdrop: 0, segment_count_or_ix: i }).collect();
+    let tiles: Vec<Tile> = counted.stored.iter().map(|&i| Tile { backdrop: 0, segment_count_or_ix: i }).collect();
     let mut records = vec![PathSegment::default(); scene.room];
     let mut mine = vec![0.0f32; 5 * scene.room];
     let all = scene.room as u32;
@@ -128,7 +128,7 @@ fn tile_scene(kind: Kind, n: usize, rounds: usize) -> Times {
         || {
             mine.fill(0.0);
             timed(|| {
-                let no = ours::tile(&scene.path_nos, &scene.coords, &scene.paths, &counted.indices, &counted.refs, 0, all, &mut mine, &mut 0);
+                let no = ours::tile(&scene.path_nos, &scene.coords, &scene.paths, &counted.stored, &counted.refs, 0, all, &mut mine, &mut 0);
                 assert_eq!(no, 0);
             })
         },

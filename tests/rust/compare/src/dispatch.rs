@@ -133,13 +133,13 @@ macro_rules! answered_by {
                     );
                     vec![no, 0]
                 }
-                (4, [path_nos, coords, paths, indices, refs, segments]) => {
+                (4, [path_nos, coords, paths, stored, refs, segments]) => {
                     let mut item = UNTOLD;
                     let no = $side::tile(
                         path_nos.u32s(),
                         coords.f32s(),
                         paths.u32s(),
-                        indices.u32s(),
+                        stored.u32s(),
                         refs.u32s(),
                         n[0],
                         n[1],
@@ -176,7 +176,7 @@ macro_rules! answered_by {
                     );
                     vec![no, item]
                 }
-                (7, [path_nos, coords, paths, backdrops, tiles, tally, refs, segments]) => {
+                (7, [path_nos, coords, paths, backdrops, stored, tally, refs, segments]) => {
                     let mut stage = UNTOLD;
                     let mut item = UNTOLD;
                     let mut lines = UNTOLD;
@@ -186,7 +186,7 @@ macro_rules! answered_by {
                         coords.f32s(),
                         paths.u32s(),
                         backdrops.i32s_mut(),
-                        tiles.u32s_mut(),
+                        stored.u32s_mut(),
                         tally.u32s_mut(),
                         refs.u32s_mut(),
                         segments.f32s_mut(),

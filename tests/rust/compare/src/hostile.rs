@@ -89,9 +89,9 @@ fn good(rng: &mut Rng, kind: u32) -> Call {
         4 => {
             let made = rng.below(6) as usize;
             let refs = (0..made).flat_map(|_| [rng.below(n.max(1) as u64) as u32, rng.below(3) as u32 * STEP_RANGE + rng.below(4) as u32]).collect();
-            let indices = (0..tiles).map(|_| if rng.one_in(4) { 0 } else { !(rng.below(20) as u32) }).collect();
+            let stored = (0..tiles).map(|_| if rng.one_in(4) { 0 } else { !(rng.below(20) as u32) }).collect();
             let room = 5 * rng.below(30) as usize;
-            (vec![0, made as u32], vec![path_nos, coords, paths, indices, refs, words(rng, room)])
+            (vec![0, made as u32], vec![path_nos, coords, paths, stored, refs, words(rng, room)])
         }
         5 => {
             let numbers = vec![0, n as u32, rng.below(3) as u32, rng.range(-2, 2) as u32, 0, 0];

@@ -12,12 +12,12 @@ pub struct Case {
     pub path_nos: Vec<u32>,
     pub coords: Vec<u32>,
     pub paths: Vec<u32>,
-    pub indices: Vec<u32>,
+    pub stored: Vec<u32>,
     pub refs: Vec<u32>,
     pub segments: Vec<u32>,
     /// The ranges of references, in order.
     pub ranges: Vec<(u32, u32)>,
-    /// Whether counting and hand-out made the references and the indices.
+    /// Whether counting and hand-out made the references and the stored.
     pub counted: bool,
 }
 
@@ -41,10 +41,10 @@ pub fn counted(rng: &mut Rng, most: i64, n: usize) -> (Case, u32) {
     refs.truncate(2 * made as usize);
     let mut tally = vec![0; tiles];
     rules::hand_out(&mut counts, &mut tally, u32::MAX);
-    (Case { path_nos, coords, paths, indices: counts, refs, segments: vec![], ranges: vec![], counted: true }, made)
+    (Case { path_nos, coords, paths, stored: counts, refs, segments: vec![], ranges: vec![], counted: true }, made)
 }
 
-/// References and indices that no counting made, and lengths and ranges that are wrong.
+/// References and stored that no counting made, and lengths and ranges that are wrong.
 fn invent(rng: &mut Rng, case: &mut Case) {
     let lines = case.path_nos.len() as u64;
     let kind = rng.below(4);
@@ -70,10 +70,10 @@ fn invent(rng: &mut Rng, case: &mut Case) {
             _ => rng.below(lines.max(1)) as u32,
         };
     }
-    if kind >= 2 && !case.indices.is_empty() {
+    if kind >= 2 && !case.stored.is_empty() {
         for _ in 0..rng.range(1, 6) {
-            let k = rng.below(case.indices.len() as u64) as usize;
-            case.indices[k] = rng.pick(&[0, 1, 0x7fff_ffff, 0x8000_0000, u32::MAX, !5, !(ROOM_MOST as u32 - 1), !(ROOM_MOST as u32), !(1 << 30)]);
+            let k = rng.below(case.stored.len() as u64) as usize;
+            case.stored[k] = rng.pick(&[0, 1, 0x7fff_ffff, 0x8000_0000, u32::MAX, !5, !(ROOM_MOST as u32 - 1), !(ROOM_MOST as u32), !(1 << 30)]);
         }
     }
 }
@@ -88,7 +88,7 @@ fn spoil(rng: &mut Rng, case: &mut Case) {
         5 => case.ranges.push((case.refs.len() as u32 / 2, case.refs.len() as u32 / 2 + 1)),
         6 => case.ranges.push((2, 1)),
         7..=9 => spoil_line(rng, &mut case.path_nos, &mut case.coords, &case.paths),
-        _ => boxes::spoil(rng, &mut case.paths, case.indices.len()),
+        _ => boxes::spoil(rng, &mut case.paths, case.stored.len()),
     }
 }
 
@@ -134,16 +134,16 @@ impl Stage for Tile {
     }
 
     fn check(&self, case: &Case, sides: Sides, table: &mut Table) -> Result<(), String> {
-        let slices = [&case.path_nos, &case.coords, &case.paths, &case.indices, &case.refs];
+        let slices = [&case.path_nos, &case.coords, &case.paths, &case.stored, &case.refs];
         let lent = slices.map(|words| Lent::new(words));
-        let [path_nos, coords, paths, indices, refs] = &lent;
+        let [path_nos, coords, paths, stored, refs] = &lent;
         let mut by_rules = Lent::new(&case.segments);
         let mut by_ours = Lent::new(&case.segments);
         let mut by_rust = Lent::new(&case.segments);
         for &(from, to) in &case.ranges {
             let mut item = 0xabcd;
             let number =
-                rules::tile(path_nos.u32s(), coords.f32s(), paths.u32s(), indices.u32s(), refs.u32s(), from, to, by_rules.f32s_mut(), &mut item);
+                rules::tile(path_nos.u32s(), coords.f32s(), paths.u32s(), stored.u32s(), refs.u32s(), from, to, by_rules.f32s_mut(), &mut item);
             table.answer(number);
             if case.counted {
                 table.add(if number == 12 { "12 of references counted" } else { "ranges counted" }, 1);
@@ -154,7 +154,7 @@ impl Stage for Tile {
                     path_nos.u32s(),
                     coords.f32s(),
                     paths.u32s(),
-                    indices.u32s(),
+                    stored.u32s(),
                     refs.u32s(),
                     from,
                     to,
@@ -173,7 +173,7 @@ impl Stage for Tile {
                     path_nos.u32s(),
                     coords.f32s(),
                     paths.u32s(),
-                    indices.u32s(),
+                    stored.u32s(),
                     refs.u32s(),
                     from as usize,
                     stop as usize,
@@ -216,11 +216,11 @@ impl Stage for Tile {
             return format!("  {} paths", case.paths.len() / 5);
         }
         format!(
-            "  paths {:?}\n  path numbers {:?}\n  coordinates {}\n  indices {}\n  references {}\n  room {} words, ranges {:?}",
+            "  paths {:?}\n  path numbers {:?}\n  coordinates {}\n  stored {}\n  references {}\n  room {} words, ranges {:?}",
             case.paths,
             case.path_nos,
             hex(&case.coords),
-            hex(&case.indices),
+            hex(&case.stored),
             hex(&case.refs),
             case.segments.len(),
             case.ranges

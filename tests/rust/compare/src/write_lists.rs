@@ -215,7 +215,7 @@ impl Memory {
 
     /// The words, and that what is only read is as it was made.
     fn same_as(&self, wanted: &Memory) -> Result<(), String> {
-        let names = ["paths", "paints", "backdrops", "stored indices", "tally"];
+        let names = ["paths", "paints", "backdrops", "stored words", "tally"];
         for ((got, wanted), name) in self.tables.iter().zip(&wanted.tables).zip(names) {
             same_words(name, got.u32s(), wanted.u32s())?;
             same(name, got.guards_stand(), true)?;

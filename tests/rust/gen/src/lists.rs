@@ -430,7 +430,7 @@ struct Tiling {
     path_nos: Vec<u32>,
     coords: Vec<u32>,
     paths: Vec<u32>,
-    indices: Vec<u32>,
+    stored: Vec<u32>,
     refs: Vec<u32>,
     room: usize,
     from: u32,
@@ -442,15 +442,15 @@ impl Tiling {
     fn of(case: &Counting) -> Tiling {
         let done = case.written();
         let made = done.answer[3] as usize;
-        let mut indices = done.after[1].1.clone();
-        let mut tally = vec![0; indices.len()];
-        rules::hand_out(&mut indices, &mut tally, u32::MAX);
+        let mut stored = done.after[1].1.clone();
+        let mut tally = vec![0; stored.len()];
+        rules::hand_out(&mut stored, &mut tally, u32::MAX);
         let refs = done.after[2].1[..2 * made].to_vec();
         Tiling {
             path_nos: case.path_nos.clone(),
             coords: case.coords.clone(),
             paths: case.paths.clone(),
-            indices,
+            stored,
             refs,
             room: made,
             from: 0,
@@ -463,14 +463,14 @@ impl Tiling {
         let mut after: Vec<f32> = as_f32(&before).to_vec();
         let mut item = 0;
         let number =
-            rules::tile(&self.path_nos, as_f32(&self.coords), &self.paths, &self.indices, &self.refs, self.from, self.to, &mut after, &mut item);
+            rules::tile(&self.path_nos, as_f32(&self.coords), &self.paths, &self.stored, &self.refs, self.from, self.to, &mut after, &mut item);
         if number == 0 {
             let mut by_rust: Vec<f32> = as_f32(&before).to_vec();
             let ran = oracle::tile(
                 &self.path_nos,
                 as_f32(&self.coords),
                 &self.paths,
-                &self.indices,
+                &self.stored,
                 &self.refs,
                 self.from as usize,
                 self.to as usize,
@@ -482,7 +482,7 @@ impl Tiling {
         Written {
             kind: 4,
             numbers: vec![self.from, self.to],
-            before: vec![self.path_nos.clone(), self.coords.clone(), self.paths.clone(), self.indices.clone(), self.refs.clone(), before],
+            before: vec![self.path_nos.clone(), self.coords.clone(), self.paths.clone(), self.stored.clone(), self.refs.clone(), before],
             answer: vec![number, item],
             after: vec![(5, float_bits(&after))],
         }
@@ -535,16 +535,16 @@ pub fn tiling() -> String {
     )
 }
 
-/// Altered references, indices, room and ranges.
+/// Altered references, stored, room and ranges.
 fn invented(list: &mut List, rng: &mut Rng, mut tiling: Tiling) {
     let all = tiling.refs.len() as u64;
-    if all == 0 || tiling.indices.is_empty() {
+    if all == 0 || tiling.stored.is_empty() {
         return;
     }
     match rng.below(8) {
         0 => tiling.refs[rng.below(all) as usize] = rng.u32(),
         1 => tiling.refs[(rng.below(all) | 1) as usize] += 1 + rng.below(4) as u32,
-        2 => tiling.indices[0] = rng.pick(&[0, 5, 0x7fff_ffff, u32::MAX, 0x8000_0000]),
+        2 => tiling.stored[0] = rng.pick(&[0, 5, 0x7fff_ffff, u32::MAX, 0x8000_0000]),
         3 => tiling.room = tiling.room.saturating_sub(1),
         4 => tiling.from = tiling.to + 1,
         5 => tiling.from = rng.below(tiling.to as u64) as u32,

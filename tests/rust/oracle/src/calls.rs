@@ -87,7 +87,7 @@ pub fn tile(
     path_nos: &[u32],
     coords: &[f32],
     paths: &[u32],
-    indices: &[u32],
+    stored: &[u32],
     refs: &[u32],
     from: usize,
     to: usize,
@@ -95,7 +95,7 @@ pub fn tile(
 ) -> Result<(), Stopped> {
     let lines = lines_of(path_nos, coords);
     let paths = paths_of(paths);
-    let tiles: Vec<Tile> = indices.iter().map(|&i| Tile { backdrop: 0, segment_count_or_ix: i }).collect();
+    let tiles: Vec<Tile> = stored.iter().map(|&i| Tile { backdrop: 0, segment_count_or_ix: i }).collect();
     let refs: Vec<SegmentCount> = refs[2 * from..2 * to].chunks_exact(2).map(|r| SegmentCount { line_ix: r[0], counts: r[1] }).collect();
     let mut records = segments_of(segments);
     let mut bump = BumpAllocators { lines: lines.len() as u32, seg_counts: refs.len() as u32 };

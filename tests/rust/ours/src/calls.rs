@@ -57,7 +57,7 @@ pub fn tile(
     path_nos: &[u32],
     coords: &[f32],
     paths: &[u32],
-    indices: &[u32],
+    stored: &[u32],
     refs: &[u32],
     from: u32,
     to: u32,
@@ -65,11 +65,11 @@ pub fn tile(
     item: &mut u32,
 ) -> u32 {
     #[cfg(feature = "tile")]
-    let answer = groatpocket::tile(from, to, path_nos, coords, paths, indices, refs, segments);
+    let answer = groatpocket::tile(from, to, path_nos, coords, paths, stored, refs, segments);
     #[cfg(feature = "tile")]
     return crate::answers::item(answer, item);
     #[cfg(not(feature = "tile"))]
-    not_linked(("tile", path_nos, coords, paths, indices, refs, from, to, segments, item))
+    not_linked(("tile", path_nos, coords, paths, stored, refs, from, to, segments, item))
 }
 
 pub fn fill(
@@ -120,7 +120,7 @@ pub fn frame(
     coords: &[f32],
     paths: &[u32],
     backdrops: &mut [i32],
-    tiles: &mut [u32],
+    stored: &mut [u32],
     tally: &mut [u32],
     refs: &mut [u32],
     segments: &mut [f32],
@@ -130,11 +130,11 @@ pub fn frame(
     made: &mut u32,
 ) -> u32 {
     #[cfg(feature = "frame")]
-    let answer = groatpocket::frame(path_nos, coords, paths, backdrops, tiles, tally, refs, segments);
+    let answer = groatpocket::frame(path_nos, coords, paths, backdrops, stored, tally, refs, segments);
     #[cfg(feature = "frame")]
     return crate::answers::stage_item_lines_made(answer, stage, item, lines, made);
     #[cfg(not(feature = "frame"))]
-    not_linked(("frame", path_nos, coords, paths, backdrops, tiles, tally, refs, segments, stage, item, lines, made))
+    not_linked(("frame", path_nos, coords, paths, backdrops, stored, tally, refs, segments, stage, item, lines, made))
 }
 
 pub fn write_lists(

@@ -92,7 +92,7 @@ pub struct Lent<'a> {
     pub path_nos: &'a [u32],
     pub coords: &'a [f32],
     pub paths: &'a [u32],
-    pub indices: &'a [u32],
+    pub stored: &'a [u32],
 }
 
 /// The slot and the segment of a reference, nothing where its tile is empty, or its refusal.
@@ -112,7 +112,7 @@ pub fn piece(lent: &Lent, reference: &[u32], room: i64) -> Result<Option<(usize,
         return Err(NO_SUCH);
     }
     let (x, y) = w.step_by_two_casts(i, &at).ok_or(OFF_BOX)?;
-    let stored = lent.indices[at.tile(x, y)];
+    let stored = lent.stored[at.tile(x, y)];
     if stored < 1 << 31 {
         return Ok(None); // its NOT is negative as i32
     }
@@ -131,7 +131,7 @@ pub fn tile(
     path_nos: &[u32],
     coords: &[f32],
     paths: &[u32],
-    indices: &[u32],
+    stored: &[u32],
     refs: &[u32],
     from: u32,
     to: u32,
@@ -149,11 +149,11 @@ pub fn tile(
         if !shape {
             return Err((BAD_SHAPE, 0));
         }
-        if too_many(paths, indices.len()) {
+        if too_many(paths, stored.len()) {
             return Err((TOO_MANY, 0));
         }
-        check_paths(paths, indices.len())?;
-        let lent = Lent { path_nos, coords, paths, indices };
+        check_paths(paths, stored.len())?;
+        let lent = Lent { path_nos, coords, paths, stored };
         let room = (segments.len() / SEGMENT) as i64;
         for r in from..to {
             let k = REF * r as usize;

@@ -24,12 +24,12 @@ fn counted(b: [u32; 4], line: [f32; 4], counts: &[u32]) -> Counted {
 
 fn segments(line: [f32; 4]) -> Vec<Vec<u32>> {
     let c = counted([0, 0, 2, 2], line, &[0; 4]);
-    let (mut indices, mut tally) = (c.counts.clone(), vec![0; 4]);
-    assert_eq!(hand_out(&mut indices, &mut tally, 16), 0);
+    let (mut stored, mut tally) = (c.counts.clone(), vec![0; 4]);
+    assert_eq!(hand_out(&mut stored, &mut tally, 16), 0);
     let refs: Vec<u32> = c.refs.iter().flat_map(|r| [r.0, r.1]).collect();
     let mut out = vec![0.0; 5 * c.refs.len()];
     let mut item = 0;
-    assert_eq!(tile(&[0], &line, &[0, 0, 2, 2, 0], &indices, &refs, 0, c.refs.len() as u32, &mut out, &mut item), 0);
+    assert_eq!(tile(&[0], &line, &[0, 0, 2, 2, 0], &stored, &refs, 0, c.refs.len() as u32, &mut out, &mut item), 0);
     out.chunks(5).map(|s| s.iter().map(|v| v.to_bits()).collect()).collect()
 }
 

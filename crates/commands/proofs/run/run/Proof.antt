@@ -10,7 +10,7 @@ use Rattle.panel.specs.Limits.{mostCommands}
 use Rattle.panel.specs.Widths.{segmentFloats}
 use Rattle.panel.specs.declared.kinds.Verdict.{Verdict}
 use Rattle.coverage.specs.Tile.{tileSize}
-use Rattle.commands.specs.Steps.{Trace, ends, does, traceOf}
+use Rattle.commands.specs.Moves.{Trace, ends, does, traceOf}
 use Rattle.commands.specs.Pixel.{coverAll, paintAll, noArea, ran, runOf}
 use Rattle.commands.specs.declared.steps.Act.{Act}
 use Rattle.commands.proofs.Acts.{length-cover, length-paint, move-within}

@@ -2,7 +2,7 @@
 use Prim.Native.Nat.{_+_}
 use native.Mathlib.Omega.{arith}
 use borrow.Author.Tests.{le-leb, lt-leb}
-use Rattle.commands.specs.Steps.{fillMove}
+use Rattle.commands.specs.Moves.{fillMove}
 use borrow.Author.Needs.{needs}
 use Rattle.commands.proofs.steps.fill_move.Statement.{statement}
 use Rattle.commands.proofs.steps.fill_move.Tie as tie

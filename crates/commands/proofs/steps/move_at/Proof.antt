@@ -8,7 +8,7 @@ use denote.Ref.{now}
 use borrow.Author.Tests.{le-leb, lt-leb}
 use Rattle.panel.specs.Refusals.{pastEnd}
 use Rattle.commands.specs.Numbers.{wordsOf}
-use Rattle.commands.specs.Steps.{wholeMove, moveOf}
+use Rattle.commands.specs.Moves.{wholeMove, moveOf}
 use Rattle.commands.specs.declared.steps.Op.{Op}
 use Rattle.commands.specs.declared.steps.Op.the-variants.{Fill, Solid, Color, Jump, Unknown}
 use Rattle.commands.specs.declared.steps.Move.{Move}

@@ -1,6 +1,6 @@
 -- `commands::steps::op_of` meets its contract. Assumes nothing.
 use borrow.Author.Tests.{eq-eqb, ne-eqb}
-use Rattle.commands.specs.Steps.{opOf}
+use Rattle.commands.specs.Moves.{opOf}
 use Rattle.commands.proofs.steps.op_of.Statement.{statement}
 use Rattle.commands.proofs.steps.op_of.Tie as tie
 

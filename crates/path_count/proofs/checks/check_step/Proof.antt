@@ -19,7 +19,7 @@ use Rattle.path_count.specs.Notes.{zOf, seenOf}
 use Rattle.path_count.specs.declared.kinds.Seen.{Seen}
 use Rattle.path_count.specs.declared.kinds.Seen.the-variants.{Passed}
 use Rattle.walk.proofs.Tiles.{step-told, tile-in}
-use Rattle.path_count.proofs.Steps.{hit-off, hit-on, next-below}
+use Rattle.path_count.proofs.StepLaws.{hit-off, hit-on, next-below}
 use Rattle.path_count.proofs.checks.check_step.Statement.{statement}
 use Rattle.path_count.proofs.checks.check_step.Tie as tie
 use Rattle.path_count.proofs.checks.check_step.Reads as reads

@@ -15,7 +15,7 @@ use Rattle.path_count.specs.declared.kinds.Seen.{Seen}
 use Rattle.exact.proofs.Limits.{far}
 use Rattle.walk.proofs.Counts.{in-float}
 use Rattle.walk.proofs.Walks.{last-z}
-use Rattle.path_count.proofs.Steps.{seen-passed, seen-against}
+use Rattle.path_count.proofs.StepLaws.{seen-passed, seen-against}
 use Rattle.path_count.proofs.checks.check_steps.Statement.{statement}
 use Rattle.path_count.proofs.checks.check_steps.Tie as tie
 use Rattle.path_count.proofs.checks.check_steps.Reads as reads

@@ -20,7 +20,7 @@ use Rattle.path_count.specs.declared.kinds.Noted.{Noted}
 use Rattle.path_count.specs.declared.kinds.Seen.{Seen}
 use Rattle.path_count.specs.declared.kinds.Noted.the-variants.{Passed}
 use Rattle.walk.proofs.Tiles.{step-told, tile-in}
-use Rattle.path_count.proofs.Steps.{hit-off, hit-on, next-below, noted-by, none-leaves}
+use Rattle.path_count.proofs.StepLaws.{hit-off, hit-on, next-below, noted-by, none-leaves}
 use Rattle.path_count.proofs.checks.note_step.Statement.{statement}
 use Rattle.path_count.proofs.checks.note_step.Tie as tie
 use Rattle.path_count.proofs.checks.note_step.Reads as reads

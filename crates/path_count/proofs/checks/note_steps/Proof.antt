@@ -15,7 +15,7 @@ use Rattle.path_count.specs.Notes.{Told, Notes}
 use Rattle.exact.proofs.Limits.{far}
 use Rattle.walk.proofs.Counts.{in-float}
 use Rattle.walk.proofs.Walks.{last-z}
-use Rattle.path_count.proofs.Steps.{noted-passed, noted-against, step-noted, notes-turn, not-fine}
+use Rattle.path_count.proofs.StepLaws.{noted-passed, noted-against, step-noted, notes-turn, not-fine}
 use Rattle.path_count.proofs.checks.note_steps.Statement.{statement}
 use Rattle.path_count.proofs.checks.note_steps.Tie as tie
 use Rattle.path_count.proofs.checks.note_steps.Reads as reads

@@ -10,7 +10,7 @@ use Rattle.acts.specs.declared.rows.Rows.{Rows}
 use Rattle.acts.proofs.Laws.{check-goes, check-stops}
 use Rattle.path_count.specs.Count.{rowsBy}
 use Rattle.path_count.proofs.Lines.{rows-in}
-use Rattle.path_count.proofs.Steps.{not-fine}
+use Rattle.path_count.proofs.StepLaws.{not-fine}
 use Rattle.path_count.proofs.line.check_line.Statement.{statement}
 use Rattle.path_count.proofs.line.check_line.Tie as tie
 use Rattle.path_count.proofs.line.check_line.Reads as reads

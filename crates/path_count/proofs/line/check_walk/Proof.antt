@@ -8,7 +8,7 @@ use lib.ListN.{length}
 use Rattle.acts.proofs.Laws.{steps-halves, check-goes, check-stops}
 use Rattle.path_count.specs.Steps.{hitAt}
 use Rattle.path_count.specs.Notes.{noteWords, notedTo, Notes}
-use Rattle.path_count.proofs.Steps.{noted-end, not-fine}
+use Rattle.path_count.proofs.StepLaws.{noted-end, not-fine}
 use Rattle.path_count.proofs.line.check_walk.Statement.{statement}
 use Rattle.path_count.proofs.line.check_walk.Tie as tie
 use Rattle.path_count.proofs.line.check_walk.Reads as reads

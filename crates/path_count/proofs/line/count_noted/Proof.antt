@@ -12,9 +12,9 @@ use borrow.Author.Needs.{needs}
 use Rattle.lists.specs.Run.{Step}
 use Rattle.panel.specs.Widths.{refWords}
 use Rattle.walk.specs.Lent.{walkAt}
-use Rattle.walk.specs.declared.lent.Walked.{Walked}
-use Rattle.walk.specs.declared.lent.Walked.the-variants.{Refused as WalkRefused, Skipped, Line}
-use Rattle.walk.proofs.lent.Walked.{the-type}
+use Rattle.walk.specs.declared.kinds.Walked.{Walked}
+use Rattle.walk.specs.declared.kinds.Walked.the-variants.{Refused as WalkRefused, Skipped, Line}
+use Rattle.walk.proofs.setup.Walked.{the-type}
 use Rattle.acts.specs.Acts.{St, stOf}
 use Rattle.path_count.specs.Count.{lineRan}
 use Rattle.path_count.proofs.Lines.{on-tiles, walkable, line-over, line-walked}
@@ -25,7 +25,7 @@ use Rattle.path_count.proofs.line.count_noted.Reads as reads
 use Rattle.path_count.proofs.line.count_noted.Lts as lts
 use Rattle.path_count.proofs.line.count_walk.Reads as count-walk-reads
 use Rattle.path_count.proofs.line.unwalked.Reads as unwalked-reads
-use Rattle.walk.proofs.found.walk_at.Reads as walk-at-reads
+use Rattle.walk.proofs.setup.walk_at.Reads as walk-at-reads
 
 returns : tie.Need-returns
 returns c =

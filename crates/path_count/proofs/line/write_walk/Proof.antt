@@ -11,7 +11,7 @@ use Rattle.acts.specs.Acts.{Act, stOf, runActs, stepsActs, isDone, deltaOf}
 use Rattle.acts.proofs.Laws.{steps-halves, run-goes, run-first}
 use Rattle.path_count.specs.Steps.{hitAt}
 use Rattle.path_count.specs.Notes.{hitsBy, noteWords, notedTo, Notes, OnTiles}
-use Rattle.path_count.proofs.Steps.{noted-end, notes-acts}
+use Rattle.path_count.proofs.StepLaws.{noted-end, notes-acts}
 use Rattle.path_count.proofs.line.write_walk.Statement.{statement}
 use Rattle.path_count.proofs.line.write_walk.Tie as tie
 use Rattle.path_count.proofs.line.write_walk.Reads as reads

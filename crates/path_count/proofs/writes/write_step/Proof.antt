@@ -11,7 +11,7 @@ use Rattle.acts.specs.Acts.{on}
 use Rattle.acts.proofs.Laws.{write-off, write-count, write-bump, write-hit}
 use Rattle.path_count.specs.Steps.{hitAt}
 use Rattle.walk.proofs.Tiles.{step-told, tile-in}
-use Rattle.path_count.proofs.Steps.{hit-off, hit-on, next-below}
+use Rattle.path_count.proofs.StepLaws.{hit-off, hit-on, next-below}
 use Rattle.path_count.proofs.writes.write_step.Statement.{statement}
 use Rattle.path_count.proofs.writes.write_step.Tie as tie
 use Rattle.path_count.proofs.writes.write_step.Reads as reads

@@ -10,7 +10,7 @@ use mir.Syntax.{w32}
 use mir.ValLaws.{toZ-ofZ}
 use Rattle.util.specs.Constants as Number
 use Rattle.coverage.specs.Coverage.{pixelOf}
-use Rattle.commands.specs.Steps.{countOf}
+use Rattle.commands.specs.Moves.{countOf}
 use Rattle.commands.specs.Pixel.{evenOddOf, signedOf, cover, Within}
 use Rattle.commands.specs.declared.steps.Act.{Act}
 use Rattle.commands.specs.declared.steps.Act.the-variants.{Fill, Solid, Color, Jump}

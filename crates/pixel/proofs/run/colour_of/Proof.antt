@@ -11,7 +11,7 @@ use Rattle.panel.specs.declared.kinds.Verdict.{Verdict}
 use Rattle.panel.specs.declared.kinds.Verdict.the-variants.{Fine, Against}
 use Rattle.colours.specs.Colour.{packOf}
 use Rattle.commands.specs.Numbers.{startOf}
-use Rattle.commands.specs.Steps.{Trace, ends, does, traceOf}
+use Rattle.commands.specs.Moves.{Trace, ends, does, traceOf}
 use Rattle.commands.specs.Pixel.{pointOf}
 use Rattle.commands.specs.declared.steps.Act.{Act}
 use Rattle.commands.proofs.Acts.{move-within}

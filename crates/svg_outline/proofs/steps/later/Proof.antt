@@ -1,4 +1,4 @@
-use Rattle.svg_outline.specs.Steps.{laterOf}
+use Rattle.svg_outline.specs.Tokens.{laterOf}
 use mathlib.Core.Path.{refl, sym, _∙_}
 use borrow.Author.Tests.{eq-eqb, ne-eqb, le-leb, lt-leb}
 use Rattle.svg_outline.proofs.steps.later.Statement.{statement}

@@ -40,15 +40,15 @@ fn frame() -> Frame {
     oracle::backdrop(&PATHS, &mut backdrops).unwrap();
     let mut next = 0;
     let mut firsts = vec![0; tiles];
-    let mut indices = vec![0; tiles];
+    let mut stored = vec![0; tiles];
     for (t, &n) in tally.iter().enumerate() {
         firsts[t] = next;
-        indices[t] = if n == 0 { 0 } else { !next };
+        stored[t] = if n == 0 { 0 } else { !next };
         next += n;
     }
     assert_eq!(next, made);
     let mut segments = vec![0f32; 5 * made as usize];
-    oracle::tile(&path_nos, &coords, &PATHS, &indices, &refs, 0, made as usize, &mut segments).unwrap();
+    oracle::tile(&path_nos, &coords, &PATHS, &stored, &refs, 0, made as usize, &mut segments).unwrap();
     eprintln!("{lines} lines, {} paths, {tiles} tiles, {made} references", PATHS.len() / 5);
     Frame { backdrops, tally, firsts, segments }
 }

@@ -18,7 +18,7 @@ use Rattle.exact.proofs.Spans.{span-cast}
 use Rattle.exact.proofs.Columns.{column-is}
 use Rattle.walk.specs.Setup.{endsOf, countsOf}
 use Rattle.walk.specs.Lent.{Reached}
-use Rattle.walk.specs.Found.{leastOf, lastOf, tilesOf, Spans, countsBy, Around}
+use Rattle.walk.specs.Around.{leastOf, lastOf, tilesOf, Spans, countsBy, Around}
 use Rattle.panel.proofs.BoolLaws.{both}
 
 -- ---- the tiles between two edges are the span

@@ -22,7 +22,7 @@ use Rattle.panel.specs.declared.kinds.TileNo.{TileNo}
 use Rattle.panel.specs.declared.kinds.Verdict.{Verdict}
 use Rattle.panel.specs.declared.kinds.Verdict.the-variants.{Fine, Against}
 use Rattle.walk.specs.Step.{Boxed, stepOf, lastZ, crossOf}
-use Rattle.walk.specs.declared.setup.Pace.{Pace}
+use Rattle.walk.specs.declared.kinds.Pace.{Pace}
 use Rattle.walk.specs.declared.step.Step.{Step}
 use Rattle.walk.specs.declared.step.Step.the-variants.{Tile, Refused}
 use Rattle.walk.proofs.Tiles.{tile-in, mark-in, mark-right, tile-once}

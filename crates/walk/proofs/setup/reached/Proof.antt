@@ -1,8 +1,8 @@
--- `walk::lent::reached` meets its contract. Assumes nothing.
+-- `walk::setup::reached` meets its contract. Assumes nothing.
 use borrow.Author.Needs.{needs}
 use Rattle.panel.specs.Limits.{coordMost}
-use Rattle.walk.proofs.lent.reached.Statement.{statement}
-use Rattle.walk.proofs.lent.reached.Tie as tie
+use Rattle.walk.proofs.setup.reached.Statement.{statement}
+use Rattle.walk.proofs.setup.reached.Tie as tie
 
 abs-requires : tie.Need-abs-requires
 abs-requires c κs = search needs

@@ -10,7 +10,7 @@ use Rattle.util.specs.Constants.{one}
 use Rattle.util.specs.declared.Vec2.{Vec2}
 use Rattle.exact.specs.Reach.{coordTiles}
 use Rattle.walk.specs.Setup.{Scaled}
-use Rattle.walk.specs.declared.setup.Counts.{Counts}
+use Rattle.walk.specs.declared.kinds.Counts.{Counts}
 
 -- the smaller and the larger of a and b, no NaN among them
 abbrev pub leastOf : Float → Float → Float

@@ -1,4 +1,4 @@
--- `walk::found::setup` meets its contract. Assumes nothing.
+-- `walk::setup::setup` meets its contract. Assumes nothing.
 use borrow.Author.Needs.{needs}
 use mathlib.Core.Path.{_≡_, sym, ap, _∙_, subst}
 use native.Mathlib.Omega.{arith}
@@ -7,13 +7,13 @@ use Rattle.float32.specs.Meaning.{floorOf, ceilOf}
 use Rattle.float32.proofs.Magic.{ceil-turned}
 use Rattle.exact.proofs.Bounds.{near-within, near-turned}
 use Rattle.exact.proofs.Spans.{near-pick}
-use Rattle.walk.specs.declared.setup.Counts.{Counts}
+use Rattle.walk.specs.declared.kinds.Counts.{Counts}
 use Rattle.walk.specs.Setup.{countsOf, walkOn}
-use Rattle.walk.specs.Found.{Around}
+use Rattle.walk.specs.Around.{Around}
 use Rattle.walk.proofs.Counts.{Few, counts-few}
-use Rattle.walk.proofs.FoundLaws.{both-span, counts-are}
-use Rattle.walk.proofs.found.setup.Statement.{statement}
-use Rattle.walk.proofs.found.setup.Tie as tie
+use Rattle.walk.proofs.AroundLaws.{both-span, counts-are}
+use Rattle.walk.proofs.setup.setup.Statement.{statement}
+use Rattle.walk.proofs.setup.setup.Tie as tie
 
 pick-requires : tie.Need-pick-requires
 pick-requires c κs = search needs

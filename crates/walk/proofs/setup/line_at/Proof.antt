@@ -1,9 +1,9 @@
--- `walk::lent::line_at` meets its contract. Assumes nothing.
+-- `walk::setup::line_at` meets its contract. Assumes nothing.
 use borrow.Author.Needs.{needs}
 use mathlib.Core.Path.{refl}
 use Rattle.walk.specs.Lent.{lineAt}
-use Rattle.walk.proofs.lent.line_at.Statement.{statement}
-use Rattle.walk.proofs.lent.line_at.Tie as tie
+use Rattle.walk.proofs.setup.line_at.Statement.{statement}
+use Rattle.walk.proofs.setup.line_at.Tie as tie
 
 mul-at : tie.Need-mul-at
 mul-at c = search needs

@@ -1,7 +1,7 @@
--- `walk::found::span` meets its contract. Assumes nothing.
+-- `walk::setup::span` meets its contract. Assumes nothing.
 use borrow.Author.Needs.{needs}
-use Rattle.walk.proofs.found.span.Statement.{statement}
-use Rattle.walk.proofs.found.span.Tie as tie
+use Rattle.walk.proofs.setup.span.Statement.{statement}
+use Rattle.walk.proofs.setup.span.Tie as tie
 
 pick-requires : tie.Need-pick-requires
 pick-requires c κs = search needs

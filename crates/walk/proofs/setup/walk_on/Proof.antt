@@ -1,4 +1,4 @@
--- `walk::found::walk_on` meets its contract. Assumes nothing.
+-- `walk::setup::walk_on` meets its contract. Assumes nothing.
 use borrow.Author.Needs.{needs}
 use mathlib.Core.Path.{_≡_}
 use mathlib.Core.Bool.{false}
@@ -7,9 +7,9 @@ use Rattle.exact.proofs.Bounds.{near-within}
 use Rattle.walk.specs.Setup.{Scaled}
 use Rattle.walk.proofs.Counts.{ends-scaled}
 use Rattle.walk.proofs.Lines.{skips, walks}
-use Rattle.walk.proofs.FoundLaws.{ends-ordered}
-use Rattle.walk.proofs.found.walk_on.Statement.{statement}
-use Rattle.walk.proofs.found.walk_on.Tie as tie
+use Rattle.walk.proofs.AroundLaws.{ends-ordered}
+use Rattle.walk.proofs.setup.walk_on.Statement.{statement}
+use Rattle.walk.proofs.setup.walk_on.Tie as tie
 
 order-requires : tie.Need-order-requires
 order-requires c κs = search needs

@@ -1,10 +1,10 @@
--- `walk::found::walk_at` meets its contract. Assumes nothing.
+-- `walk::setup::walk_at` meets its contract. Assumes nothing.
 use borrow.Author.Needs.{needs}
 use native.Mathlib.Omega.{arith}
 use denote.Ref.{now}
 use Rattle.walk.proofs.Lines.{turned-on, turned-off, far-off, no-path, goes}
-use Rattle.walk.proofs.found.walk_at.Statement.{statement}
-use Rattle.walk.proofs.found.walk_at.Tie as tie
+use Rattle.walk.proofs.setup.walk_at.Statement.{statement}
+use Rattle.walk.proofs.setup.walk_at.Tie as tie
 
 line-at-requires : tie.Need-line-at-requires
 line-at-requires c κs = search needs

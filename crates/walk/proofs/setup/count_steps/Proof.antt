@@ -1,9 +1,9 @@
--- `walk::found::count_steps` meets its contract. Assumes nothing.
+-- `walk::setup::count_steps` meets its contract. Assumes nothing.
 use native.Mathlib.Omega.{arith}
 use Rattle.exact.proofs.Limits.{far}
-use Rattle.walk.specs.Found.{countsBy}
-use Rattle.walk.proofs.found.count_steps.Statement.{statement}
-use Rattle.walk.proofs.found.count_steps.Tie as tie
+use Rattle.walk.specs.Around.{countsBy}
+use Rattle.walk.proofs.setup.count_steps.Statement.{statement}
+use Rattle.walk.proofs.setup.count_steps.Tie as tie
 
 span-requires : tie.Need-span-requires
 span-requires c κs = c .pre .0

@@ -1,8 +1,8 @@
--- `walk::found::flat` meets its contract. Assumes nothing.
+-- `walk::setup::flat` meets its contract. Assumes nothing.
 use borrow.Author.Needs.{needs}
 use Rattle.walk.specs.Skip.{flatOf}
-use Rattle.walk.proofs.found.flat.Statement.{statement}
-use Rattle.walk.proofs.found.flat.Tie as tie
+use Rattle.walk.proofs.setup.flat.Statement.{statement}
+use Rattle.walk.proofs.setup.flat.Tie as tie
 
 abs-requires : tie.Need-abs-requires
 abs-requires c κs = search needs

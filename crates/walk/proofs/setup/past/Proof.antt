@@ -1,10 +1,10 @@
--- `walk::found::past` meets its contract. Assumes nothing.
+-- `walk::setup::past` meets its contract. Assumes nothing.
 use borrow.Author.Needs.{needs}
 use Rattle.walk.specs.Num.{float}
 use Rattle.walk.specs.Skip.{pastOf}
 use Rattle.exact.proofs.Spans.{smaller-ge}
-use Rattle.walk.proofs.found.past.Statement.{statement}
-use Rattle.walk.proofs.found.past.Tie as tie
+use Rattle.walk.proofs.setup.past.Statement.{statement}
+use Rattle.walk.proofs.setup.past.Tie as tie
 
 pick-requires : tie.Need-pick-requires
 pick-requires c κs = search needs

@@ -1,10 +1,10 @@
--- `walk::found::rise` meets its contract. Assumes nothing.
+-- `walk::setup::rise` meets its contract. Assumes nothing.
 use borrow.Author.Needs.{needs}
 use mathlib.Core.Path.{_≡_}
 use Rattle.walk.proofs.Counts.{in-float}
 use Rattle.walk.specs.Setup.{aOf}
-use Rattle.walk.proofs.found.rise.Statement.{statement}
-use Rattle.walk.proofs.found.rise.Tie as tie
+use Rattle.walk.proofs.setup.rise.Statement.{statement}
+use Rattle.walk.proofs.setup.rise.Tie as tie
 
 int-to-float-count : tie.Need-int-to-float-count
 int-to-float-count c = in-float (c .before .before .args .k .count) (c .before .before .pre .1)

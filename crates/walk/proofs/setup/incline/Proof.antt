@@ -1,12 +1,12 @@
--- `walk::found::incline` meets its contract. Assumes nothing.
+-- `walk::setup::incline` meets its contract. Assumes nothing.
 use borrow.Author.Needs.{needs}
 use lib.Ieee.{binary32, add, le}
 use Rattle.float32.specs.Meaning.{floorOf}
 use Rattle.util.specs.Constants.{one}
 use Rattle.walk.specs.Setup.{slopeOf}
-use Rattle.walk.proofs.FoundLaws.{column, same-row, off-is}
-use Rattle.walk.proofs.found.incline.Statement.{statement}
-use Rattle.walk.proofs.found.incline.Tie as tie
+use Rattle.walk.proofs.AroundLaws.{column, same-row, off-is}
+use Rattle.walk.proofs.setup.incline.Statement.{statement}
+use Rattle.walk.proofs.setup.incline.Tie as tie
 
 abs-requires : tie.Need-abs-requires
 abs-requires c κs = search needs
