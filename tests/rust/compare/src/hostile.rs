@@ -6,7 +6,8 @@ use crate::calls::{by_ours, by_rules, linked, same_outcome, shape, Call, BYTES, 
 use crate::stage::{hex, Sides, Stage};
 use crate::table::Table;
 use cases::{boxes, floats, lines, segments, Rng};
-use rules::limits::{COORD_MOST, COUNT_MOST, EDGE_MOST, LINES_MOST, PATHS_MOST, ROOM_MOST, STEP_RANGE};
+use rules::limits::{COORD_MOST, COUNT_MOST, EDGE_MOST, LINES_MOST, PATHS_MOST, REF, ROOM_MOST, SEGMENT, STEP_RANGE};
+use rules::records::box_at;
 
 /// Words at the ends of what a word holds, and at the limits.
 const LIMITS: [u32; 11] = [
@@ -74,7 +75,7 @@ fn good(rng: &mut Rng, kind: u32) -> Call {
     let n_paths = rng.range(0, 3) as usize;
     let (paths, tiles) = boxes::table(rng, n_paths, 5);
     let n = rng.range(0, 5) as usize;
-    let b = if paths.is_empty() { [0, 0, 2, 2] } else { [0, 1, 2, 3].map(|k| paths[k] as i64) };
+    let b = if paths.is_empty() { [0, 0, 2, 2] } else { box_at(&paths, 0).map(|v| v as i64) };
     let path_nos: Vec<u32> = (0..n).map(|_| rng.below(n_paths.max(1) as u64) as u32).collect();
     let coords: Vec<u32> = (0..n).flat_map(|_| lines::any(rng, &b).1.map(f32::to_bits)).collect();
     let words = |rng: &mut Rng, n: usize| -> Vec<u32> { (0..n).map(|_| rng.below(4) as u32).collect() };
@@ -90,7 +91,7 @@ fn good(rng: &mut Rng, kind: u32) -> Call {
             let made = rng.below(6) as usize;
             let refs = (0..made).flat_map(|_| [rng.below(n.max(1) as u64) as u32, rng.below(3) as u32 * STEP_RANGE + rng.below(4) as u32]).collect();
             let stored = (0..tiles).map(|_| if rng.one_in(4) { 0 } else { !(rng.below(20) as u32) }).collect();
-            let room = 5 * rng.below(30) as usize;
+            let room = SEGMENT * rng.below(30) as usize;
             (vec![0, made as u32], vec![path_nos, coords, paths, stored, refs, words(rng, room)])
         }
         5 => {
@@ -98,7 +99,7 @@ fn good(rng: &mut Rng, kind: u32) -> Call {
             (numbers, vec![list, words(rng, 256)])
         }
         7 => {
-            let (refs, room) = (2 * rng.below(60) as usize, 5 * rng.below(60) as usize);
+            let (refs, room) = (REF * rng.below(60) as usize, SEGMENT * rng.below(60) as usize);
             let tables = [words(rng, tiles), words(rng, tiles), words(rng, tiles), words(rng, refs), words(rng, room)];
             (vec![], [path_nos, coords, paths].into_iter().chain(tables).collect())
         }

@@ -6,7 +6,8 @@ use crate::SEED;
 use cases::commands::{color, fill, Command, Lists};
 use cases::memory::{as_f32, one_nan};
 use cases::{boxes, floats, lines, segments, Rng};
-use rules::limits::{COMMANDS_MOST, COORD_MOST, COUNT_MOST, EDGE_MOST, ROOM_MOST, TILES_MOST, WALK_MOST};
+use rules::limits::{COMMANDS_MOST, COORD_MOST, COUNT_MOST, EDGE_MOST, ROOM_MOST, SEGMENT, TILES_MOST, WALK_MOST};
+use rules::records::{box_at, path, paths_in};
 
 fn bits(line: [f32; 4]) -> [u32; 4] {
     line.map(|v| one_nan(v.to_bits()))
@@ -280,19 +281,18 @@ fn family_case(rng: &mut Rng, family: usize, round: u64) -> Counting {
     let kind = round % boxes::KINDS;
     let most = if round < 9 { 20 } else { 4 };
     let b = boxes::of_kind(rng, kind, most);
-    let mut paths: Vec<u32> = b.iter().map(|&v| v as u32).collect();
-    paths.push(if round % 4 == 0 { 2 } else { 0 });
-    let mut tiles = paths[4] + ((b[2] - b[0]) * (b[3] - b[1])) as u32;
+    let first = if round % 4 == 0 { 2 } else { 0 };
+    let mut paths = path(b.map(|v| v as u32), first).to_vec();
+    let mut tiles = first + ((b[2] - b[0]) * (b[3] - b[1])) as u32;
     if round % 3 == 0 {
         let second = boxes::of_kind(rng, 1, 3);
-        paths.extend(second.map(|v| v as u32));
-        paths.push(tiles + 1);
+        paths.extend(path(second.map(|v| v as u32), tiles + 1));
         tiles += 1 + ((second[2] - second[0]) * (second[3] - second[1])) as u32;
     }
     let mut case = Counting::new(&paths, tiles as usize + 1);
     for _ in 0..8 {
-        let path = rng.below((paths.len() / 5) as u64) as usize;
-        let b = [0, 1, 2, 3].map(|k| paths[5 * path + k] as i64);
+        let path = rng.below(paths_in(&paths) as u64) as usize;
+        let b = box_at(&paths, path).map(|v| v as i64);
         case = case.with(path as u32, lines::of_family(rng, family, &b));
     }
     if round % 5 == 0 {
@@ -459,7 +459,7 @@ impl Tiling {
     }
 
     fn written(&self) -> Written {
-        let before = vec![0x447a_0000u32; 5 * self.room];
+        let before = vec![0x447a_0000u32; SEGMENT * self.room];
         let mut after: Vec<f32> = as_f32(&before).to_vec();
         let mut item = 0;
         let number =

@@ -18,6 +18,7 @@ pub mod limits;
 pub mod lists;
 pub mod picture;
 pub mod pixel;
+pub mod records;
 pub mod tile;
 pub mod walk;
 
