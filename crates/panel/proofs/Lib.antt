@@ -6,3 +6,4 @@ pub mod PathLaws
 pub mod KindLaws
 pub mod SegmentLaws
 pub mod RecordLaws
+pub mod HeldLaws

@@ -2,6 +2,7 @@
 
 use crate::calls::{Call, NAMES};
 use cases::Rng;
+use rules::limits::{COUNT_MOST, SIDE_MOST};
 
 /// The answers that a call of a kind can give, all of which the hostile runs want to meet.
 pub fn answers(kind: u32) -> &'static [u32] {
@@ -40,7 +41,7 @@ fn count(rng: &mut Rng) -> Call {
             let numbers = vec![path_nos.len() as u32, lines, 0];
             Call { kind: 1, numbers, slices: vec![path_nos, coords, square.to_vec(), vec![0; 4], vec![0; 4], vec![9; 8]] }
         }
-        2..=4 => one_line(down, &square, 0, rng.pick(&[65_535, 65_536, u32::MAX]), 8),
+        2..=4 => one_line(down, &square, 0, rng.pick(&[COUNT_MOST as u32, COUNT_MOST as u32 + 1, u32::MAX]), 8),
         5 | 6 => one_line(down, &square, rng.pick(&[i32::MIN as u32, i32::MIN as u32 + 1, i32::MAX as u32]), 0, 8),
         7 | 8 => one_line([8.0, 24.0, 8.0, 8.0], &square, i32::MAX as u32, 0, 8),
         _ => one_line([80.0, 0.0, 80.0, f32::from_bits(rng.range(1, 2_000) as u32)], &[0, 0, 6, 1, 0], 0, 0, 8),
@@ -125,7 +126,7 @@ pub fn toward(rng: &mut Rng, kind: u32) -> Option<Call> {
         "frame" => frame(rng),
         "write_lists" if rng.one_in(4) => write_lists(rng),
         "ppm_read" => {
-            let (width, height) = (rng.pick(&[0, 1, 16_384, 16_385, 99_999]), rng.pick(&[0, 1, 16_385]));
+            let (width, height) = (rng.pick(&[0, 1, SIDE_MOST, SIDE_MOST + 1, u32::MAX]), rng.pick(&[0, 1, SIDE_MOST + 1]));
             let file = format!("P6\n{width} {height}\n255\nabc").bytes().map(u32::from).collect();
             Call { kind, numbers: vec![], slices: vec![file, vec![7; 9]] }
         }
