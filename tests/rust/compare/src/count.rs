@@ -139,14 +139,14 @@ fn past_limits(rng: &mut Rng) -> Case {
     };
     if rng.below(3) > 0 {
         case.paths = no_tiles((PATHS_MOST + over) as usize);
-        (case.path_nos, case.coords) = some_lines(rng, &[0, 0, 2, 2, 0], 2);
+        (case.path_nos, case.coords) = some_lines(rng, &path([0, 0, 2, 2], 0), 2);
         case.ends = vec![2];
     } else {
         let n = LINES_MOST as usize + 3;
         case.path_nos = vec![0; n];
         case.coords = vec![0; 4 * n];
         case.lines = LINES_MOST as u32 - 3;
-        let (_, coords) = some_lines(rng, &[0, 0, 2, 2, 0], 6);
+        let (_, coords) = some_lines(rng, &path([0, 0, 2, 2], 0), 6);
         case.coords[4 * (n - 6)..].copy_from_slice(&coords);
         case.ends = vec![n as u32];
         case.refs = vec![9; 400];

@@ -7,7 +7,7 @@ use cases::memory::{as_f32, Lent};
 use cases::{boxes, lines, Rng};
 use rules::frame::{COUNTING, HAND_OUT, LENT, TILING};
 use rules::limits::{EDGE_MOST, PATHS_MOST, SEGMENT};
-use rules::records::{box_at, no_tiles, paths_in};
+use rules::records::{box_at, no_tiles, path, paths_in};
 
 #[derive(Clone, Debug)]
 pub struct Case {
@@ -94,7 +94,7 @@ impl Stage for Frame {
         let families: &[usize] = rng.pick(&[&CALM[..], &CALM, &CALM, &ODD, &[]]);
         let mut case = over(rng, paths, tiles, n, families);
         if rng.one_in(40) {
-            case = over(rng, vec![0, 0, 6, 1, 0], 6, n + 1, &CALM);
+            case = over(rng, path([0, 0, 6, 1], 0).to_vec(), 6, n + 1, &CALM);
             let k = rng.below(n as u64 + 1) as usize;
             case.coords[4 * k..4 * k + 4].copy_from_slice(&SHORT);
         }

@@ -14,7 +14,7 @@ fn bits(line: [f32; 4]) -> Vec<u32> {
 
 /// Calls and the refusal number that each must give.
 fn calls(long: bool) -> Vec<(&'static str, Call, u32)> {
-    let one = || (vec![0u32], bits([8.0, 8.0, 8.0, 12.0]), vec![0, 0, 2, 2, 0]);
+    let one = || (vec![0u32], bits([8.0, 8.0, 8.0, 12.0]), path([0, 0, 2, 2], 0).to_vec());
     let mut out = vec![];
     for (tiles, number) in [(TILES, 0), (TILES + 1, 2)] {
         let (path_nos, coords, paths) = one();
@@ -63,11 +63,11 @@ fn calls(long: bool) -> Vec<(&'static str, Call, u32)> {
     }
     // a line too many in a frame: all are of no length, so the walk skips them
     for (n, number) in [(LINES_MOST as usize, 0), (LINES_MOST as usize + 1, 5)] {
-        let slices = vec![vec![0; n], vec![0; 4 * n], vec![0, 0, 2, 2, 0], vec![1; 4], vec![1; 4], vec![1; 4], vec![7; 4], vec![9; 5]];
+        let slices = vec![vec![0; n], vec![0; 4 * n], path([0, 0, 2, 2], 0).to_vec(), vec![1; 4], vec![1; 4], vec![1; 4], vec![7; 4], vec![9; 5]];
         out.push(("lines", Call { kind: 7, numbers: vec![], slices }, number));
     }
     for (cols, rows, number) in [(EDGE, rows, 9), (EDGE, rows + 1, 2)] {
-        let slices = vec![vec![0, 0, 1, 1, 0], vec![0; 2], vec![0], vec![0], vec![0], vec![7; 64]];
+        let slices = vec![path([0, 0, 1, 1], 0).to_vec(), vec![0; 2], vec![0], vec![0], vec![0], vec![7; 64]];
         out.push(("screen tiles", Call { kind: 8, numbers: vec![cols, rows, 0], slices }, number));
     }
     if long {

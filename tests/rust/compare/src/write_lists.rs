@@ -9,7 +9,7 @@ use cases::memory::{as_f32, Lent};
 use cases::{boxes, segments, Rng};
 use rules::limits::{EDGE_MOST, LINE, PATH, PATHS_MOST, ROOM_MOST, SEGMENT};
 use rules::lists::{Pair, Tables};
-use rules::records::{no_tiles, paths_in, words_of};
+use rules::records::{box_at, first_at, no_tiles, paths_in, words_of};
 
 #[derive(Clone, Debug)]
 pub struct Case {
@@ -406,7 +406,7 @@ fn fills_alone(tables: &Tables, x: i64, y: i64) -> Lists {
     let mut lists = Lists::new(6 * paths_in(&tables.paths) + 2, 0);
     let mut at = 1;
     for (path, paint) in tables.paths.chunks_exact(PATH).zip(tables.paints.chunks_exact(2)) {
-        let [x0, y0, x1, y1, first] = [0, 1, 2, 3, 4].map(|k| path[k] as i64);
+        let ([x0, y0, x1, y1], first) = (box_at(path, 0).map(i64::from), i64::from(first_at(path, 0)));
         if !(x0..x1).contains(&x) || !(y0..y1).contains(&y) {
             continue;
         }

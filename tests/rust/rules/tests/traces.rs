@@ -30,7 +30,7 @@ fn segments(line: [f32; 4]) -> Vec<Vec<u32>> {
     let refs: Vec<u32> = c.refs.iter().flat_map(|r| [r.0, r.1]).collect();
     let mut out = vec![0.0; SEGMENT * c.refs.len()];
     let mut item = 0;
-    assert_eq!(tile(&[0], &line, &[0, 0, 2, 2, 0], &stored, &refs, 0, c.refs.len() as u32, &mut out, &mut item), 0);
+    assert_eq!(tile(&[0], &line, &path([0, 0, 2, 2], 0), &stored, &refs, 0, c.refs.len() as u32, &mut out, &mut item), 0);
     out.chunks(SEGMENT).map(|s| s.iter().map(|v| v.to_bits()).collect()).collect()
 }
 
@@ -96,11 +96,11 @@ fn slots_and_segments() {
 fn sums() {
     let mut backdrops = vec![1, 2, -5, i32::MAX, 9];
     let mut item = 7;
-    assert_eq!(backdrop(&[0, 0, 2, 2, 0], &mut backdrops, &mut item), 0);
+    assert_eq!(backdrop(&path([0, 0, 2, 2], 0), &mut backdrops, &mut item), 0);
     assert_eq!((item, backdrops), (0, vec![1, 3, -5, i32::MAX - 5, 9]));
     let mut backdrops = vec![1, i32::MAX, 4];
     assert_eq!(backdrop(&[0, 0, 1, 1, 0, 0, 0, 2, 1, 0], &mut backdrops, &mut item), 4);
-    assert_eq!(backdrop(&[0, 0, 2, 1, 0], &mut backdrops, &mut item), 11);
+    assert_eq!(backdrop(&path([0, 0, 2, 1], 0), &mut backdrops, &mut item), 11);
     assert_eq!((item, backdrops), (0, vec![1, i32::MAX, 4]));
 }
 
