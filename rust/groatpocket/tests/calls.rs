@@ -12,9 +12,8 @@ fn counted(coords: &[f32], paths: &[u32], refs: &mut [u32]) -> Result<Running, S
 
 #[test]
 fn numbers_and_names_agree() {
-    for (k, refusal) in Refusal::ALL.iter().enumerate() {
-        assert_eq!(refusal.number() as usize, k + 1);
-    }
+    let numbers: Vec<u32> = Refusal::ALL.iter().map(|r| r.number()).collect();
+    assert!(numbers.is_sorted_by(|a, b| a < b) && numbers[0] == 1, "{numbers:?}");
     let refused = Refused { refusal: Refusal::Outside, item: 3 };
     assert_eq!(refused.to_string(), "refused with 10 (Outside) at item 3");
 }
