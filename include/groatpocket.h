@@ -174,6 +174,19 @@ uint32_t gp_pixel(const uint32_t *words, size_t words_len,
                   const float *segments, size_t segments_len,
                   uint32_t tile, uint32_t column, uint32_t row, uint32_t *pixel);
 
+/* The lines of an outline, from the path data of SVG 1.1: M, L, H, V, Z and Q, large or small, with
+ * numbers of up to six digits before the point and three after. They stand at the front of path_nos
+ * and coords as gp_count and gp_frame take them, each with the number path; *lines says how many. A Q
+ * curve becomes 2^depth lines; outlines left open are closed. 22 for a depth over 6; 1 where coords
+ * isn't four to each of path_nos; 21 for a text that is no such path data, with the first byte that
+ * can't stand there (or text_len, where it ends too soon) in *place; 9 where the lines have no room.
+ * *lines is 0 where refused, *place 0 but for 21; a refusal writes no line. */
+uint32_t gp_svg_lines(const uint8_t *text, size_t text_len,
+                      uint32_t depth, uint32_t path,
+                      uint32_t *path_nos, size_t path_nos_len,
+                      float *coords, size_t coords_len,
+                      size_t *lines, size_t *place);
+
 #ifdef __cplusplus
 }
 #endif
