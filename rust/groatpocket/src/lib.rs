@@ -8,7 +8,8 @@
 //! Lines become pixels in three calls: [`frame`] counts the lines and writes their segments,
 //! [`write_lists`] makes a list of commands for each screen tile, [`fine`] draws them. The stages of
 //! a frame are calls too, for whoever feeds lines in batches: [`count`], [`backdrop`], [`hand_out`],
-//! [`tile`]. One pixel can be asked for by itself: [`pixel`], [`pixel_area`].
+//! [`tile`]. One pixel can be asked for by itself: [`pixel`], [`pixel_area`]. Lines of an outline can be
+//! read from SVG: [`svg_lines`].
 //!
 //! ```
 //! use groatpocket::{count, hand_out, Running};
@@ -42,6 +43,8 @@ pub mod raw;
 mod refusal;
 mod screen;
 mod stages;
+#[cfg(feature = "svg")]
+mod svg;
 
 #[cfg(feature = "frame")]
 pub use frame::{frame, FrameStopped, Stage};
@@ -54,6 +57,8 @@ pub use pixel::{pixel, pixel_area};
 pub use refusal::{Refusal, Refused};
 pub use screen::{fill, fine, Fill, Screen};
 pub use stages::{backdrop, count, hand_out, tile, Running, Stopped};
+#[cfg(feature = "svg")]
+pub use svg::{svg_lines, TextRefused};
 
 /// Words to a path: box x0, y0, x1, y1 in tiles, then its first tile.
 pub const PATH_WORDS: usize = 5;

@@ -188,7 +188,7 @@ impl Memory {
     }
 
     fn same_as(&self, wanted: &Memory) -> Result<(), String> {
-        let names = ["backdrops", "tiles", "tally", "references", "segments"];
+        let names = ["backdrops", "stored", "tally", "references", "segments"];
         for ((got, wanted), name) in self.0.iter().zip(&wanted.0).zip(names) {
             same_words(name, got.u32s(), wanted.u32s())?;
             same(name, got.guards_stand(), true)?;

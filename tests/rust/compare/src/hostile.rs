@@ -2,11 +2,11 @@
 //! altered, and now and then a call that leads to a rare answer (`borders`).
 
 use crate::borders;
-use crate::calls::{by_ours, by_rules, linked, same_outcome, shape, Call, BYTES, NAMES};
+use crate::calls::{by_ours, by_rules, kind_of, linked, same_outcome, shape, Call, BYTES, NAMES};
 use crate::stage::{hex, Sides, Stage};
 use crate::table::Table;
-use cases::{boxes, floats, lines, segments, Rng};
-use rules::limits::{COORD_MOST, COUNT_MOST, EDGE_MOST, LINES_MOST, PATHS_MOST, REF, ROOM_MOST, SEGMENT, STEP_RANGE};
+use cases::{boxes, floats, lines, segments, texts, Rng};
+use rules::limits::{COORD_MOST, COUNT_MOST, EDGE_MOST, LINE, LINES_MOST, PATHS_MOST, REF, ROOM_MOST, SEGMENT, STEP_RANGE};
 use rules::records::box_at;
 
 /// Words at the ends of what a word holds, and at the limits.
@@ -28,6 +28,8 @@ const LIMITS: [u32; 11] = [
 const FINE: u32 = 6;
 const PIXEL: u32 = 12;
 const LISTS: [u32; 2] = [FINE, PIXEL];
+
+const SVG_LINES: u32 = kind_of("svg_lines");
 
 /// The kind of a call of a float helper: its number is the helper's place, its slices the operands.
 const HELPER: u32 = 0;
@@ -140,6 +142,15 @@ fn good(rng: &mut Rng, kind: u32) -> Call {
             let list_words = (0..64 * cols * rows).map(|k| if k % 64 == 0 { 0 } else { rng.below(6) as u32 }).collect();
             let pixels = words(rng, (256 * cols * rows) as usize);
             (vec![16 * cols, cols, rows, 0, cols * rows], vec![list_words, list, pixels])
+        }
+        SVG_LINES => {
+            let commands = rng.below(6);
+            let text = texts::valid(rng, commands);
+            let depth = rng.below(3) as u32;
+            let needed = rules::svg::outline(&text, depth).map_or(0, |lines| lines.len());
+            let room = needed.saturating_add_signed(rng.range(-1, 2) as isize);
+            let text = text.into_iter().map(u32::from).collect();
+            (vec![depth, any_word(rng)], vec![text, words(rng, room), words(rng, LINE * room)])
         }
         _ => panic!("no good call of kind {kind}, {}: write one", NAMES[kind as usize]),
     };

@@ -239,3 +239,20 @@ pub fn pixel(
     #[cfg(not(feature = "pixel"))]
     not_linked(("pixel", words, segments, tile, column, row, pixel))
 }
+
+pub fn svg_lines(
+    text: &[u8],
+    depth: u32,
+    path: u32,
+    path_nos: &mut [u32],
+    coords: &mut [f32],
+    lines: &mut usize,
+    place: &mut usize,
+) -> u32 {
+    #[cfg(feature = "svg")]
+    let answer = groatpocket::svg_lines(text, depth, path, path_nos, coords);
+    #[cfg(feature = "svg")]
+    return crate::answers::lines_place(answer, lines, place);
+    #[cfg(not(feature = "svg"))]
+    not_linked(("svg_lines", text, depth, path, path_nos, coords, lines, place))
+}
