@@ -1,6 +1,6 @@
 -- What the theorems don't say, refuted: statements near theirs that are false, each shown so by an instance. Assumes nothing.
 use mathlib.Core.Path.{_≡_, refl, sym, ap, _∙_}
-use mathlib.Core.List.{List, [], _∷_, Perm, Perm·swap}
+use mathlib.Core.List.{List, [], _∷_, _++_, Perm, Perm·swap}
 use mathlib.Core.Bool.{true}
 use Prim.Native.Nat.{ℕ, suc, _/_, _≤_, _<_, _^_}
 use native.Mathlib.Omega.{arith}
