@@ -16,7 +16,7 @@ fn numbers_and_names_agree() {
         assert_eq!(refusal.number() as usize, k + 1);
     }
     let refused = Refused { refusal: Refusal::Outside, item: 3 };
-    assert_eq!(refused.to_string(), "refused with 10 (Outside) at item 3");
+    assert_eq!(refused.to_string(), "refusal 10: a step outside its path's box; item 3");
 }
 
 #[test]
