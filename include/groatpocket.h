@@ -38,6 +38,10 @@
 extern "C" {
 #endif
 
+/* The archive's version: GP_VERSION_NUMBER of the header that it was made with. Ask it once, at the start: another
+ * number means that the header and the archive aren't of one version. */
+uint32_t gp_version(void);
+
 /* The refusals. */
 #define GP_DONE 0u        /* done */
 #define GP_NOT_WHOLE 1u   /* no whole records, paired slices that differ, or a bad range */

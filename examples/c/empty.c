@@ -41,6 +41,9 @@ int main(void) {
     printf("coverage %g, rounded %g\n", (double)area, (double)gp_round(area));
 
     /* A red half seen through: premultiplied, red in the high byte. */
-    printf("paint %08x; headers of %s have number %u\n", (unsigned)GP_PAINT(255, 0, 0, 128), GP_VERSION, (unsigned)GP_VERSION_NUMBER);
+    printf("paint %08x\n", (unsigned)GP_PAINT(255, 0, 0, 128));
+
+    /* The header and the archive are of one version. */
+    printf("version %s: header %u, archive %u\n", GP_VERSION, (unsigned)GP_VERSION_NUMBER, (unsigned)gp_version());
     return 0;
 }

@@ -11,4 +11,5 @@ pub mod call_lists;
 pub mod call_pixel;
 pub mod call_ppm;
 pub mod call_tile;
+pub mod call_version;
 pub mod floats;

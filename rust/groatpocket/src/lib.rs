@@ -88,6 +88,18 @@ pub use refusal::{Refusal, Refused};
 pub use screen::{fill, fine, Fill, Screen};
 pub use stages::{backdrop, count, hand_out, tile, Running, Stopped};
 
+/// The version's number of the archive that is linked: 10,000 for each major one, 100 for each minor one. Its header has
+/// the same as `GP_VERSION_NUMBER`, and this crate's version is that one too.
+#[inline]
+pub fn version() -> u32 {
+    // SAFETY: it is lent nothing.
+    unsafe { gp_version() }
+}
+
+extern "C" {
+    fn gp_version() -> u32;
+}
+
 /// Words to a path: box x0, y0, x1, y1 in tiles, then its first tile.
 pub const PATH_WORDS: usize = 5;
 /// Floats to a line: p0.x, p0.y, p1.x, p1.y in pixels.

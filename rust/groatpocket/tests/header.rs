@@ -81,14 +81,19 @@ fn the_tile() {
     assert_eq!(code["TILE_SIZE"] as usize, TILE_PIXELS);
 }
 
-/// One version: the header's text and number, this crate's, and the newest of CHANGELOG.md.
+/// One version: the header's text and number, the archive's own, this crate's, and the newest of CHANGELOG.md.
 #[test]
 fn version() {
     let own = env!("CARGO_PKG_VERSION");
     let header_text = text("include/groatpocket.h");
     assert!(header_text.contains(&format!("#define GP_VERSION \"{own}\"\n")), "{own}");
     let parts: Vec<u32> = own.split('.').map(|p| p.parse().unwrap()).collect();
-    assert_eq!(header()["VERSION_NUMBER"], 10_000 * parts[0] + 100 * parts[1] + parts[2]);
+    let number = 10_000 * parts[0] + 100 * parts[1] + parts[2];
+    let code = numbers(&text("crates/groatpocket/src/call_version.rt"), "pub const ", ": u32 = ");
+    assert_eq!(
+        (header()["VERSION_NUMBER"], code["VERSION_NUMBER"], groatpocket::version()),
+        (number, number, number)
+    );
     let changes = text("CHANGELOG.md");
     let newest = changes.lines().find_map(|l| l.strip_prefix("## ")).unwrap();
     assert!(newest == own || newest.starts_with(&format!("{own},")), "CHANGELOG.md has {newest}");

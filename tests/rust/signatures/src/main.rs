@@ -22,6 +22,9 @@ use std::{env, fs, process};
 /// The calls in the order of their numbers: the lists of the gate have the first six. Others come after, as the header has them.
 const NUMBERED: [&str; 8] = ["count", "backdrop", "hand_out", "tile", "fill", "fine", "frame", "write_lists"];
 
+/// The function that tells of the archive and is lent nothing: no call and no helper. The safe crate declares it, and its tests ask it.
+const ITSELF: &str = "version";
+
 /// A file that is made, from the project's root.
 pub struct Made {
     pub file: &'static str,
@@ -65,6 +68,11 @@ fn read(safe: &safe::Safe) -> (Vec<Call>, Vec<Helper>) {
     let (mut calls, mut helpers) = (vec![], vec![]);
     for one in declared {
         let name = &one.call.name;
+        if name == ITSELF {
+            let export = exports.iter().find(|e| e.name == *name).unwrap_or_else(|| fail("gp_version isn't exported"));
+            parse::agree(&one, export);
+            continue;
+        }
         let Some(export) = exports.iter().find(|e| e.name == *name) else { fail(&format!("gp_{name} isn't exported")) };
         parse::agree(&one, export);
         if let Some(helper) = parse::helper(export, &lists) {

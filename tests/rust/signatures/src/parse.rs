@@ -150,7 +150,7 @@ pub struct Declared {
 fn params(name: &str, list: &str) -> Vec<Param> {
     let words: Vec<Vec<String>> = list.split(',').map(|p| p.replace('*', " * ").split_whitespace().map(str::to_string).collect()).collect();
     let mut params: Vec<Param> = vec![];
-    for word in &words {
+    for word in words.iter().filter(|w| w[..] != ["void"]) {
         let bad = || -> ! { fail(&format!("gp_{name}: `{}` isn't read", word.join(" "))) };
         let word: Vec<&str> = word.iter().map(String::as_str).collect();
         let (how, of, name) = match word[..] {
