@@ -3,7 +3,7 @@
  * Everything is lent: a slice is a pointer and the number of its elements. Each pointer must be
  * valid and aligned for that many elements (for none it may be NULL), and slices that a call writes
  * must not overlap any other slice of the call. A pointer to one number (item, stage, lines, made,
- * size, width, height) must not be NULL, and the number must lie apart from the others and from
+ * size, width, height, area, pixel, place) must not be NULL, and the number must lie apart from the others and from
  * every slice. Floats are IEEE 754 with the default environment:
  * round to nearest, subnormals kept (a program linked with -ffast-math turns them off). Nothing else
  * is asked: any words and floats may be lent. A call touches nothing outside the slices, always ends,
@@ -52,7 +52,7 @@ uint32_t gp_version(void);
 #define GP_COORDINATE 6u  /* a coordinate not finite, or over 65,536 in size */
 #define GP_NO_SUCH 7u     /* no such path; in a reference, no such line or a skipped one */
 #define GP_COUNT_OVER 8u  /* a step number or a tile's count over its limit */
-#define GP_NO_ROOM 9u     /* no room for references, slots, regions of commands or a file */
+#define GP_NO_ROOM 9u     /* no room for references, slots, regions of commands, a file or lines */
 #define GP_OUTSIDE 10u    /* a step outside its path's box */
 #define GP_SUM_OVER 11u   /* a backdrop or a running sum leaves 32 bits */
 #define GP_CROOKED 12u    /* a segment end outside its tile */
@@ -63,6 +63,8 @@ uint32_t gp_version(void);
 #define GP_BAD_SIZE 17u   /* a picture's width or height outside 1 to 16,384 */
 #define GP_BAD_FILE 18u   /* no P6 file: another header, or bytes missing or left over */
 #define GP_OFF_TILE 19u   /* a pixel's column or row over 15 */
+#define GP_BAD_TEXT 21u   /* a text that is no path data of SVG */
+#define GP_TOO_DEEP 22u   /* a curve halved more than 6 times */
 
 /* The limits: at most so many, or so large. */
 #define GP_MAX_PATHS 4096u
@@ -75,6 +77,7 @@ uint32_t gp_version(void);
 #define GP_MAX_COMMANDS 4096u  /* commands on one screen tile, END not counted */
 #define GP_MAX_SIDE 16384u     /* a picture's width, and its height, in pixels */
 #define GP_MAX_COORD 65536.0f  /* a coordinate's size, in pixels */
+#define GP_MAX_DEPTH 6u        /* how often a curve of an outline is halved */
 
 /* The part of a frame that refused. */
 #define GP_STAGE_NONE 0u     /* none: the frame is done */
@@ -249,6 +252,20 @@ uint32_t gp_pixel(const uint32_t *words, size_t words_len,
                   const float *segments, size_t segments_len,
                   uint32_t tile, uint32_t column, uint32_t row, uint32_t *pixel);
 
+/* The lines of an outline, from the path data of SVG 1.1: M, L, H, V, Z and Q, large or small, with
+ * numbers of up to six digits before the point and three after. They stand at the front of path_nos
+ * and coords as gp_count and gp_frame take them, each with the number path; *lines says how many. A Q
+ * curve becomes 2^depth lines; outlines left open are closed. 22 for a depth over 6; 1 where coords
+ * isn't four to each of path_nos; 21 for a text that is no such path data, with the first byte that
+ * can't stand there (or text_len, where it ends too soon) in *place; 9 where the lines have no room.
+ * *lines is 0 where refused, *place 0 but for 21; a refusal writes no line.
+ * 22 first, then 1: coords not four to each of path_nos. */
+uint32_t gp_svg_lines(const uint8_t *text, size_t text_len,
+                      uint32_t depth, uint32_t path,
+                      uint32_t *path_nos, size_t path_nos_len,
+                      float *coords, size_t coords_len,
+                      size_t *lines, size_t *place);
+
 /* The float helpers: each is the rules' own, docs/RULES.md, "Float meanings". */
 float gp_floor(float x);
 float gp_ceil(float x);
@@ -293,6 +310,8 @@ static inline const char *gp_refusal_text(uint32_t refusal) {
     case GP_BAD_SIZE: return "a picture's width or height outside 1 to 16,384";
     case GP_BAD_FILE: return "no P6 file: another header, or bytes missing or left over";
     case GP_OFF_TILE: return "a pixel's column or row over 15";
+    case GP_BAD_TEXT: return "a text that is no path data of SVG";
+    case GP_TOO_DEEP: return "a curve halved more than 6 times";
     default: return "no refusal of this version";
     }
 }

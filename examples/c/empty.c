@@ -14,7 +14,7 @@ static void say(const char *call, uint32_t no) {
 
 int main(void) {
     uint32_t stage = 9, item = 9, lines = 9, made = 9, width = 9, height = 9, pixel = 9;
-    size_t size = 9;
+    size_t size = 9, outline = 9, place = 9;
     float area = 9;
 
     /* A frame of no line and no path; then the lists and the pixels of a screen of no tile. */
@@ -35,6 +35,9 @@ int main(void) {
     say("pixel", gp_pixel(NULL, 0, NULL, 0, 0, 0, 0, &pixel));
     say("ppm_write", gp_ppm_write(NULL, 0, 1, 1, NULL, 0, &size));
     say("ppm_read", gp_ppm_read(NULL, 0, NULL, 0, &width, &height));
+
+    /* The empty text is an outline of no line. */
+    say("svg_lines", gp_svg_lines(NULL, 0, 0, 0, NULL, 0, NULL, 0, &outline, &place));
 
     /* No segment, and a backdrop that covers. */
     say("pixel_area", gp_pixel_area(NULL, 0, 0, 0, 0, 1, 0, 0, GP_TILE - 1, 0, &area));

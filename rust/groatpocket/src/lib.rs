@@ -37,7 +37,8 @@
 //! ```
 //!
 //! The stages of a frame are calls too, for whoever feeds lines in batches: [`count`], [`backdrop`], [`hand_out`],
-//! [`tile`]. One pixel can be asked for by itself: [`pixel`], [`pixel_area`].
+//! [`tile`]. One pixel can be asked for by itself: [`pixel`], [`pixel_area`]. Lines of an outline can be read from
+//! SVG: [`svg_lines`].
 //!
 //! Nothing is allocated and the crate is `no_std`. It links `libgroatpocket.a`: see its README. Colours are multiplied by
 //! their alpha, and nothing refuses one that isn't; a paint has red in its highest byte and a pixel in its lowest.
@@ -75,6 +76,8 @@ pub mod raw;
 mod refusal;
 mod screen;
 mod stages;
+#[cfg(feature = "svg")]
+mod svg;
 
 #[cfg(feature = "frame")]
 pub use frame::{frame, FrameStopped, Stage};
@@ -87,6 +90,8 @@ pub use pixel::{pixel, pixel_area};
 pub use refusal::{Refusal, Refused};
 pub use screen::{fill, fine, Fill, Screen};
 pub use stages::{backdrop, count, hand_out, tile, Running, Stopped};
+#[cfg(feature = "svg")]
+pub use svg::{svg_lines, TextRefused};
 
 /// The version's number of the archive that is linked: 10,000 for each major one, 100 for each minor one. Its header has
 /// the same as `GP_VERSION_NUMBER`, and this crate's version is that one too.

@@ -21,7 +21,7 @@ pub enum Refusal {
     NoSuch = 7,
     /// 8: a step number or a tile's count over its limit.
     CountOver = 8,
-    /// 9: no room for references, slots, regions of commands or a file.
+    /// 9: no room for references, slots, regions of commands, a file or lines.
     NoRoom = 9,
     /// 10: a step outside its path's box.
     Outside = 10,
@@ -43,17 +43,21 @@ pub enum Refusal {
     BadFile = 18,
     /// 19: a pixel's column or row over 15.
     OffTile = 19,
+    /// 21: a text that is no path data of SVG.
+    BadText = 21,
+    /// 22: a curve halved more than 6 times.
+    TooDeep = 22,
 }
 
 impl Refusal {
-    /// All of them; number n stands at n - 1.
+    /// All of them, by their numbers.
     #[rustfmt::skip]
-    pub const ALL: [Refusal; 19] = {
+    pub const ALL: [Refusal; 21] = {
         use Refusal::*;
         [
             NotWhole, TooMany, BadBox, BadRange, LineNumber, Coordinate, NoSuch, CountOver, NoRoom,
             Outside, SumOver, Crooked, PastEnd, Unknown, TooLong, BadScreen, BadSize, BadFile,
-            OffTile,
+            OffTile, BadText, TooDeep,
         ]
     };
 
@@ -86,7 +90,16 @@ impl Refusal {
             BadSize => "a picture's width or height outside 1 to 16,384",
             BadFile => "no P6 file: another header, or bytes missing or left over",
             OffTile => "a pixel's column or row over 15",
+            BadText => "a text that is no path data of SVG",
+            TooDeep => "a curve halved more than 6 times",
         }
+    }
+
+    /// The refusal of that number; none for 0, which is done.
+    pub(crate) fn of(number: u32) -> Option<Refusal> {
+        let known = Refusal::ALL.into_iter().find(|r| r.number() == number);
+        assert!(known.is_some() || number == 0, "no refusal has number {number}");
+        known
     }
 }
 
@@ -118,10 +131,9 @@ pub(crate) const UNTOLD: u32 = u32::MAX;
 
 /// A call's number and item as a result.
 pub(crate) fn answered(number: u32, item: u32) -> Result<(), Refused> {
-    let Some(place) = number.checked_sub(1) else {
+    let Some(refusal) = Refusal::of(number) else {
         debug_assert_eq!(item, 0, "an item where nothing is refused");
         return Ok(());
     };
-    let refusal = Refusal::ALL[place as usize];
     Err(Refused { refusal, item })
 }

@@ -61,7 +61,9 @@ fn texts() {
 /// Each limit of the proved code is a GP_MAX_ of the header, and the header has no other.
 #[test]
 fn limits() {
-    let code = text("crates/panel/src/limits.rt");
+    let depth = text("crates/svg_outline/src/steps.rt");
+    let depth: String = depth.lines().filter(|l| l.starts_with("pub const DEPTH_MOST")).collect();
+    let code = text("crates/panel/src/limits.rt") + &depth;
     let named = |name: &str| format!("MAX_{}", name.replace("MOST_", "").replace("_MOST", ""));
     let header = header();
     let (whole, float) = (numbers(&code, "pub const ", ": u32 = "), numbers(&code, "pub const ", ": f32 = "));

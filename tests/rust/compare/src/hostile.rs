@@ -2,11 +2,12 @@
 //! altered, and now and then a call that leads to a rare answer (`borders`).
 
 use crate::borders;
-use crate::calls::{by_ours, by_rules, linked, same_outcome, shape, Call, BYTES, NAMES};
+use crate::calls::{by_ours, by_rules, kind_of, linked, same_outcome, shape, Call, BYTES, NAMES};
 use crate::stage::{hex, Sides, Stage};
 use crate::table::Table;
-use cases::{boxes, floats, lines, segments, Rng};
-use rules::limits::{COORD_MOST, COUNT_MOST, EDGE_MOST, LINES_MOST, PATHS_MOST, ROOM_MOST, STEP_RANGE};
+use cases::{boxes, floats, lines, segments, texts, Rng};
+use rules::limits::{COORD_MOST, COUNT_MOST, EDGE_MOST, LINE, LINES_MOST, PATHS_MOST, REF, ROOM_MOST, SEGMENT, STEP_RANGE};
+use rules::records::box_at;
 
 /// Words at the ends of what a word holds, and at the limits.
 const LIMITS: [u32; 11] = [
@@ -27,6 +28,8 @@ const LIMITS: [u32; 11] = [
 const FINE: u32 = 6;
 const PIXEL: u32 = 12;
 const LISTS: [u32; 2] = [FINE, PIXEL];
+
+const SVG_LINES: u32 = kind_of("svg_lines");
 
 /// The kind of a call of a float helper: its number is the helper's place, its slices the operands.
 const HELPER: u32 = 0;
@@ -80,7 +83,7 @@ fn good(rng: &mut Rng, kind: u32) -> Call {
     let n_paths = rng.range(0, 3) as usize;
     let (paths, tiles) = boxes::table(rng, n_paths, 5);
     let n = rng.range(0, 5) as usize;
-    let b = if paths.is_empty() { [0, 0, 2, 2] } else { [0, 1, 2, 3].map(|k| paths[k] as i64) };
+    let b = if paths.is_empty() { [0, 0, 2, 2] } else { box_at(&paths, 0).map(|v| v as i64) };
     let path_nos: Vec<u32> = (0..n).map(|_| rng.below(n_paths.max(1) as u64) as u32).collect();
     let coords: Vec<u32> = (0..n).flat_map(|_| lines::any(rng, &b).1.map(f32::to_bits)).collect();
     let words = |rng: &mut Rng, n: usize| -> Vec<u32> { (0..n).map(|_| rng.below(4) as u32).collect() };
@@ -96,7 +99,7 @@ fn good(rng: &mut Rng, kind: u32) -> Call {
             let made = rng.below(6) as usize;
             let refs = (0..made).flat_map(|_| [rng.below(n.max(1) as u64) as u32, rng.below(3) as u32 * STEP_RANGE + rng.below(4) as u32]).collect();
             let stored = (0..tiles).map(|_| if rng.one_in(4) { 0 } else { !(rng.below(20) as u32) }).collect();
-            let room = 5 * rng.below(30) as usize;
+            let room = SEGMENT * rng.below(30) as usize;
             (vec![0, made as u32], vec![path_nos, coords, paths, stored, refs, words(rng, room)])
         }
         5 => {
@@ -104,7 +107,7 @@ fn good(rng: &mut Rng, kind: u32) -> Call {
             (numbers, vec![list, words(rng, 256)])
         }
         7 => {
-            let (refs, room) = (2 * rng.below(60) as usize, 5 * rng.below(60) as usize);
+            let (refs, room) = (REF * rng.below(60) as usize, SEGMENT * rng.below(60) as usize);
             let tables = [words(rng, tiles), words(rng, tiles), words(rng, tiles), words(rng, refs), words(rng, room)];
             (vec![], [path_nos, coords, paths].into_iter().chain(tables).collect())
         }
@@ -145,6 +148,15 @@ fn good(rng: &mut Rng, kind: u32) -> Call {
             let list_words = (0..64 * cols * rows).map(|k| if k % 64 == 0 { 0 } else { rng.below(6) as u32 }).collect();
             let pixels = words(rng, (256 * cols * rows) as usize);
             (vec![16 * cols, cols, rows, 0, cols * rows], vec![list_words, list, pixels])
+        }
+        SVG_LINES => {
+            let commands = rng.below(6);
+            let text = texts::valid(rng, commands);
+            let depth = rng.below(3) as u32;
+            let needed = rules::svg::outline(&text, depth).map_or(0, |lines| lines.len());
+            let room = needed.saturating_add_signed(rng.range(-1, 2) as isize);
+            let text = text.into_iter().map(u32::from).collect();
+            (vec![depth, any_word(rng)], vec![text, words(rng, room), words(rng, LINE * room)])
         }
         _ => panic!("no good call of kind {kind}, {}: write one", NAMES[kind as usize]),
     };

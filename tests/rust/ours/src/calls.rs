@@ -299,3 +299,25 @@ pub fn pixel(
     #[cfg(not(feature = "pixel"))]
     not_linked(("pixel", words, segments, tile, column, row, pixel))
 }
+
+pub fn svg_lines(
+    text: &[u8],
+    depth: u32,
+    path: u32,
+    path_nos: &mut [u32],
+    coords: &mut [f32],
+    lines: &mut usize,
+    place: &mut usize,
+) -> u32 {
+    #[cfg(all(feature = "svg", not(bridge)))]
+    if crate::null::is_lent(&[text.len(), path_nos.len(), coords.len()]) {
+        // SAFETY: every pointer and length is a slice's, lent for the call alone, or NULL and 0.
+        return unsafe { groatpocket::raw::gp_svg_lines(crate::null::at(text), text.len(), depth, path, crate::null::at_mut(path_nos), path_nos.len(), crate::null::at_mut(coords), coords.len(), lines, place) };
+    }
+    #[cfg(feature = "svg")]
+    let answer = groatpocket::svg_lines(text, depth, path, path_nos, coords);
+    #[cfg(feature = "svg")]
+    return crate::answers::lines_place(answer, lines, place);
+    #[cfg(not(feature = "svg"))]
+    not_linked(("svg_lines", text, depth, path, path_nos, coords, lines, place))
+}
