@@ -6,3 +6,4 @@ pub mod CallLists
 pub mod CallPpm
 pub mod CallPixel
 pub mod CallSvg
+pub mod Version

@@ -12,4 +12,5 @@ pub mod call_pixel;
 pub mod call_ppm;
 pub mod call_svg;
 pub mod call_tile;
+pub mod call_version;
 pub mod floats;

@@ -1,5 +1,5 @@
 //! Why a call refuses, and of what.
-use std::fmt;
+use core::fmt;
 
 /// Why a call refused.
 #[derive(Clone, Copy, Debug, PartialEq, Eq, Hash)]
@@ -66,11 +66,46 @@ impl Refusal {
         self as u32
     }
 
+    /// What it is for, in words: the same as the header's `gp_refusal_text`.
+    #[rustfmt::skip]
+    pub fn text(self) -> &'static str {
+        use Refusal::*;
+        match self {
+            NotWhole => "no whole records, paired slices that differ, or a bad range",
+            TooMany => "too many paths, tiles or screen tiles",
+            BadBox => "a box edge over 4,096, or edges the wrong way round",
+            BadRange => "a path's first tile before the end of the path before it, or tiles past the end",
+            LineNumber => "counting: line number 65,536 or more",
+            Coordinate => "a coordinate not finite, or over 65,536 in size",
+            NoSuch => "no such path; in a reference, no such line or a skipped one",
+            CountOver => "a step number or a tile's count over its limit",
+            NoRoom => "no room for references, slots, regions of commands or a file",
+            Outside => "a step outside its path's box",
+            SumOver => "a backdrop or a running sum leaves 32 bits",
+            Crooked => "a segment end outside its tile",
+            PastEnd => "command words or segments past the end of those lent",
+            Unknown => "an unknown command",
+            TooLong => "over 4,096 commands on one tile",
+            BadScreen => "a screen too narrow, or too few pixels",
+            BadSize => "a picture's width or height outside 1 to 16,384",
+            BadFile => "no P6 file: another header, or bytes missing or left over",
+            OffTile => "a pixel's column or row over 15",
+            BadText => "a text that is no path data of SVG",
+            TooDeep => "a curve halved more than 6 times",
+        }
+    }
+
     /// The refusal of that number; none for 0, which is done.
     pub(crate) fn of(number: u32) -> Option<Refusal> {
         let known = Refusal::ALL.into_iter().find(|r| r.number() == number);
         assert!(known.is_some() || number == 0, "no refusal has number {number}");
         known
+    }
+}
+
+impl fmt::Display for Refusal {
+    fn fmt(&self, f: &mut fmt::Formatter<'_>) -> fmt::Result {
+        write!(f, "refusal {}: {}", self.number(), self.text())
     }
 }
 
@@ -85,11 +120,11 @@ pub struct Refused {
 
 impl fmt::Display for Refused {
     fn fmt(&self, f: &mut fmt::Formatter<'_>) -> fmt::Result {
-        write!(f, "refused with {} ({:?}) at item {}", self.refusal.number(), self.refusal, self.item)
+        write!(f, "{}; item {}", self.refusal, self.item)
     }
 }
 
-impl std::error::Error for Refused {}
+impl core::error::Error for Refused {}
 
 /// What an item holds before a call: each call writes it, 0 where it is done.
 pub(crate) const UNTOLD: u32 = u32::MAX;

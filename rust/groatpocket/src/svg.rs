@@ -1,7 +1,7 @@
 //! The lines of an outline, from the path data of SVG.
 use crate::raw;
 use crate::refusal::Refusal;
-use std::fmt;
+use core::fmt;
 
 /// A refusal, and the place of the text that is at fault.
 #[derive(Clone, Copy, Debug, PartialEq, Eq, Hash)]
@@ -14,11 +14,11 @@ pub struct TextRefused {
 
 impl fmt::Display for TextRefused {
     fn fmt(&self, f: &mut fmt::Formatter<'_>) -> fmt::Result {
-        write!(f, "refused with {} ({:?}) at byte {}", self.refusal.number(), self.refusal, self.place)
+        write!(f, "{}; byte {}", self.refusal, self.place)
     }
 }
 
-impl std::error::Error for TextRefused {}
+impl core::error::Error for TextRefused {}
 
 /// Reads path data (M, L, H, V, Z and Q, large or small) and writes its lines to the front of `path_nos` and `coords`, four
 /// floats to a line, as [`count`](crate::count) and [`frame`](crate::frame) take them, each with the number `path`. A curve becomes

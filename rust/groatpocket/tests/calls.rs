@@ -15,7 +15,7 @@ fn numbers_and_names_agree() {
     let numbers: Vec<u32> = Refusal::ALL.iter().map(|r| r.number()).collect();
     assert!(numbers.is_sorted_by(|a, b| a < b) && numbers[0] == 1, "{numbers:?}");
     let refused = Refused { refusal: Refusal::Outside, item: 3 };
-    assert_eq!(refused.to_string(), "refused with 10 (Outside) at item 3");
+    assert_eq!(refused.to_string(), "refusal 10: a step outside its path's box; item 3");
 }
 
 #[cfg(feature = "svg")]
@@ -41,7 +41,7 @@ fn an_outline_is_read_or_refused_at_its_place() {
     let no = svg_lines(b"?", 0, 2, &mut path_nos, &mut coords[..23]).unwrap_err();
     assert_eq!((no.refusal, no.place), (Refusal::NotWhole, 0));
     let no = svg_lines(b"L", 0, 2, &mut path_nos, &mut coords).unwrap_err();
-    assert_eq!(no.to_string(), "refused with 21 (BadText) at byte 0");
+    assert_eq!(no.to_string(), "refusal 21: a text that is no path data of SVG; byte 0");
 }
 
 #[test]

@@ -34,18 +34,24 @@ const SVG_LINES: u32 = kind_of("svg_lines");
 /// The kind of a call of a float helper: its number is the helper's place, its slices the operands.
 const HELPER: u32 = 0;
 
+/// A call that is lent NULL for a slice of no elements.
+const NULL_ROW: &str = "lent NULL for none";
+
 /// How often each answer of each call is wanted, and each helper.
 const LEAST: u64 = if ours::BRIDGED { 1 } else { 50 };
 
 /// The calls whose stage is linked; all of them where only the rules are run.
 pub struct Hostile {
     pub kinds: Vec<u32>,
+    /// Whether NULL is lent for none: where the archive's own functions are called.
+    null: bool,
 }
 
 impl Hostile {
     pub fn new(all: bool) -> Hostile {
         let helpers = (!all && ours::has::FLOATS).then_some(HELPER);
-        Hostile { kinds: (1..NAMES.len() as u32).filter(|&k| all || linked(k)).chain(helpers).collect() }
+        let kinds = (1..NAMES.len() as u32).filter(|&k| all || linked(k)).chain(helpers).collect();
+        Hostile { kinds, null: !all && !ours::BRIDGED }
     }
 }
 
@@ -230,6 +236,10 @@ impl Stage for Hostile {
         let wanted = by_rules(call);
         table.add(&row(call.kind, wanted.answer[0]), 1);
         if sides.ours {
+            let lengths: Vec<usize> = call.slices.iter().map(Vec::len).collect();
+            if self.null && ours::null::is_lent(&lengths) {
+                table.add(NULL_ROW, 1);
+            }
             same_outcome(call, &by_ours(call), &wanted)?;
         }
         Ok(())
@@ -264,6 +274,7 @@ impl Stage for Hostile {
                 rows.extend(borders::answers(kind).iter().map(|&answer| row(kind, answer)));
             }
         }
+        rows.extend(self.null.then(|| NULL_ROW.to_string()));
         rows.into_iter().map(|row| (row, LEAST)).collect()
     }
 }

@@ -13,6 +13,7 @@ mod bridge;
 mod bridge_calls;
 #[rustfmt::skip]
 mod calls;
+pub mod null;
 #[cfg(all(feature = "floats", not(bridge)))]
 #[rustfmt::skip]
 mod floats;
