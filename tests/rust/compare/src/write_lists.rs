@@ -9,7 +9,7 @@ use cases::memory::{as_f32, Lent};
 use cases::{boxes, segments, Rng};
 use rules::limits::{EDGE_MOST, LINE, PATH, PATHS_MOST, ROOM_MOST, SEGMENT};
 use rules::lists::{Pair, Tables};
-use rules::records::{box_at, first_at, no_tiles, paths_in, words_of};
+use rules::records::{box_at, first_at, no_tiles, path, paths_in, words_of};
 
 #[derive(Clone, Debug)]
 pub struct Case {
@@ -41,7 +41,7 @@ fn near_boxes(rng: &mut Rng, n: usize, most: i64) -> (Vec<u32>, usize) {
         if n < 8 && rng.one_in(200) {
             w = EDGE_MOST - x; // as far right as a box may reach, most of it off the screen
         }
-        paths.extend([x, y, x + w, y + h, next].map(|v| v as u32));
+        paths.extend(path([x, y, x + w, y + h].map(|v| v as u32), next as u32));
         next += w * h + rng.one_in(6) as i64;
     }
     (paths, next as usize)
