@@ -62,6 +62,9 @@ badFile = 18
 abbrev pub offTile : ℕ
 offTile = 19
 
+abbrev pub badSegment : ℕ
+badSegment = 20
+
 -- all of them, in order
 abbrev pub refusalNumbers : List ℕ
 refusalNumbers =
@@ -85,4 +88,5 @@ refusalNumbers =
     ∷ badSize
     ∷ badFile
     ∷ offTile
+    ∷ badSegment
     ∷ []

@@ -3,6 +3,7 @@
 --     Slots                 the slot of each reference: one to each, and every slot below their number is one's
 --     SumLaws               sums
 --     StrayLaws             no stray piece
+--     Taken                 what tiling leaves, a fill takes
 --     Isolation             beam isolation; the order of lines
 --     BatchLaws             lines and references cut into batches anywhere
 --     FineBatches           screen tiles cut into batches anywhere
@@ -23,6 +24,7 @@ pub mod Counting
 pub mod Slots
 pub mod SumLaws
 pub mod StrayLaws
+pub mod Taken
 pub mod Isolation
 pub mod BatchLaws
 pub mod FineBatches

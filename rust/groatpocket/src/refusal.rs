@@ -43,17 +43,19 @@ pub enum Refusal {
     BadFile = 18,
     /// 19: a pixel's column or row over 15.
     OffTile = 19,
+    /// 20: a fill's segment with an end outside 0 to 16, or a y_edge not finite.
+    BadSegment = 20,
 }
 
 impl Refusal {
     /// All of them; number n stands at n - 1.
     #[rustfmt::skip]
-    pub const ALL: [Refusal; 19] = {
+    pub const ALL: [Refusal; 20] = {
         use Refusal::*;
         [
             NotWhole, TooMany, BadBox, BadRange, LineNumber, Coordinate, NoSuch, CountOver, NoRoom,
             Outside, SumOver, Crooked, PastEnd, Unknown, TooLong, BadScreen, BadSize, BadFile,
-            OffTile,
+            OffTile, BadSegment,
         ]
     };
 
