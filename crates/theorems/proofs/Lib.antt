@@ -18,6 +18,7 @@
 --     FrameTraces           frames of one line, computed
 --     Refuted               statements near the theorems' that are false, refuted by instances
 --     StepLaws              step numbers stay exact in a float
+--     EvenOdd               even-odd coverage of the segments that a fill takes
 pub mod Acts
 pub mod Own
 pub mod Counting
@@ -44,3 +45,4 @@ pub mod FrameNumbers
 pub mod FrameTraces
 pub mod Refuted
 pub mod StepLaws
+pub mod EvenOdd
