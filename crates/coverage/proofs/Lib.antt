@@ -1,7 +1,6 @@
 pub mod Past
 pub mod Laws
 pub mod Page
-pub mod Turn
 pub mod Even
 pub mod Bounds
 pub mod Traces
