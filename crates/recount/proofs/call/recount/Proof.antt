@@ -27,7 +27,8 @@ redraw-requires c κs =
     let a = c .before .before .before .before .before .before .before .before .before .before .before .before .before .before .before .args in
     let k =
     asked-done (a .path) (a .paths .now) (length (a .line-nos .now)) (length (a .path-nos .now)) (length (a .coords .now)) (length (a .backdrops .now)) (length (a .counts .now))
-    (length (a .refs .now)) (length (a .kept-backdrops .now)) (length (a .kept-counts .now)) (sym (c .before .before .before .before .before .before .before .asked .ensures) ∙ c .before .before .before .before .before .enum-told .given .1) in
+    (length (a .refs .now)) (length (a .kept-backdrops .now)) (length (a .kept-counts .now))
+    (sym (c .before .before .before .before .before .before .before .asked .ensures) ∙ c .before .before .before .before .before .enum-told .given .1) in
     (record { paired = k .paired; passed = k .passed }, k .there, k .lined, omega (arith, k .whole), k .backs, k .counts)
 
 same-length : tie.Need-same-length
@@ -47,9 +48,13 @@ same-length-5 c = search needs
 
 returns-2 : tie.Need-returns-2
 returns-2 c =
-    let a = c .before .before .before .before .before .before .before .before .before .before .before .before .before .before .before .before .before .before .before .before .before .before .before .before .args in
+    let a = c .before .before .before .before .before .before .before .before .before .before .before .before .before .before .before .before .before .before .before .before .before .before
+    .before .before .args in
     recount-goes (a .path) (a .line-nos .now) (a .path-nos .now) (a .coords .now) (a .paths .now) (a .backdrops .now) (a .counts .now) (a .refs .now) (a .kept-backdrops .now) (a .kept-counts .now)
-    (c .before .before .before .before .before .before .before .before .before .before .before .before .before .before .before .before .asked .result) (c .before .before .before .before .before .before .before .before .before .before .before .before .before .before .before .before .asked .ensures) _ (c .before .before .before .before .before .before .before .before .before .before .before .before .before .before .enum-told .given .1) (c .before .before .before .before .before .before .before .before .redraw .ensures)
+    (c .before .before .before .before .before .before .before .before .before .before .before .before .before .before .before .before .asked .result)
+    (c .before .before .before .before .before .before .before .before .before .before .before .before .before .before .before .before .asked .ensures) _
+    (c .before .before .before .before .before .before .before .before .before .before .before .before .before .before .enum-told .given .1)
+    (c .before .before .before .before .before .before .before .before .redraw .ensures)
 
 pub recount-spec : {M : Type 1} → statement M
 recount-spec =

@@ -14,7 +14,8 @@ enum-known-v c = search needs
 returns : tie.Need-returns
 returns c =
     let a = c .before .before .before .before .before .args in
-    asked-lent (a .path) (a .paths .now) (a .nl) (a .nn) (a .nc) (a .nb) (a .nt) (a .nr) (a .kb) (a .kc) (c .before .before .before .check-lent .result) (c .before .before .before .check-lent .ensures) _ (c .before .v .given .1)
+    asked-lent (a .path) (a .paths .now) (a .nl) (a .nn) (a .nc) (a .nb) (a .nt) (a .nr) (a .kb) (a .kc) (c .before .before .before .check-lent .result)
+    (c .before .before .before .check-lent .ensures) _ (c .before .v .given .1)
 
 enum-told : tie.Need-enum-told
 enum-told c = search needs
@@ -31,7 +32,8 @@ enum-told-3 c = search needs
 returns-2 : tie.Need-returns-2
 returns-2 c =
     let a = c .before .before .before .before .before .before .before .args in
-    asked-path (a .path) (a .paths .now) (a .nl) (a .nn) (a .nc) (a .nb) (a .nt) (a .nr) (a .kb) (a .kc) (c .before .before .before .before .before .check-lent .result) (c .before .before .before .before .before .check-lent .ensures) (c .before .before .before .enum-told .given .1)
+    asked-path (a .path) (a .paths .now) (a .nl) (a .nn) (a .nc) (a .nb) (a .nt) (a .nr) (a .kb) (a .kc) (c .before .before .before .before .before .check-lent .result)
+    (c .before .before .before .before .before .check-lent .ensures) (c .before .before .before .enum-told .given .1)
     (c .before .before .check-paths .result) (c .before .before .check-paths .ensures) _ _ (c .enum-told3 .given .1)
 
 check-range-requires : tie.Need-check-range-requires
@@ -43,8 +45,11 @@ enum-known-w c = search needs
 returns-3 : tie.Need-returns-3
 returns-3 c =
     let a = c .before .before .before .before .before .before .before .before .before .before .before .args in
-    asked-range (a .path) (a .paths .now) (a .nl) (a .nn) (a .nc) (a .nb) (a .nt) (a .nr) (a .kb) (a .kc) (c .before .before .before .before .before .before .before .before .before .check-lent .result) (c .before .before .before .before .before .before .before .before .before .check-lent .ensures) (c .before .before .before .before .before .before .before .enum-told .given .1)
-    (c .before .before .before .before .before .before .check-paths .result) (c .before .before .before .before .before .before .check-paths .ensures) (c .before .before .before .before .enum-told2 .given .1) (c .before .before .before .check-range .result) (c .before .before .before .check-range .ensures) _ (c .before .w .given .1)
+    asked-range (a .path) (a .paths .now) (a .nl) (a .nn) (a .nc) (a .nb) (a .nt) (a .nr) (a .kb) (a .kc)
+    (c .before .before .before .before .before .before .before .before .before .check-lent .result)
+    (c .before .before .before .before .before .before .before .before .before .check-lent .ensures) (c .before .before .before .before .before .before .before .enum-told .given .1)
+    (c .before .before .before .before .before .before .check-paths .result) (c .before .before .before .before .before .before .check-paths .ensures)
+    (c .before .before .before .before .enum-told2 .given .1) (c .before .before .before .check-range .result) (c .before .before .before .check-range .ensures) _ (c .before .w .given .1)
 
 enum-told-4 : tie.Need-enum-told-4
 enum-told-4 c = search needs
@@ -52,8 +57,11 @@ enum-told-4 c = search needs
 returns-4 : tie.Need-returns-4
 returns-4 c =
     let a = c .before .before .before .before .before .before .before .before .before .before .args in
-    asked-fine (a .path) (a .paths .now) (a .nl) (a .nn) (a .nc) (a .nb) (a .nt) (a .nr) (a .kb) (a .kc) (c .before .before .before .before .before .before .before .before .check-lent .result) (c .before .before .before .before .before .before .before .before .check-lent .ensures) (c .before .before .before .before .before .before .enum-told .given .1)
-    (c .before .before .before .before .before .check-paths .result) (c .before .before .before .before .before .check-paths .ensures) (c .before .before .before .enum-told2 .given .1) (c .before .before .check-range .result) (c .before .before .check-range .ensures) (c .enum-told4 .given .1)
+    asked-fine (a .path) (a .paths .now) (a .nl) (a .nn) (a .nc) (a .nb) (a .nt) (a .nr) (a .kb) (a .kc)
+    (c .before .before .before .before .before .before .before .before .check-lent .result) (c .before .before .before .before .before .before .before .before .check-lent .ensures)
+    (c .before .before .before .before .before .before .enum-told .given .1)
+    (c .before .before .before .before .before .check-paths .result) (c .before .before .before .before .before .check-paths .ensures) (c .before .before .before .enum-told2 .given .1)
+    (c .before .before .check-range .result) (c .before .before .check-range .ensures) (c .enum-told4 .given .1)
 
 pub asked-spec : {M : Type 1} → statement M
 asked-spec =

@@ -17,7 +17,8 @@ path-at-requires c κs = path-there (c .before .before .args .paths .now) (c .be
 
 tiles-in-requires : tie.Need-tiles-in-requires
 tiles-in-requires c κs =
-    let f = checked (c .before .before .before .args .paths .now) (c .before .before .before .args .tiles) (c .before .before .before .pre) .fits (c .before .before .before .args .path) (c .before .if1 .left) in
+    let f = checked (c .before .before .before .args .paths .now) (c .before .before .before .args .tiles) (c .before .before .before .pre) .fits (c .before .before .before .args .path)
+    (c .before .if1 .left) in
     rw (c .path-at .ensures) (f .across, f .down)
 
 -- what the code has of the range

@@ -18,7 +18,8 @@ reached-requires : tie.Need-reached-requires
 reached-requires c κs = search needs
 
 -- what the test says of the line lent
-test : (c : tie.After-reached) → c .reached .result ≡ reachedOf (lineAt (c .before .before .before .before .before .before .before .args .coords .now) 0 .p0) (lineAt (c .before .before .before .before .before .before .before .args .coords .now) 0 .p1)
+test : (c : tie.After-reached) → c .reached .result ≡ reachedOf (lineAt (c .before .before .before .before .before .before .before .args .coords .now) 0 .p0)
+    (lineAt (c .before .before .before .before .before .before .before .args .coords .now) 0 .p1)
 test c = c .reached .ensures ∙ ap (λ (e : LineEnds). reachedOf (e .p0) (e .p1)) (c .before .before .before .line-at .ensures)
 
 returns-2 : tie.Need-returns-2

@@ -45,7 +45,9 @@ returns-2 c =
     let s = stOf (a .backs .now) (a .counts .now) (a .refs .now) (a .made) in
     c .before .before .before .before .before .count-line .ensures
     ∙ ap (λ (o : Step St ℕ). lineRan o s)
-    (sym (own-same (a .path) (a .path-nos .now) (a .coords .now) (a .paths .now) (length (a .refs .now) / refWords) (a .line .0) 0 s (c .before .before .before .before .before .before .before .before .before .before .before .before .before .before .before .before .pre .1) (c .before .before .before .before .before .before .before .before .before .if1 .left)))
+    (sym (own-same (a .path) (a .path-nos .now) (a .coords .now) (a .paths .now) (length (a .refs .now) / refWords) (a .line .0) 0 s
+    (c .before .before .before .before .before .before .before .before .before .before .before .before .before .before .before .before .pre .1)
+    (c .before .before .before .before .before .before .before .before .before .if1 .left)))
 
 pub own-line-spec : {M : Type 1} → statement M
 own-line-spec =
