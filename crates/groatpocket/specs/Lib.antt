@@ -5,3 +5,4 @@ pub mod CallFrame
 pub mod CallLists
 pub mod CallPpm
 pub mod CallPixel
+pub mod CallRecount

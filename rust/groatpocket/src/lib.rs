@@ -8,7 +8,8 @@
 //! Lines become pixels in three calls: [`frame`] counts the lines and writes their segments,
 //! [`write_lists`] makes a list of commands for each screen tile, [`fine`] draws them. The stages of
 //! a frame are calls too, for whoever feeds lines in batches: [`count`], [`backdrop`], [`hand_out`],
-//! [`tile`]. One pixel can be asked for by itself: [`pixel`], [`pixel_area`].
+//! [`tile`]. Where one gauge has moved, its path alone is counted again: [`recount`]. One pixel can be
+//! asked for by itself: [`pixel`], [`pixel_area`].
 //!
 //! ```
 //! use groatpocket::{count, hand_out, Running};
@@ -39,6 +40,8 @@ mod picture;
 #[cfg(feature = "pixel")]
 mod pixel;
 pub mod raw;
+#[cfg(feature = "recount")]
+mod recount;
 mod refusal;
 mod screen;
 mod stages;
@@ -51,6 +54,8 @@ pub use lists::{words_needed, write_lists};
 pub use picture::{ppm_read, ppm_write};
 #[cfg(feature = "pixel")]
 pub use pixel::{pixel, pixel_area};
+#[cfg(feature = "recount")]
+pub use recount::{recount, RecountStopped};
 pub use refusal::{Refusal, Refused};
 pub use screen::{fill, fine, Fill, Screen};
 pub use stages::{backdrop, count, hand_out, tile, Running, Stopped};

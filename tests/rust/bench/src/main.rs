@@ -1,6 +1,6 @@
 //! Every stage beside the unchanged Rust: same machine, same run, release builds, buffers cleared beforehand.
 //!
-//!     tests/rust/run bench [ROUNDS] [pixel]
+//!     tests/rust/run bench [ROUNDS] [pixel | recount]
 //!
 //! Runs of the two are interleaved; a row has a stage at its sizes, the median time of each side for one unit of work, and
 //! the ratios of ours to the Rust's. A ratio under 1 is faster than the Rust.
@@ -75,10 +75,15 @@ fn main() {
         println!("The archive is for another processor and would run under an emulator: times would say nothing.");
         return;
     }
-    if std::env::args().nth(2).is_none_or(|only| only != "pixel") {
+    let only = std::env::args().nth(2);
+    if only.is_none() {
         beside_the_rust(rounds);
     }
-    if ours::has::PIXEL && ours::has::FINE {
+    if ours::has::RECOUNT && ours::has::COUNT && only.as_deref().is_none_or(|only| only == "recount") {
+        println!("\n| One path beside a frame of 64 | Lines of each | the frame's count, ns | the recount, ns | ratio | 64 ratios |\n|---|---|---|---|---|---|");
+        stages::recount(rounds);
+    }
+    if ours::has::PIXEL && ours::has::FINE && only.as_deref().is_none_or(|only| only == "pixel") {
         println!("\n| One pixel beside a whole tile by fine | Fills | a tile, ns | a pixel, ns | ratio | 256 ratios |\n|---|---|---|---|---|---|");
         stages::pixel(rounds);
     }

@@ -22,6 +22,7 @@ pub const NAMES: &[&str] = &[
     "ppm_read",
     "pixel_area",
     "pixel",
+    "recount",
 ];
 
 /// The slices that a call of a kind may change.
@@ -39,6 +40,7 @@ pub const CHANGED: &[&[usize]] = &[
     &[1],
     &[],
     &[],
+    &[4, 5, 6, 7, 8],
 ];
 
 /// The slices that are bytes, a word for each.
@@ -54,6 +56,7 @@ pub const BYTES: &[&[usize]] = &[
     &[],
     &[1],
     &[0, 1],
+    &[],
     &[],
     &[],
 ];
@@ -73,6 +76,7 @@ pub const SHAPES: &[(usize, usize)] = &[
     (2, 0),
     (1, 9),
     (2, 4),
+    (9, 1),
 ];
 
 /// Whether a call of a kind is linked.
@@ -90,6 +94,7 @@ pub const LINKED: &[bool] = &[
     ours::has::PICTURE,
     ours::has::PIXEL,
     ours::has::PIXEL,
+    ours::has::RECOUNT,
 ];
 
 macro_rules! answered_by {
@@ -268,6 +273,25 @@ macro_rules! answered_by {
                         &mut pixel,
                     );
                     vec![no, 0, pixel]
+                }
+                (13, [line_nos, path_nos, coords, paths, backdrops, counts, refs, kept_backdrops, kept_counts]) => {
+                    let mut made = UNTOLD;
+                    let mut item = UNTOLD;
+                    let no = $side::recount(
+                        n[0],
+                        line_nos.u32s(),
+                        path_nos.u32s(),
+                        coords.f32s(),
+                        paths.u32s(),
+                        backdrops.i32s_mut(),
+                        counts.u32s_mut(),
+                        refs.u32s_mut(),
+                        kept_backdrops.i32s_mut(),
+                        kept_counts.u32s_mut(),
+                        &mut made,
+                        &mut item,
+                    );
+                    vec![no, item, made]
                 }
                 _ => panic!("no call of kind {}", call.kind),
             };

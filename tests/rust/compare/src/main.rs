@@ -28,6 +28,7 @@ mod limits;
 mod lists;
 mod order;
 mod pixel;
+mod recount;
 mod stage;
 mod table;
 mod tiling;
@@ -101,8 +102,8 @@ fn run<S: Stage>(stage: &S, args: &Args, linked: bool, seconds: f64) -> bool {
     stage::run(stage, Sides { ours, rust: oracle::AT_HAND }, budget)
 }
 
-const STAGES: [&str; 12] =
-    ["floats", "backdrop", "hand_out", "count", "tile", "fill", "fine", "frame", "write_lists", "pixel", "order", hostile::Hostile::NAME];
+const STAGES: [&str; 13] =
+    ["floats", "backdrop", "hand_out", "count", "tile", "fill", "fine", "frame", "write_lists", "pixel", "recount", "order", hostile::Hostile::NAME];
 
 fn stages(args: &Args) -> bool {
     if let Some(only) = args.only.as_deref().filter(|only| !STAGES.contains(only)) {
@@ -121,6 +122,7 @@ fn stages(args: &Args) -> bool {
     well &= run(&frame::Frame, args, ours::has::FRAME, 12.0);
     well &= run(&write_lists::WriteLists, args, ours::has::LISTS, 12.0);
     well &= run(&pixel::Pixel, args, ours::has::PIXEL && ours::has::FILL && ours::has::FINE, 8.0);
+    well &= run(&recount::Recount, args, ours::has::RECOUNT && ours::has::COUNT, 6.0);
     if ours::has::COUNT && ours::has::BACKDROP && args.mode != "rules-vs-oracle" && args.only.as_deref().is_none_or(|o| o == "order") {
         well &= order::run(args.seconds.unwrap_or(3.0 * args.longer), args.seed);
     }

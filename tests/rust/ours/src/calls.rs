@@ -239,3 +239,25 @@ pub fn pixel(
     #[cfg(not(feature = "pixel"))]
     not_linked(("pixel", words, segments, tile, column, row, pixel))
 }
+
+pub fn recount(
+    path: u32,
+    line_nos: &[u32],
+    path_nos: &[u32],
+    coords: &[f32],
+    paths: &[u32],
+    backdrops: &mut [i32],
+    counts: &mut [u32],
+    refs: &mut [u32],
+    kept_backdrops: &mut [i32],
+    kept_counts: &mut [u32],
+    made: &mut u32,
+    item: &mut u32,
+) -> u32 {
+    #[cfg(feature = "recount")]
+    let answer = groatpocket::recount(path, line_nos, path_nos, coords, paths, backdrops, counts, refs, kept_backdrops, kept_counts);
+    #[cfg(feature = "recount")]
+    return crate::answers::made_item(answer, made, item);
+    #[cfg(not(feature = "recount"))]
+    not_linked(("recount", path, line_nos, path_nos, coords, paths, backdrops, counts, refs, kept_backdrops, kept_counts, made, item))
+}

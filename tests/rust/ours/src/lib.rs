@@ -35,6 +35,7 @@ pub mod has {
     pub const LISTS: bool = cfg!(feature = "lists");
     pub const PICTURE: bool = cfg!(feature = "picture");
     pub const PIXEL: bool = cfg!(feature = "pixel");
+    pub const RECOUNT: bool = cfg!(feature = "recount");
 }
 
 /// A float helper over many operands; the numbers are those of the list of floats (01 floor .. 20 clamp).

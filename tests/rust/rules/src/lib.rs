@@ -18,6 +18,7 @@ pub mod limits;
 pub mod lists;
 pub mod picture;
 pub mod pixel;
+pub mod recount;
 pub mod tile;
 pub mod walk;
 
@@ -31,4 +32,5 @@ pub use hand_out::hand_out;
 pub use lists::write_lists;
 pub use picture::{ppm_read, ppm_write};
 pub use pixel::{pixel, pixel_area};
+pub use recount::recount;
 pub use tile::tile;
