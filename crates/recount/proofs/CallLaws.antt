@@ -23,8 +23,25 @@ use Rattle.panel.proofs.PathLaws.{checked}
 use Rattle.acts.specs.Acts.{St, stOf}
 use Rattle.acts.specs.Line.{Refusal}
 use Rattle.path_count.specs.Count.{Told, toldOf, Lent}
-use Rattle.recount.specs.Recount.{paperOf, madeOf, linesTold, linesRan, Out, outOf, tilesIn, clearedFor, keptFrom, ranOut, redrawnOf, lentChecks, rangeChecks, andAnswer, askedOf,
-    askedOut, recountedOf}
+use Rattle.recount.specs.Recount.{
+  paperOf,
+  madeOf,
+  linesTold,
+  linesRan,
+  Out,
+  outOf,
+  tilesIn,
+  clearedFor,
+  keptFrom,
+  ranOut,
+  redrawnOf,
+  lentChecks,
+  rangeChecks,
+  andAnswer,
+  askedOf,
+  askedOut,
+  recountedOf,
+}
 use Rattle.recount.specs.declared.kinds.Recounted.{Recounted}
 use Rattle.recount.specs.declared.kinds.Recounted.the-variants.{Done, Refused}
 

@@ -32,11 +32,13 @@ place-requires c κs =
     ∙ c .before .before .before .before .before .before .before .before .before .before .before .before .before .before .before .before .before .before .before .stored .given in
     let backs = c .before .before .before .before .before .before .before .before .before .before .before .before .backdrops2 .given
     ∙ c .before .before .before .before .before .before .before .before .before .before .before .before .before .before .before .before .before .before .before .before .before
-    .before .backdrops .given in
-    (rw words (c .before .before .before .before .before .before .before .before .before .before .before .before .before .before .before .before .before .before .before .before .before
-    .before .before .before .before .before .before .before .before .before .before .before .pre .0), backs
-    ∙ c .before .before .before .before .before .before .before .before .before .before .before .before .before .before .before .before .before .before .before .before .before .before
-    .before .before .before .before .before .before .before .before .before .before .pre .1 ∙ sym words)
+    .before .backdrops .given in (
+      rw words (c .before .before .before .before .before .before .before .before .before .before .before .before .before .before .before .before .before .before .before .before .before
+          .before .before .before .before .before .before .before .before .before .before .before .pre .0),
+      backs
+          ∙ c .before .before .before .before .before .before .before .before .before .before .before .before .before .before .before .before .before .before .before .before .before .before
+          .before .before .before .before .before .before .before .before .before .before .pre .1 ∙ sym words,
+    )
 
 enum-known-why : tie.Need-enum-known-why
 enum-known-why c = search needs

@@ -39,22 +39,22 @@ copy-backdrops-requires : tie.Need-copy-backdrops-requires
 copy-backdrops-requires c κs =
     let a = c .before .before .before .before .before .before .before .before .before .before .before .before .args in (
       in-backs (a .path) (a .paths .now) _ _ (c .before .before .before .before .before .before .before .before .before .before .before .before .pre .0)
-      (c .before .before .before .before .before .before .before .before .before .before .before .before .pre .1) _ _ (first-is (c .before .before)) (tiles-is (c .before .before)),
+          (c .before .before .before .before .before .before .before .before .before .before .before .before .pre .1) _ _ (first-is (c .before .before)) (tiles-is (c .before .before)),
       in-kept (a .path) (a .paths .now) _ _ (c .before .before .before .before .before .before .before .before .before .before .before .before .pre .0)
-      (c .before .before .before .before .before .before .before .before .before .before .before .before .pre .1) _ _ (first-is (c .before .before)) (tiles-is (c .before .before)) _
-      (c .before .before .before .before .before .before .before .before .before .before .before .before .pre .4),
+          (c .before .before .before .before .before .before .before .before .before .before .before .before .pre .1) _ _ (first-is (c .before .before)) (tiles-is (c .before .before)) _
+          (c .before .before .before .before .before .before .before .before .before .before .before .before .pre .4),
     )
 
 copy-words-requires : tie.Need-copy-words-requires
 copy-words-requires c κs =
     let a = c .before .before .before .before .before .before .before .before .before .before .before .before .before .before .before .before .args in (
       in-counts (a .path) (a .paths .now) _ _ (c .before .before .before .before .before .before .before .before .before .before .before .before .before .before .before .before .pre .0)
-      (c .before .before .before .before .before .before .before .before .before .before .before .before .before .before .before .before .pre .1) _ _
-      (first-is (c .before .before .before .before .before .before)) (tiles-is (c .before .before .before .before .before .before)),
+          (c .before .before .before .before .before .before .before .before .before .before .before .before .before .before .before .before .pre .1) _ _
+          (first-is (c .before .before .before .before .before .before)) (tiles-is (c .before .before .before .before .before .before)),
       in-kept (a .path) (a .paths .now) _ _ (c .before .before .before .before .before .before .before .before .before .before .before .before .before .before .before .before .pre .0)
-      (c .before .before .before .before .before .before .before .before .before .before .before .before .before .before .before .before .pre .1) _ _
-      (first-is (c .before .before .before .before .before .before)) (tiles-is (c .before .before .before .before .before .before)) _
-      (c .before .before .before .before .before .before .before .before .before .before .before .before .before .before .before .before .pre .5),
+          (c .before .before .before .before .before .before .before .before .before .before .before .before .before .before .before .before .pre .1) _ _
+          (first-is (c .before .before .before .before .before .before)) (tiles-is (c .before .before .before .before .before .before)) _
+          (c .before .before .before .before .before .before .before .before .before .before .before .before .before .before .before .before .pre .5),
     )
 
 clear-backdrops-requires : tie.Need-clear-backdrops-requires
@@ -78,16 +78,17 @@ clear-words-requires c κs =
 count-lines-requires : tie.Need-count-lines-requires
 count-lines-requires c κs =
     let a = c .before .before .before .before .before .before .before .before .before .before .before .before .before .before .before .before .before .before .before .before .before .before
-    .before .before .before .before .before .before .before .args in
-    (subst₂ (Lent (a .paths .now)) (sym (c .before .before .before .before .before .before .before .backdrops .given)) (sym (c .before .before .before .before .counts .given))
-    (c .before .before .before .before .before .before .before .before .before .before .before .before .before .before .before .before .before .before .before .before .before .before .before
-    .before .before .before .before .before .before .pre .0),
-    c .before .before .before .before .before .before .before .before .before .before .before .before .before .before .before .before .before .before .before .before .before .before .before
-    .before .before .before .before .before .before .pre .1,
-    c .before .before .before .before .before .before .before .before .before .before .before .before .before .before .before .before .before .before .before .before .before .before .before
-    .before .before .before .before .before .before .pre .2,
-    c .before .before .before .before .before .before .before .before .before .before .before .before .before .before .before .before .before .before .before .before .before .before .before
-    .before .before .before .before .before .before .pre .3)
+    .before .before .before .before .before .before .before .args in (
+      subst₂ (Lent (a .paths .now)) (sym (c .before .before .before .before .before .before .before .backdrops .given)) (sym (c .before .before .before .before .counts .given))
+          (c .before .before .before .before .before .before .before .before .before .before .before .before .before .before .before .before .before .before .before .before .before .before .before
+          .before .before .before .before .before .before .pre .0),
+      c .before .before .before .before .before .before .before .before .before .before .before .before .before .before .before .before .before .before .before .before .before .before .before
+          .before .before .before .before .before .before .pre .1,
+      c .before .before .before .before .before .before .before .before .before .before .before .before .before .before .before .before .before .before .before .before .before .before .before
+          .before .before .before .before .before .before .pre .2,
+      c .before .before .before .before .before .before .before .before .before .before .before .before .before .before .before .before .before .before .before .before .before .before .before
+          .before .before .before .before .before .before .pre .3,
+    )
 
 enum-known-r : tie.Need-enum-known-r
 enum-known-r c = search needs
@@ -106,20 +107,24 @@ copy-backdrops-requires-2 c κs =
     (tiles-is (c .before .before .before .before .before .before .before .before .before .before .before .before .before .before .before .before .before .before .before .before .before
     .before .before .before .before .before .before .before .before .before)) in (
       in-kept (a .path) (a .paths .now) _ _
-      (c .before .before .before .before .before .before .before .before .before .before .before .before .before .before .before .before .before .before .before .before .before .before
-      .before .before .before .before .before .before .before .before .before .before .before .before .before .before .before .before .before .before .pre .0)
-      (c .before .before .before .before .before .before .before .before .before .before .before .before .before .before .before .before .before .before .before .before .before .before
-      .before .before .before .before .before .before .before .before .before .before .before .before .before .before .before .before .before .before .pre .1) _ _
-      (first-is (c .before .before .before .before .before .before .before .before .before .before .before .before .before .before .before .before .before .before .before .before .before
-      .before .before .before .before .before .before .before .before .before))
-      (tiles-is (c .before .before .before .before .before .before .before .before .before .before .before .before .before .before .before .before .before .before .before .before .before
-      .before .before .before .before .before .before .before .before .before)) _
-      (c .before .before .before .before .before .before .before .before .before .before .before .before .before .before .before .before .before .before .before .before .before .before
-      .before .before .before .before .kept-backdrops .given
-      ∙ c .before .before .before .before .before .before .before .before .before .before .before .before .before .before .before .before .before .before .before .before .before .before
-      .before .before .before .before .before .before .before .before .before .before .before .before .before .before .before .before .before .before .pre .4),
-      omega (arith, b, c .before .before .before .before .before .before .before .before .before .backdrops2 .given,
-      c .before .before .before .before .before .before .before .before .before .before .before .before .before .before .before .before .before .before .backdrops .given),
+          (c .before .before .before .before .before .before .before .before .before .before .before .before .before .before .before .before .before .before .before .before .before .before
+          .before .before .before .before .before .before .before .before .before .before .before .before .before .before .before .before .before .before .pre .0)
+          (c .before .before .before .before .before .before .before .before .before .before .before .before .before .before .before .before .before .before .before .before .before .before
+          .before .before .before .before .before .before .before .before .before .before .before .before .before .before .before .before .before .before .pre .1) _ _
+          (first-is (c .before .before .before .before .before .before .before .before .before .before .before .before .before .before .before .before .before .before .before .before .before
+          .before .before .before .before .before .before .before .before .before))
+          (tiles-is (c .before .before .before .before .before .before .before .before .before .before .before .before .before .before .before .before .before .before .before .before .before
+          .before .before .before .before .before .before .before .before .before)) _
+          (c .before .before .before .before .before .before .before .before .before .before .before .before .before .before .before .before .before .before .before .before .before .before
+          .before .before .before .before .kept-backdrops .given
+          ∙ c .before .before .before .before .before .before .before .before .before .before .before .before .before .before .before .before .before .before .before .before .before .before
+          .before .before .before .before .before .before .before .before .before .before .before .before .before .before .before .before .before .before .pre .4),
+      omega (
+        arith,
+        b,
+        c .before .before .before .before .before .before .before .before .before .backdrops2 .given,
+        c .before .before .before .before .before .before .before .before .before .before .before .before .before .before .before .before .before .before .backdrops .given,
+      ),
     )
 
 copy-words-requires-2 : tie.Need-copy-words-requires-2
@@ -136,21 +141,25 @@ copy-words-requires-2 c κs =
     (tiles-is (c .before .before .before .before .before .before .before .before .before .before .before .before .before .before .before .before .before .before .before .before .before
     .before .before .before .before .before .before .before .before .before .before .before .before .before)) in (
       in-kept (a .path) (a .paths .now) _ _
-      (c .before .before .before .before .before .before .before .before .before .before .before .before .before .before .before .before .before .before .before .before .before .before
-      .before .before .before .before .before .before .before .before .before .before .before .before .before .before .before .before .before .before .before .before .before .before .pre .0)
-      (c .before .before .before .before .before .before .before .before .before .before .before .before .before .before .before .before .before .before .before .before .before .before
-      .before .before .before .before .before .before .before .before .before .before .before .before .before .before .before .before .before .before .before .before .before
-      .before .pre .1) _ _ (first-is
-      (c .before .before .before .before .before .before .before .before .before .before .before .before .before .before .before .before .before .before .before .before .before .before
-      .before .before .before .before .before .before .before .before .before .before .before .before))
-      (tiles-is (c .before .before .before .before .before .before .before .before .before .before .before .before .before .before .before .before .before .before .before .before .before
-      .before .before .before .before .before .before .before .before .before .before .before .before .before)) _
-      (c .before .before .before .before .before .before .before .before .before .before .before .before .before .before .before .before .before .before .before .before .before .before
-      .before .before .before .before .kept-counts .given
-      ∙ c .before .before .before .before .before .before .before .before .before .before .before .before .before .before .before .before .before .before .before .before .before .before
-      .before .before .before .before .before .before .before .before .before .before .before .before .before .before .before .before .before .before .before .before .before .before .pre .5),
-      omega (arith, b, c .before .before .before .before .before .before .before .before .before .before .before .before .counts2 .given,
-      c .before .before .before .before .before .before .before .before .before .before .before .before .before .before .before .before .before .before .before .counts .given),
+          (c .before .before .before .before .before .before .before .before .before .before .before .before .before .before .before .before .before .before .before .before .before .before
+          .before .before .before .before .before .before .before .before .before .before .before .before .before .before .before .before .before .before .before .before .before .before .pre .0)
+          (c .before .before .before .before .before .before .before .before .before .before .before .before .before .before .before .before .before .before .before .before .before .before
+          .before .before .before .before .before .before .before .before .before .before .before .before .before .before .before .before .before .before .before .before .before
+          .before .pre .1) _ _ (first-is
+          (c .before .before .before .before .before .before .before .before .before .before .before .before .before .before .before .before .before .before .before .before .before .before
+          .before .before .before .before .before .before .before .before .before .before .before .before))
+          (tiles-is (c .before .before .before .before .before .before .before .before .before .before .before .before .before .before .before .before .before .before .before .before .before
+          .before .before .before .before .before .before .before .before .before .before .before .before .before)) _
+          (c .before .before .before .before .before .before .before .before .before .before .before .before .before .before .before .before .before .before .before .before .before .before
+          .before .before .before .before .kept-counts .given
+          ∙ c .before .before .before .before .before .before .before .before .before .before .before .before .before .before .before .before .before .before .before .before .before .before
+          .before .before .before .before .before .before .before .before .before .before .before .before .before .before .before .before .before .before .before .before .before .before .pre .5),
+      omega (
+        arith,
+        b,
+        c .before .before .before .before .before .before .before .before .before .before .before .before .counts2 .given,
+        c .before .before .before .before .before .before .before .before .before .before .before .before .before .before .before .before .before .before .before .counts .given,
+      ),
     )
 
 same-length : tie.Need-same-length

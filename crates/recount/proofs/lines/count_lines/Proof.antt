@@ -33,10 +33,15 @@ abbrev μ-loop : tie.MeasureT-loop
 loop-holds : tie.Need-loop-holds Inv-loop μ-loop
 loop-holds c =
     let a = c .before .before .before .before .before .before .args in
-    let none : length (a .path-nos .now) - 0 ≡ length (a .path-nos .now) = omega arith in
-    (omega arith, refl, refl, refl,
-    ap (λ (n : ℕ). batchOf (λ k. ownStep (a .path) (a .path-nos .now) (a .coords .now) (a .paths .now) (length (a .refs .now) / refWords) (getD (a .line-nos .now) k 0) k) 0 n
-    (stOf (a .backs .now) (a .counts .now) (a .refs .now) 0)) none, omega arith)
+    let none : length (a .path-nos .now) - 0 ≡ length (a .path-nos .now) = omega arith in (
+      omega arith,
+      refl,
+      refl,
+      refl,
+      ap (λ (n : ℕ). batchOf (λ k. ownStep (a .path) (a .path-nos .now) (a .coords .now) (a .paths .now) (length (a .refs .now) / refWords) (getD (a .line-nos .now) k 0) k) 0 n
+          (stOf (a .backs .now) (a .counts .now) (a .refs .now) 0)) none,
+      omega arith,
+    )
 
 mul-l : tie.Need-mul-l Inv-loop μ-loop
 mul-l c = search needs
@@ -76,13 +81,19 @@ own-line-requires c κs =
     let a = c .before .before .before .before .before .before .before .before .before .before .before .before .before .before .args in
     let l = c .before .before .before .before .before .before .before .loop in
     let nos = ap length (part-to-end (a .path-nos .now) (l .k)) ∙ length-drop (l .k) (a .path-nos .now) in
-    let fs = ap length (part-to-end (a .coords .now) (l .k * lineFloats)) ∙ length-drop (l .k * lineFloats) (a .coords .now) in
-    (subst₂ (Lent (a .paths .now)) (sym (l .inv .1)) (sym (l .inv .2))
-    (c .before .before .before .before .before .before .before .before .before .before .before .before .before .before .pre .0),
-    c .before .before .before .before .before .before .before .before .before .before .before .before .before .before .pre .1, omega
-    (arith, nos, c .before .before .before .before .before .before .loop-test .taken), omega
-    (arith, fs, c .before .before .before .before .before .before .loop-test .taken,
-    c .before .before .before .before .before .before .before .before .before .before .before .before .before .before .pre .3))
+    let fs = ap length (part-to-end (a .coords .now) (l .k * lineFloats)) ∙ length-drop (l .k * lineFloats) (a .coords .now) in (
+      subst₂ (Lent (a .paths .now)) (sym (l .inv .1)) (sym (l .inv .2))
+          (c .before .before .before .before .before .before .before .before .before .before .before .before .before .before .pre .0),
+      c .before .before .before .before .before .before .before .before .before .before .before .before .before .before .pre .1,
+      omega
+          (arith, nos, c .before .before .before .before .before .before .loop-test .taken),
+      omega (
+        arith,
+        fs,
+        c .before .before .before .before .before .before .loop-test .taken,
+        c .before .before .before .before .before .before .before .before .before .before .before .before .before .before .pre .3,
+      ),
+    )
 
 -- what the line's answer says, of the line at its place, with the room as it was at the start
 said : (c : tie.After-own-line Inv-loop μ-loop) →
@@ -165,10 +176,12 @@ add-made c =
     let a = c .before .before .before .before .before .before .before .before .before .before .before .before .before .before .before .before .before .before .before .before .before .before
     .before .args in
     let l = c .before .before .before .before .before .before .before .before .before .before .before .before .before .before .before .before .loop in
-    record { fits = own-made (a .path) (a .path-nos .now) (a .coords .now) (a .paths .now) (length (a .refs .now) / refWords) (getD (a .line-nos .now) (l .k) 0) (l .k)
-    (stOf (l .backs) (l .counts) (l .refs) (l .made))
-    (c .before .before .before .before .before .before .before .before .before .before .before .before .before .before .before .before .before .before .before .before .before .before
-    .before .pre .1) (l .inv .5) _ (took (c .before)) }
+    record {
+      fits = own-made (a .path) (a .path-nos .now) (a .coords .now) (a .paths .now) (length (a .refs .now) / refWords) (getD (a .line-nos .now) (l .k) 0) (l .k)
+          (stOf (l .backs) (l .counts) (l .refs) (l .made))
+          (c .before .before .before .before .before .before .before .before .before .before .before .before .before .before .before .before .before .before .before .before .before .before
+          .before .pre .1) (l .inv .5) _ (took (c .before));
+    }
 
 add-k : tie.Need-add-k Inv-loop μ-loop
 add-k c = search needs
@@ -186,12 +199,12 @@ loop-again c =
       c .before .before .before .before .before .before .counts .given ∙ l .inv .2,
       c .before .before .before .before .refs .given ∙ l .inv .3,
       batch-goes (λ k. ownStep (a .path) (a .path-nos .now) (a .coords .now) (a .paths .now) (length (a .refs .now) / refWords) (getD (a .line-nos .now) k 0) k) (l .k)
-      (length (a .path-nos .now)) (stOf (l .backs) (l .counts) (l .refs) (l .made))
-      (c .before .before .before .before .before .before .before .before .before .before .before .before .before .before .before .loop-test .taken) _ (l .inv .4) _ (took (c .before)),
+          (length (a .path-nos .now)) (stOf (l .backs) (l .counts) (l .refs) (l .made))
+          (c .before .before .before .before .before .before .before .before .before .before .before .before .before .before .before .loop-test .taken) _ (l .inv .4) _ (took (c .before)),
       own-made (a .path) (a .path-nos .now) (a .coords .now) (a .paths .now) (length (a .refs .now) / refWords) (getD (a .line-nos .now) (l .k) 0) (l .k)
-      (stOf (l .backs) (l .counts) (l .refs) (l .made))
-      (c .before .before .before .before .before .before .before .before .before .before .before .before .before .before .before .before .before .before .before .before .before .before
-      .before .pre .1) (l .inv .5) _ (took (c .before)),
+          (stOf (l .backs) (l .counts) (l .refs) (l .made))
+          (c .before .before .before .before .before .before .before .before .before .before .before .before .before .before .before .before .before .before .before .before .before .before
+          .before .pre .1) (l .inv .5) _ (took (c .before)),
     )
 
 same-length-4 : tie.Need-same-length-4 Inv-loop μ-loop
