@@ -1,10 +1,10 @@
 -- What a tile's commands do to one pixel: a fold over them by two operations, cover and paint. Definitions only.
 use mathlib.Core.Bool.{Bool, cond}
 use mathlib.Core.List.{List}
-use Prim.Native.Nat.{ℕ, _+_, _-_, _*_, _/_, _%_, _^_, _≤_}
+use Prim.Native.Nat.{ℕ, _+_, _-_, _*_, _%_, _^_, _≤_}
 use lib.Dec.{eqb, ltb}
 use lib.IntN.{ℤ, pos, negsuc}
-use lib.ListN.{length, getD, replicate}
+use lib.ListN.{getD, replicate}
 use lib.Ieee.{Float, nan}
 use Rattle.util.specs.Constants.{zero, one}
 use Rattle.lists.specs.Grid.{mapi}
@@ -84,5 +84,5 @@ ran v rgba = record { end = v; rgba = rgba }
 -- the commands from the word `start` on, over the colours there were, each pixel's area 0 at first
 unfoldable pub runOf : List ℕ → List Float → ℕ → List (List Float) → Ran
 runOf words segments start rgba =
-    let t = traceOf mostCommands words (length segments / segmentFloats) start in
+    let t = traceOf mostCommands words segments start in
     ran (endOf t) (mapi (λ k colour. pointOf segments k t (point zero colour) .colour) rgba)

@@ -13,7 +13,6 @@ use panel::kinds::Verdict;
 use panel::limits::MOST_COMMANDS;
 use panel::refusals::PAST_END;
 use panel::refusals::TOO_LONG;
-use panel::widths::SEGMENT_FLOATS;
 use reader::Look;
 use reader::peek_from;
 ghost use mathlib.Core.Path.{_≡_};
@@ -69,7 +68,6 @@ pub fn run(
     requires { ⌜ length (now rgba) ≡ tileSize ⌝ }
     ensures { λ r. ⌜ ran r (now (rgba .exit)) ≡ runOf (now (words .entry)) (now (segments .entry)) start (now (rgba .entry)) ⌝ }
 {
-    let room = segments.len() / SEGMENT_FLOATS;
     let mut area = no_area();
     let mut at = start;
     let mut count = 0u32;
@@ -83,7 +81,7 @@ pub fn run(
         if count == MOST_COMMANDS {
             return Verdict::Against(TOO_LONG);
         }
-        match move_at(words, room, at, op_of(tag)) {
+        match move_at(words, segments, at, op_of(tag)) {
             Move::Refused(no) => {
                 return Verdict::Against(no);
             }

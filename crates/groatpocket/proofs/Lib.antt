@@ -4,3 +4,4 @@ pub mod ToldFrame
 pub mod ToldPpm
 pub mod ToldPixel
 pub mod ToldRecount
+pub mod ToldSvg

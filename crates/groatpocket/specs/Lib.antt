@@ -6,3 +6,5 @@ pub mod CallLists
 pub mod CallPpm
 pub mod CallPixel
 pub mod CallRecount
+pub mod CallSvg
+pub mod Version

@@ -114,4 +114,12 @@ extern "C" {
         kept_counts: *mut u32, kept_counts_len: usize,
         made: &mut u32, item: &mut u32,
     ) -> u32;
+
+    pub fn gp_svg_lines(
+        text: *const u8, text_len: usize,
+        depth: u32, path: u32,
+        path_nos: *mut u32, path_nos_len: usize,
+        coords: *mut f32, coords_len: usize,
+        lines: &mut usize, place: &mut usize,
+    ) -> u32;
 }

@@ -23,6 +23,7 @@ pub const NAMES: &[&str] = &[
     "pixel_area",
     "pixel",
     "recount",
+    "svg_lines",
 ];
 
 /// The slices that a call of a kind may change.
@@ -41,6 +42,7 @@ pub const CHANGED: &[&[usize]] = &[
     &[],
     &[],
     &[4, 5, 6, 7, 8],
+    &[1, 2],
 ];
 
 /// The slices that are bytes, a word for each.
@@ -59,6 +61,7 @@ pub const BYTES: &[&[usize]] = &[
     &[],
     &[],
     &[],
+    &[0],
 ];
 
 /// How many slices and numbers a call of a kind takes.
@@ -77,6 +80,7 @@ pub const SHAPES: &[(usize, usize)] = &[
     (1, 9),
     (2, 4),
     (9, 1),
+    (3, 2),
 ];
 
 /// Whether a call of a kind is linked.
@@ -95,6 +99,7 @@ pub const LINKED: &[bool] = &[
     ours::has::PIXEL,
     ours::has::PIXEL,
     ours::has::RECOUNT,
+    ours::has::SVG,
 ];
 
 macro_rules! answered_by {
@@ -292,6 +297,22 @@ macro_rules! answered_by {
                         &mut item,
                     );
                     vec![no, item, made]
+                }
+                (14, [text, path_nos, coords]) => {
+                    let mut lines = UNTOLD as usize;
+                    let mut place = UNTOLD as usize;
+                    let text_bytes = LentBytes::of(text.u32s());
+                    let no = $side::svg_lines(
+                        text_bytes.u8s(),
+                        n[0],
+                        n[1],
+                        path_nos.u32s_mut(),
+                        coords.f32s_mut(),
+                        &mut lines,
+                        &mut place,
+                    );
+                    text_bytes.give_back(text.u32s_mut());
+                    vec![no, 0, lines as u32, place as u32]
                 }
                 _ => panic!("no call of kind {}", call.kind),
             };
