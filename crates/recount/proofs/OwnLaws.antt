@@ -16,8 +16,9 @@ use Rattle.panel.specs.Limits.{mostLines}
 use Rattle.panel.specs.Refusals.{lineNumber, coordinate, noSuch}
 use Rattle.panel.specs.Widths.{lineFloats}
 use Rattle.panel.specs.Paths.{pathCount}
-use Rattle.walk.specs.Lent.{lineAt, reachedOf, walkAt}
-use Rattle.walk.specs.declared.kinds.LineEnds.{LineEnds}
+use Rattle.panel.specs.Lines.{lineAt}
+use Rattle.walk.specs.Lent.{reachedOf, walkAt}
+use Rattle.panel.specs.declared.lines.LineEnds.{LineEnds}
 use Rattle.walk.specs.declared.kinds.Walked.the-variants as Walked
 use Rattle.acts.specs.Acts.{St}
 use Rattle.acts.specs.Line.{haltIf}

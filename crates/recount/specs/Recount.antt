@@ -18,8 +18,9 @@ use Rattle.panel.specs.Paths.{pathAt, pathCount, widthOf, heightOf, pathsAnswer
 use Rattle.panel.specs.declared.kinds.Path.{Path}
 use Rattle.panel.specs.declared.kinds.Answer.{Answer}
 use Rattle.panel.specs.declared.kinds.Answer.the-variants as Answer
-use Rattle.walk.specs.Lent.{lineAt, reachedOf, walkedOf}
-use Rattle.walk.specs.declared.kinds.LineEnds.{LineEnds}
+use Rattle.panel.specs.Lines.{lineAt}
+use Rattle.walk.specs.Lent.{reachedOf, walkedOf}
+use Rattle.panel.specs.declared.lines.LineEnds.{LineEnds}
 use Rattle.walk.specs.declared.kinds.Walked.{Walked}
 use Rattle.walk.specs.declared.kinds.Walked.the-variants as Walked
 use Rattle.acts.specs.Acts.{St, stOf}

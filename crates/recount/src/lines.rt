@@ -4,20 +4,20 @@ ghost use Prim.Native.Nat.{_+_, _*_, _/_, _≤_, _<_};
 ghost use lib.ListN.{length};
 ghost use Rattle.panel.specs.Paths.{pathCount};
 ghost use Rattle.panel.specs.Widths.{refWords, lineFloats};
-ghost use Rattle.walk.specs.Lent.{lineAt};
+ghost use Rattle.panel.specs.Lines.{lineAt};
 ghost use Rattle.acts.specs.Acts.{stOf};
 ghost use Rattle.path_count.specs.Count.{lineRan, tallyRan, toldOf, Lent};
 ghost use Rattle.recount.specs.Recount.{otherNo, ownStep, linesRan, linesTold, paperOf, madeOf};
 use super::kinds::Recounted;
 use panel::kinds::LineNo;
 use panel::limits::MOST_LINES;
+use panel::lines::line_at;
 use panel::refusals::COORDINATE;
 use panel::refusals::LINE_NUMBER;
 use panel::refusals::NO_SUCH;
 use panel::widths::LINE_FLOATS;
 use path_count::Tallied;
 use path_count::count_line;
-use walk::setup::line_at;
 use walk::setup::reached;
 
 // Why the first line lent is refused, which is of another path: 5 and 6 come first.

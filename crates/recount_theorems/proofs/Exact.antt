@@ -20,7 +20,8 @@ use Rattle.panel.specs.declared.kinds.Verdict.{Verdict}
 use Rattle.panel.specs.declared.kinds.Verdict.the-variants.{Fine, Against}
 use Rattle.panel.specs.declared.kinds.Answer.{Answer}
 use Rattle.panel.specs.declared.kinds.Answer.the-variants.{Done, Refused}
-use Rattle.walk.specs.Lent.{lineAt, reachedOf}
+use Rattle.panel.specs.Lines.{lineAt}
+use Rattle.walk.specs.Lent.{reachedOf}
 use Rattle.acts.specs.Acts.{St}
 use Rattle.acts.specs.Line.{Refusal}
 use Rattle.path_count.specs.Count.{lineStep}

@@ -14,8 +14,9 @@ use Rattle.lists.specs.Order as Order
 use Rattle.panel.specs.Widths.{lineFloats}
 use Rattle.panel.specs.Paths.{pathAt, pathCount, pathsAnswer}
 use Rattle.panel.specs.declared.kinds.Answer.the-variants.{Done}
-use Rattle.walk.specs.Lent.{lineAt, walkAt}
-use Rattle.walk.specs.declared.kinds.LineEnds.{LineEnds}
+use Rattle.panel.specs.Lines.{lineAt}
+use Rattle.walk.specs.Lent.{walkAt}
+use Rattle.panel.specs.declared.lines.LineEnds.{LineEnds}
 use Rattle.acts.specs.Acts.{St}
 use Rattle.acts.specs.Line.{atLine}
 use Rattle.path_count.specs.Count.{lineStep}

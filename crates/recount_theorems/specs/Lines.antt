@@ -10,8 +10,8 @@ use Rattle.lists.specs.Run.{sift}
 use Rattle.lists.specs.Sums.{from}
 use Rattle.lists.specs.Tally.{slices, zeros}
 use Rattle.panel.specs.Widths.{lineFloats}
-use Rattle.walk.specs.Lent.{lineAt}
-use Rattle.walk.specs.declared.kinds.LineEnds.{LineEnds}
+use Rattle.panel.specs.Lines.{lineAt}
+use Rattle.panel.specs.declared.lines.LineEnds.{LineEnds}
 use Rattle.acts.specs.Acts.{packed}
 use Rattle.theorems.specs.Drawn.{Drawn, drawnAt, drawn, walkOf, actsBy, isOf, ofPath}
 use Rattle.theorems.specs.Events.{Event, eventsIn, tilesEv}

@@ -12,7 +12,7 @@ use Rattle.panel.specs.Checks.{firstNo}
 use Rattle.panel.specs.Paths.{pathsAnswer}
 use Rattle.panel.specs.declared.kinds.Verdict.the-variants.{Fine}
 use Rattle.panel.specs.declared.kinds.Answer.the-variants.{Done}
-use Rattle.walk.specs.Lent.{lineAt}
+use Rattle.panel.specs.Lines.{lineAt}
 use Rattle.acts.specs.Acts.{St}
 use Rattle.acts.specs.Line.{Refusal, batchOf}
 use Rattle.recount.specs.Recount.{lentChecks, rangeChecks, ownStep}

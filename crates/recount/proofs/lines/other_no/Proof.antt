@@ -3,8 +3,9 @@ use mathlib.Core.Path.{_≡_, ap, sym, _∙_}
 use mathlib.Core.Bool.{true, false}
 use borrow.Author.Needs.{needs}
 use borrow.Author.Tests.{le-leb, lt-leb}
-use Rattle.walk.specs.Lent.{lineAt, reachedOf}
-use Rattle.walk.specs.declared.kinds.LineEnds.{LineEnds}
+use Rattle.panel.specs.Lines.{lineAt}
+use Rattle.walk.specs.Lent.{reachedOf}
+use Rattle.panel.specs.declared.lines.LineEnds.{LineEnds}
 use Rattle.recount.proofs.lines.other_no.Statement.{statement}
 use Rattle.recount.proofs.lines.other_no.Tie as tie
 
