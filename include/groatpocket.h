@@ -254,6 +254,26 @@ uint32_t gp_pixel(const uint32_t *words, size_t words_len,
                   const float *segments, size_t segments_len,
                   uint32_t tile, uint32_t column, uint32_t row, uint32_t *pixel);
 
+/* A recount of one path, where one gauge has moved: its tiles are zeroed and its new lines counted into
+ * them, and no tile of another path changes. line_nos has each line's own number, path_nos must name
+ * path. It works on counts and backdrops as gp_count leaves them, before sums and hand-out; refs is a
+ * list of this path alone, from its first place on, and *made says how many references are in it.
+ * kept_backdrops and kept_counts are each as long as the path's range, and afterwards hold what it held.
+ * 7 for a path not there comes after 1 to 4, then 1 for a kept slice of another length. Where a line is
+ * refused, its own number is in *item, the range gets back what it held, and refs holds the references
+ * of the lines before it. */
+uint32_t gp_recount(uint32_t path,
+                    const uint32_t *line_nos, size_t line_nos_len,
+                    const uint32_t *path_nos, size_t path_nos_len,
+                    const float *coords, size_t coords_len,
+                    const uint32_t *paths, size_t paths_len,
+                    int32_t *backdrops, size_t backdrops_len,
+                    uint32_t *counts, size_t counts_len,
+                    uint32_t *refs, size_t refs_len,
+                    int32_t *kept_backdrops, size_t kept_backdrops_len,
+                    uint32_t *kept_counts, size_t kept_counts_len,
+                    uint32_t *made, uint32_t *item);
+
 /* The lines of an outline, from the path data of SVG 1.1: M, L, H, V, Z and Q, large or small, with
  * numbers of up to six digits before the point and three after. They stand at the front of path_nos
  * and coords as gp_count and gp_frame take them, each with the number path; *lines says how many. A Q

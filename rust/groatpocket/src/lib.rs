@@ -37,7 +37,7 @@
 //! ```
 //!
 //! The stages of a frame are calls too, for whoever feeds lines in batches: [`count`], [`backdrop`], [`hand_out`],
-//! [`tile`]. One pixel can be asked for by itself: [`pixel`], [`pixel_area`]. Lines of an outline can be read from
+//! [`tile`]. Where one gauge has moved, its path alone is counted again: [`recount`]. One pixel can be asked for by itself: [`pixel`], [`pixel_area`]. Lines of an outline can be read from
 //! SVG: [`svg_lines`].
 //!
 //! Nothing is allocated and the crate is `no_std`. It links `libgroatpocket.a`: see its README. Colours are multiplied by
@@ -73,6 +73,8 @@ mod picture;
 #[cfg(feature = "pixel")]
 mod pixel;
 pub mod raw;
+#[cfg(feature = "recount")]
+mod recount;
 mod refusal;
 mod screen;
 mod stages;
@@ -87,6 +89,8 @@ pub use lists::{words_needed, write_lists};
 pub use picture::{ppm_read, ppm_write};
 #[cfg(feature = "pixel")]
 pub use pixel::{pixel, pixel_area};
+#[cfg(feature = "recount")]
+pub use recount::{recount, RecountStopped};
 pub use refusal::{Refusal, Refused};
 pub use screen::{fill, fine, Fill, Screen};
 pub use stages::{backdrop, count, hand_out, tile, Running, Stopped};

@@ -297,6 +297,74 @@ fn hand_out(tiles: &mut [Tile], counts: &mut [u32]) {
     }
 }
 
+/// A recount of one path beside a count of the whole frame: 64 paths, each with as many lines over as many tiles.
+pub fn recount(rounds: usize) {
+    for (kind, name) in KINDS {
+        for n in [20, 300] {
+            let times = one_path(kind, n, rounds);
+            let ratio = times.ours / times.rust;
+            println!("| lines {name} | {n} | {:.0} | {:.0} | {ratio:.4} | {:.2} |", times.rust, times.ours, PATHS as f64 * ratio);
+        }
+    }
+}
+
+const PATHS: usize = 64;
+
+fn one_path(kind: Kind, n: usize, rounds: usize) -> Times {
+    let (scene, words) = (Scene::new(kind, n), rules::limits::PATH);
+    let paths: Vec<u32> = (0..PATHS)
+        .flat_map(|p| {
+            let mut path = scene.paths.clone();
+            path[FIRST] = (p * scene.tiles) as u32;
+            path
+        })
+        .collect();
+    assert_eq!(paths.len(), PATHS * words);
+    let path_nos: Vec<u32> = (0..PATHS as u32).flat_map(|p| vec![p; n]).collect();
+    let coords = scene.coords.repeat(PATHS);
+    let (tiles, lines) = (PATHS * scene.tiles, (PATHS * n) as u32);
+    let (mut backs, mut counts, mut refs) = (vec![0; tiles], vec![0; tiles], vec![0; 2 * scene.room * PATHS]);
+    let mut count = |backs: &mut [i32], counts: &mut [u32]| {
+        backs.fill(0);
+        counts.fill(0);
+        timed(|| assert_eq!(ours::count(&path_nos, &coords, &paths, backs, counts, &mut refs, lines, &mut 0, &mut 0, &mut 0), 0))
+    };
+    count(&mut backs, &mut counts);
+    let (mut again, mut tally) = (backs.clone(), counts.clone());
+    let (mut own, mut kept_backs, mut kept_counts) = (vec![0; 2 * scene.room], vec![0; scene.tiles], vec![0; scene.tiles]);
+    let path = PATHS as u32 / 2;
+    let (line_nos, own_nos): (Vec<u32>, Vec<u32>) = ((0..n as u32).map(|l| path * n as u32 + l).collect(), vec![path; n]);
+    let times = measured(
+        1,
+        rounds,
+        || count(&mut backs, &mut counts),
+        || {
+            timed(|| {
+                let no = ours::recount(
+                    path,
+                    &line_nos,
+                    &own_nos,
+                    &scene.coords,
+                    &paths,
+                    &mut again,
+                    &mut tally,
+                    &mut own,
+                    &mut kept_backs,
+                    &mut kept_counts,
+                    &mut 0,
+                    &mut 0,
+                );
+                assert_eq!(no, 0);
+            })
+        },
+    );
+    assert_eq!((backs, counts), (again, tally));
+    times
+}
+
+/// The place of a path's first tile.
+const FIRST: usize = 4;
+
 /// The pixels of a tile under a list of so many fills of 10 segments each, one call a pixel, beside the tile by one call of fine.
 pub fn pixel(rounds: usize) {
     for fills in [1, 10, 100] {

@@ -110,6 +110,38 @@ fn pixel(rng: &mut Rng, kind: u32) -> Call {
     Call { kind, numbers: vec![0, rng.range(14, 16) as u32, rng.range(14, 16) as u32, rng.u32()], slices: vec![words, vec![]] }
 }
 
+/// A recount of the last path: paths at the limit, a step off its box, a line number at the limit, or a tile so often taken, by
+/// lines of one number, that its count is at the limit.
+fn recount(rng: &mut Rng, kind: u32) -> Call {
+    let down = bits([8.0, 4.0, 8.0, 12.0]);
+    let (paths, wide) = (many_paths(rng), [80.0, 0.0, 80.0, f32::from_bits(rng.range(1, 2_000) as u32)]);
+    let boxed = |columns: u32| {
+        let mut path = vec![0; rules::limits::PATH];
+        (path[2], path[3]) = (columns, 1);
+        path
+    };
+    let often = rules::limits::COUNT_MOST as usize + rng.range(0, 2) as usize;
+    let (line_no, coords, paths, tiles) = match rng.below(12) {
+        0 => (0, down, paths, 0),
+        1 | 2 => (0, down.repeat(often), boxed(1), 1),
+        3..=5 => (rules::limits::LINES_MOST as u32 - rng.below(2) as u32, down, boxed(1), 1),
+        _ => (0, bits(wide), boxed(6), 6),
+    };
+    let lines = coords.len() / 4;
+    let slices = vec![
+        vec![line_no; lines],
+        vec![0; lines],
+        coords,
+        paths,
+        vec![7; tiles],
+        vec![7; tiles],
+        vec![9; 2 * lines + 8],
+        vec![5; tiles],
+        vec![5; tiles],
+    ];
+    Call { kind, numbers: vec![0], slices }
+}
+
 /// A call that leads to a rare answer of the kind, where it has one.
 pub fn toward(rng: &mut Rng, kind: u32) -> Option<Call> {
     Some(match NAMES[kind as usize] {
@@ -125,6 +157,7 @@ pub fn toward(rng: &mut Rng, kind: u32) -> Option<Call> {
         }
         "tile" => tile(rng),
         "frame" => frame(rng),
+        "recount" => recount(rng, kind),
         "write_lists" if rng.one_in(4) => write_lists(rng),
         "ppm_read" => {
             let (width, height) = (rng.pick(&[0, 1, SIDE_MOST, SIDE_MOST + 1, u32::MAX]), rng.pick(&[0, 1, SIDE_MOST + 1]));

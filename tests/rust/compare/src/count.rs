@@ -294,16 +294,16 @@ impl Stage for Count {
 }
 
 /// What is lent to be changed, and the running numbers.
-struct Memory {
-    backdrops: Lent,
-    counts: Lent,
-    refs: Lent,
+pub struct Memory {
+    pub backdrops: Lent,
+    pub counts: Lent,
+    pub refs: Lent,
     lines: u32,
-    made: u32,
+    pub made: u32,
 }
 
 impl Memory {
-    fn of(case: &Case) -> Memory {
+    pub fn of(case: &Case) -> Memory {
         Memory {
             backdrops: Lent::new(&case.backdrops),
             counts: Lent::new(&case.counts),
@@ -313,11 +313,11 @@ impl Memory {
         }
     }
 
-    fn lend(&mut self, call: impl FnOnce(&mut [i32], &mut [u32], &mut [u32], &mut u32, &mut u32) -> u32) -> u32 {
+    pub fn lend(&mut self, call: impl FnOnce(&mut [i32], &mut [u32], &mut [u32], &mut u32, &mut u32) -> u32) -> u32 {
         call(self.backdrops.i32s_mut(), self.counts.u32s_mut(), self.refs.u32s_mut(), &mut self.lines, &mut self.made)
     }
 
-    fn same_as(&self, wanted: &Memory) -> Result<(), String> {
+    pub fn same_as(&self, wanted: &Memory) -> Result<(), String> {
         same("lines so far", self.lines, wanted.lines)?;
         same("references so far", self.made, wanted.made)?;
         same_words("backdrops", self.backdrops.u32s(), wanted.backdrops.u32s())?;
@@ -342,7 +342,7 @@ fn uncut(case: &Case, path_nos: &Lent, coords: &Lent, paths: &Lent, wanted: &Mem
 }
 
 /// The lines that the rules accepted, run by the unchanged Rust.
-fn by_the_rust(case: &Case, wanted: &Memory) -> Result<(), String> {
+pub fn by_the_rust(case: &Case, wanted: &Memory) -> Result<(), String> {
     let mut memory = Memory::of(case);
     let mut made = 0;
     let (from, to, so_far) = (case.lines as usize, wanted.lines as usize, case.made);

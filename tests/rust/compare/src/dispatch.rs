@@ -22,6 +22,7 @@ pub const NAMES: &[&str] = &[
     "ppm_read",
     "pixel_area",
     "pixel",
+    "recount",
     "svg_lines",
 ];
 
@@ -40,6 +41,7 @@ pub const CHANGED: &[&[usize]] = &[
     &[1],
     &[],
     &[],
+    &[4, 5, 6, 7, 8],
     &[1, 2],
 ];
 
@@ -56,6 +58,7 @@ pub const BYTES: &[&[usize]] = &[
     &[],
     &[1],
     &[0, 1],
+    &[],
     &[],
     &[],
     &[0],
@@ -76,6 +79,7 @@ pub const SHAPES: &[(usize, usize)] = &[
     (2, 0),
     (1, 9),
     (2, 4),
+    (9, 1),
     (3, 2),
 ];
 
@@ -94,6 +98,7 @@ pub const LINKED: &[bool] = &[
     ours::has::PICTURE,
     ours::has::PIXEL,
     ours::has::PIXEL,
+    ours::has::RECOUNT,
     ours::has::SVG,
 ];
 
@@ -274,7 +279,26 @@ macro_rules! answered_by {
                     );
                     vec![no, 0, pixel]
                 }
-                (13, [text, path_nos, coords]) => {
+                (13, [line_nos, path_nos, coords, paths, backdrops, counts, refs, kept_backdrops, kept_counts]) => {
+                    let mut made = UNTOLD;
+                    let mut item = UNTOLD;
+                    let no = $side::recount(
+                        n[0],
+                        line_nos.u32s(),
+                        path_nos.u32s(),
+                        coords.f32s(),
+                        paths.u32s(),
+                        backdrops.i32s_mut(),
+                        counts.u32s_mut(),
+                        refs.u32s_mut(),
+                        kept_backdrops.i32s_mut(),
+                        kept_counts.u32s_mut(),
+                        &mut made,
+                        &mut item,
+                    );
+                    vec![no, item, made]
+                }
+                (14, [text, path_nos, coords]) => {
                     let mut lines = UNTOLD as usize;
                     let mut place = UNTOLD as usize;
                     let text_bytes = LentBytes::of(text.u32s());

@@ -6,8 +6,9 @@ use crate::calls::{by_ours, by_rules, kind_of, linked, same_outcome, shape, Call
 use crate::stage::{hex, Sides, Stage};
 use crate::table::Table;
 use cases::{boxes, floats, lines, segments, texts, Rng};
-use rules::limits::{COORD_MOST, COUNT_MOST, EDGE_MOST, LINE, LINES_MOST, PATHS_MOST, REF, ROOM_MOST, SEGMENT, STEP_RANGE};
+use rules::limits::{COORD_MOST, COUNT_MOST, EDGE_MOST, LINE, LINES_MOST, PATH, PATHS_MOST, REF, ROOM_MOST, SEGMENT, STEP_RANGE};
 use rules::records::box_at;
+use rules::walk::Place;
 
 /// Words at the ends of what a word holds, and at the limits.
 const LIMITS: [u32; 11] = [
@@ -142,6 +143,14 @@ fn good(rng: &mut Rng, kind: u32) -> Call {
             let tiles = rng.below(3) as u32;
             let list_words = (0..64 * tiles).map(|k| if k % 64 == 0 { 0 } else { rng.below(6) as u32 }).collect();
             (vec![rng.below(3) as u32, rng.below(17) as u32, rng.below(17) as u32, any_word(rng)], vec![list_words, list])
+        }
+        _ if NAMES[kind as usize] == "recount" => {
+            let path = rng.below(n_paths.max(1) as u64) as u32;
+            let kept = paths.chunks_exact(PATH).nth(path as usize).map(Place::of).map_or(0, |b| ((b.x1 - b.x0) * (b.y1 - b.y0)) as usize);
+            let of = path_nos.iter().map(|&p| if rng.one_in(8) { p } else { path }).collect();
+            let (refs, line_nos) = (2 * rng.below(60) as usize, (0..n).map(|_| rng.below(9) as u32).collect());
+            let tables = [words(rng, tiles), words(rng, tiles), words(rng, refs), words(rng, kept), words(rng, kept)];
+            (vec![path], [line_nos, of, coords, paths].into_iter().chain(tables).collect())
         }
         FINE => {
             let (cols, rows) = (rng.below(3) as u32, rng.below(2) as u32);

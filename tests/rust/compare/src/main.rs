@@ -28,6 +28,7 @@ mod limits;
 mod lists;
 mod order;
 mod pixel;
+mod recount;
 mod stage;
 mod svg_lines;
 mod table;
@@ -102,7 +103,7 @@ fn run<S: Stage>(stage: &S, args: &Args, linked: bool, seconds: f64) -> bool {
     stage::run(stage, Sides { ours, rust: oracle::AT_HAND }, budget)
 }
 
-const STAGES: [&str; 13] = [
+const STAGES: [&str; 14] = [
     "floats",
     "backdrop",
     "hand_out",
@@ -113,6 +114,7 @@ const STAGES: [&str; 13] = [
     "frame",
     "write_lists",
     "pixel",
+    "recount",
     "svg_lines",
     "order",
     hostile::Hostile::NAME,
@@ -135,6 +137,7 @@ fn stages(args: &Args) -> bool {
     well &= run(&frame::Frame, args, ours::has::FRAME, 12.0);
     well &= run(&write_lists::WriteLists, args, ours::has::LISTS, 12.0);
     well &= run(&pixel::Pixel, args, ours::has::PIXEL && ours::has::FILL && ours::has::FINE, 8.0);
+    well &= run(&recount::Recount, args, ours::has::RECOUNT && ours::has::COUNT, 6.0);
     well &= run(&svg_lines::SvgLines, args, ours::has::SVG, 6.0);
     if ours::has::SVG && args.mode != "rules-vs-oracle" && args.cases.is_none() && args.only.as_deref().is_none_or(|o| o == "svg_lines") {
         well &= svg_lines::fixed();

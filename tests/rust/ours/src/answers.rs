@@ -39,6 +39,12 @@ pub fn stage_item_lines_made(
     self::item(answer.map(|_| ()).map_err(|stopped| stopped.refused), item)
 }
 
+#[cfg(feature = "recount")]
+pub fn made_item(answer: Result<u32, groatpocket::RecountStopped>, made: &mut u32, item: &mut u32) -> u32 {
+    *made = answer.map_or_else(|stopped| stopped.references, |made| made);
+    self::item(answer.map(|_| ()).map_err(|stopped| stopped.refused), item)
+}
+
 /// The crate asserts that a refusal leaves 0 in what is told, in builds with debug assertions.
 #[cfg(feature = "picture")]
 pub fn size(answer: Result<usize, Refused>, size: &mut usize) -> u32 {

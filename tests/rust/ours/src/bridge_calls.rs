@@ -287,6 +287,42 @@ unsafe extern "C" fn gp_pixel(
     answer
 }
 
+#[cfg(feature = "recount")]
+#[no_mangle]
+unsafe extern "C" fn gp_recount(
+    path: u32,
+    line_nos: *const u32, line_nos_len: usize,
+    path_nos: *const u32, path_nos_len: usize,
+    coords: *const f32, coords_len: usize,
+    paths: *const u32, paths_len: usize,
+    backdrops: *mut i32, backdrops_len: usize,
+    counts: *mut u32, counts_len: usize,
+    refs: *mut u32, refs_len: usize,
+    kept_backdrops: *mut i32, kept_backdrops_len: usize,
+    kept_counts: *mut u32, kept_counts_len: usize,
+    made: &mut u32, item: &mut u32,
+) -> u32 {
+    let mut n = [path, *made, *item];
+    let answer = call(
+        13,
+        &mut n,
+        vec![
+            read_only(line_nos, line_nos_len),
+            read_only(path_nos, path_nos_len),
+            read_only(coords, coords_len),
+            read_only(paths, paths_len),
+            changed(backdrops, backdrops_len),
+            changed(counts, counts_len),
+            changed(refs, refs_len),
+            changed(kept_backdrops, kept_backdrops_len),
+            changed(kept_counts, kept_counts_len),
+        ],
+    );
+    *made = n[1];
+    *item = n[2];
+    answer
+}
+
 #[cfg(feature = "svg")]
 #[no_mangle]
 unsafe extern "C" fn gp_svg_lines(
@@ -298,7 +334,7 @@ unsafe extern "C" fn gp_svg_lines(
 ) -> u32 {
     let mut n = [depth, path, *lines as u32, *place as u32];
     let answer = call(
-        13,
+        14,
         &mut n,
         vec![
             read_only(text, text_len),

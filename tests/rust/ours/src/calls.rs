@@ -300,6 +300,33 @@ pub fn pixel(
     not_linked(("pixel", words, segments, tile, column, row, pixel))
 }
 
+pub fn recount(
+    path: u32,
+    line_nos: &[u32],
+    path_nos: &[u32],
+    coords: &[f32],
+    paths: &[u32],
+    backdrops: &mut [i32],
+    counts: &mut [u32],
+    refs: &mut [u32],
+    kept_backdrops: &mut [i32],
+    kept_counts: &mut [u32],
+    made: &mut u32,
+    item: &mut u32,
+) -> u32 {
+    #[cfg(all(feature = "recount", not(bridge)))]
+    if crate::null::is_lent(&[line_nos.len(), path_nos.len(), coords.len(), paths.len(), backdrops.len(), counts.len(), refs.len(), kept_backdrops.len(), kept_counts.len()]) {
+        // SAFETY: every pointer and length is a slice's, lent for the call alone, or NULL and 0.
+        return unsafe { groatpocket::raw::gp_recount(path, crate::null::at(line_nos), line_nos.len(), crate::null::at(path_nos), path_nos.len(), crate::null::at(coords), coords.len(), crate::null::at(paths), paths.len(), crate::null::at_mut(backdrops), backdrops.len(), crate::null::at_mut(counts), counts.len(), crate::null::at_mut(refs), refs.len(), crate::null::at_mut(kept_backdrops), kept_backdrops.len(), crate::null::at_mut(kept_counts), kept_counts.len(), made, item) };
+    }
+    #[cfg(feature = "recount")]
+    let answer = groatpocket::recount(path, line_nos, path_nos, coords, paths, backdrops, counts, refs, kept_backdrops, kept_counts);
+    #[cfg(feature = "recount")]
+    return crate::answers::made_item(answer, made, item);
+    #[cfg(not(feature = "recount"))]
+    not_linked(("recount", path, line_nos, path_nos, coords, paths, backdrops, counts, refs, kept_backdrops, kept_counts, made, item))
+}
+
 pub fn svg_lines(
     text: &[u8],
     depth: u32,

@@ -36,6 +36,7 @@ pub mod has {
     pub const LISTS: bool = cfg!(feature = "lists");
     pub const PICTURE: bool = cfg!(feature = "picture");
     pub const PIXEL: bool = cfg!(feature = "pixel");
+    pub const RECOUNT: bool = cfg!(feature = "recount");
     pub const SVG: bool = cfg!(feature = "svg");
 }
 
