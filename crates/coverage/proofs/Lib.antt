@@ -1,5 +1,6 @@
 pub mod Past
 pub mod Laws
+pub mod Grounds
 pub mod Page
 pub mod Turn
 pub mod Even

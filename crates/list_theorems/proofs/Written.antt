@@ -31,7 +31,7 @@ use Rattle.write_lists.specs.declared.pairs.Pair.{Pair}
 use Rattle.write_lists.specs.declared.pairs.Pair.the-variants.{Fill, Solid}
 use Rattle.list_theorems.specs.Painted.{painted}
 use Rattle.list_theorems.specs.Written.{Wrote, Fills, AllI32, PairsInOrder, NeverRefused, LikePainted}
-use Rattle.list_theorems.proofs.Regions.{ChunkStands, InWords, Filled, Off, all-stand, word-stays, list-goes}
+use Rattle.list_theorems.proofs.Regions.{ChunkStands, InWords, Filled, Drawn, Off, all-stand, word-stays, list-goes}
 use Rattle.list_theorems.proofs.Apart.{all-map, lists-in, lists-apart, tile-among, first-off}
 use Rattle.list_theorems.proofs.Passed.{Passed, passed}
 use Rattle.list_theorems.proofs.Pixels.{list-ends, list-paints, pairs-paint}
@@ -50,9 +50,12 @@ met-wrote s cols rows room ws after p = sym p
 
 -- ---- what was written
 
-more : {a b : ℕ} → a ≤ b → (p : Pair) → Filled a p → Filled b p
-more h (Fill count rule first backdrop colour) f = omega arith
-more h (Solid colour) f = tt
+-- FILLs within the room told are not refused
+drawn : {room : ℕ} {segs : List Float} → Fills room segs → (p : Pair) → Filled room p → Drawn segs p
+drawn {room = room} {segs = segs} fills (Fill count rule first backdrop colour) f =
+    let h = fills .enough in
+    rw (le-leb (first + count) (length segs / segmentFloats) (omega arith))
+drawn fills (Solid colour) f = tt
 
 module _ (s : Tables) (cols rows room : ℕ) (ws words : List ℕ) (wrote : Wrote s cols rows room ws words) where
   p : Passed s cols rows room ws words
@@ -91,8 +94,8 @@ module _ (s : Tables) (cols rows room : ℕ) (ws words : List ℕ) (wrote : Wrot
     unfolding tileTrace listsOf
     pairs-in-order t h =
         let w = tile-among s cols (ChunkStands words) (cols * rows) 0 (tileWords * (cols * rows)) t (omega arith) (omega arith) stand in
-        list-goes words (length segs / segmentFloats) (tilePairs s cols t) mostCommands (startOf t) ownWords (w .0)
-        (all-map (Filled room) (Filled (length segs / segmentFloats)) (more (fills .enough)) (tilePairs s cols t) (p .filled t h)) (p .short t h) (w .1)
+        list-goes words segs (tilePairs s cols t) mostCommands (startOf t) ownWords (w .0)
+        (all-map (Filled room) (Drawn segs) (drawn fills) (tilePairs s cols t) (p .filled t h)) (p .short t h) (w .1)
 
     pub never-refused : NeverRefused cols rows words segs
     never-refused t h = ap endOf (pairs-in-order t h) ∙ list-ends ownWords (tilePairs s cols t)

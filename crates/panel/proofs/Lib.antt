@@ -5,3 +5,4 @@ pub mod CheckLaws
 pub mod PathLaws
 pub mod KindLaws
 pub mod SegmentLaws
+pub mod HeldLaws

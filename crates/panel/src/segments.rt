@@ -4,7 +4,7 @@ ghost use mathlib.Core.Path.{_≡_};
 ghost use Prim.Native.Nat.{_+_, _*_, _≤_};
 ghost use lib.ListN.{length};
 ghost use Rattle.panel.specs.Widths.{segmentFloats};
-ghost use Rattle.panel.specs.Segments.{segmentAt, putOf};
+ghost use Rattle.panel.specs.Segments.{segmentAt, putOf, heldOf};
 use super::kinds::SlotNo;
 use super::widths::SEGMENT_FLOATS;
 use util::Vec2;
@@ -31,6 +31,13 @@ pub fn segment_at(segments: &[f32], k: usize) -> Segment
     };
     let y_edge = segments[b + 4];
     Segment { p0, p1, y_edge }
+}
+
+// Whether a segment's end is within its tile, 0..16, which NaN isn't: tiling asks it of what it makes.
+pub fn held(p: Vec2) -> bool
+    ensures { λ r. ⌜ r ≡ heldOf p ⌝ }
+{
+    ((p.x >= 0.0) & (p.x <= util::TILE_SIDE)) & ((p.y >= 0.0) & (p.y <= util::TILE_SIDE))
 }
 
 // A segment into its slot.

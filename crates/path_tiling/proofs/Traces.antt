@@ -18,7 +18,8 @@ use Rattle.walk.specs.Page.{lineOf}
 use Rattle.walk.specs.Skip.{flatOf, pastOf}
 use Rattle.walk.specs.Step.{zAt, tileIn, stepOf}
 use Rattle.walk.specs.Lent.{lineAt, walkedOf, walkAt}
-use Rattle.segment.specs.Clips.{cornerOf, farOf, atRowOf, atColOf, clipOf, makeOf, edgeOf, offOf, turnOf, heldOf, firstOf, lastOf, segmentOf, pieceOf}
+use Rattle.segment.specs.Clips.{cornerOf, farOf, atRowOf, atColOf, clipOf, makeOf, edgeOf, offOf, turnOf, firstOf, lastOf, segmentOf, pieceOf}
+use Rattle.panel.specs.Segments.{heldOf}
 use Rattle.path_tiling.specs.Look.{lent, foundOf, pieceTo, wordTo, stepTo, foundTo, lookOf}
 use Rattle.path_tiling.specs.Tiling.{Tiled, tiled, rangeOf, wholeOf, checksOf, callOf, tiledOf}
 

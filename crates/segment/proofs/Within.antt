@@ -3,23 +3,15 @@ use Prim.Native.Nat.{ℕ}
 use native.Mathlib.Omega.{arith}
 use mathlib.Core.Path.{_≡_, refl}
 use mathlib.Core.Bool.{Bool, true, false, cond, _&&_}
-use lib.Ieee.{Float, le}
-use Rattle.util.specs.Constants.{zero, tileSide}
-use Rattle.util.specs.declared.Vec2.{Vec2}
+use lib.Ieee.{Float}
 use Rattle.walk.specs.declared.kinds.Walk.{Walk}
+use Rattle.panel.specs.Segments.{InTile, heldOf}
 use Rattle.panel.proofs.BoolLaws.{both}
-use Rattle.segment.specs.Clips.{InTile, heldOf, segmentOf, pieceOf}
+use Rattle.panel.proofs.HeldLaws.{held-in}
+use Rattle.segment.specs.Clips.{segmentOf, pieceOf}
 use Rattle.panel.specs.declared.segments.Segment.{Segment}
 use Rattle.segment.specs.declared.Piece.{Piece}
 use Rattle.segment.specs.declared.Piece.the-variants.{Kept, Crooked}
-
-pub held-in : (p : Vec2) → heldOf p ≡ true → InTile p
-unfolding heldOf
-held-in p e =
-    let h = both (le zero (p .x) && le (p .x) tileSide) (le zero (p .y) && le (p .y) tileSide) e in
-    let x = both (le zero (p .x)) (le (p .x) tileSide) (h .0) in
-    let y = both (le zero (p .y)) (le (p .y) tileSide) (h .1) in
-    record { left = x .0; right = x .1; top = y .0; bottom = y .1 }
 
 kept-if : (t : Bool) (r s : Segment) → cond t (Kept r) Crooked ≡ Kept s → (t ≡ true) × (r ≡ s)
 kept-if true r s e = (refl, cc)

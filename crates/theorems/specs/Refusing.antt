@@ -33,7 +33,8 @@ use Rattle.walk.specs.declared.kinds.Walked.the-variants.{Line, Skipped}
 use Rattle.walk.specs.Step.{zAt, stepOf}
 use Rattle.walk.specs.declared.step.Step.the-variants as On
 use Rattle.panel.specs.declared.kinds.TileNo.{TileNo}
-use Rattle.segment.specs.Clips.{InTile, segmentOf}
+use Rattle.panel.specs.Segments.{InTile}
+use Rattle.segment.specs.Clips.{segmentOf}
 use Rattle.panel.specs.declared.segments.Segment.{Segment}
 use Rattle.path_tiling.specs.Look as Look
 use Rattle.path_tiling.specs.declared.look.Look.the-variants as Looked

@@ -11,7 +11,7 @@ use Rattle.lists.specs.Occ.{occ}
 use Rattle.lists.specs.Tally.{Distinct}
 use Rattle.panel.specs.Paths.{pathAt, pathCount, endOf}
 use Rattle.panel.specs.declared.kinds.Answer.the-variants.{Done, Refused}
-use Rattle.segment.specs.Clips.{InTile}
+use Rattle.panel.specs.Segments.{InTile}
 use Rattle.path_tiling.specs.Look.{lineAt}
 use Rattle.panel.specs.Segments.{segmentAt}
 use Rattle.path_tiling.specs.Tiling.{Write, Range, applied}

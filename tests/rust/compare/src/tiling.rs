@@ -150,17 +150,8 @@ impl Stage for Tile {
             }
             if sides.ours {
                 let mut our_item = 0xabcd;
-                let our_number = ours::tile(
-                    path_nos.u32s(),
-                    coords.f32s(),
-                    paths.u32s(),
-                    stored.u32s(),
-                    refs.u32s(),
-                    from,
-                    to,
-                    by_ours.f32s_mut(),
-                    &mut our_item,
-                );
+                let our_number =
+                    ours::tile(path_nos.u32s(), coords.f32s(), paths.u32s(), stored.u32s(), refs.u32s(), from, to, by_ours.f32s_mut(), &mut our_item);
                 same("answer", our_number, number)?;
                 same("item", our_item, item)?;
                 same_words("segments", by_ours.u32s(), by_rules.u32s())?;

@@ -40,8 +40,8 @@ enum-told-2 c = search needs
 draw-requires : tie.Need-draw-requires
 draw-requires c κs =
     let a = c .before .before .before .before .before .before .before .before .before .before .before .before .before .before .before .before .before .before .args in
-    let fine = all-ok (lentChecks (length (a .path-nos .now)) (length (a .coords .now)) (length (a .backdrops .now)) (length (a .tiles .now)) (length (a .tally .now)) (length (a .refs .now)) (length (a .segments .now))) (sym (c .before .before .before .before .before .before .before .before .before .before .check-lent .ensures) ∙ c .before .before .before .before .before .before .before .before .enum-told .given .1) in
-    (sym (c .before .before .before .before .before .before .before .check-paths .ensures) ∙ c .before .before .before .before .before .enum-told2 .given .1, eqb-true (length (a .backdrops .now)) (length (a .tiles .now)) (fine .1 .1 .0))
+    let fine = all-ok (lentChecks (length (a .path-nos .now)) (length (a .coords .now)) (length (a .backdrops .now)) (length (a .stored .now)) (length (a .tally .now)) (length (a .refs .now)) (length (a .segments .now))) (sym (c .before .before .before .before .before .before .before .before .before .before .check-lent .ensures) ∙ c .before .before .before .before .before .before .before .before .enum-told .given .1) in
+    (sym (c .before .before .before .before .before .before .before .check-paths .ensures) ∙ c .before .before .before .before .before .enum-told2 .given .1, eqb-true (length (a .backdrops .now)) (length (a .stored .now)) (fine .1 .1 .0))
 
 same-length : tie.Need-same-length
 same-length c = search needs

@@ -17,7 +17,7 @@ end-of-requires c κs = search needs
 
 -- the paths are checked for as many tiles as are cleared
 count-checked-requires : tie.Need-count-checked-requires
-count-checked-requires c κs = rw (c .before .before .before .before .before .tiles .given) (c .before .before .before .before .before .before .before .before .before .before .before .before .before .before .before .before .before .before .pre .0)
+count-checked-requires c κs = rw (c .before .before .before .before .before .stored .given) (c .before .before .before .before .before .before .before .before .before .before .before .before .before .before .before .before .before .before .pre .0)
 
 enum-known-s : tie.Need-enum-known-s
 enum-known-s c = search needs
@@ -25,7 +25,7 @@ enum-known-s c = search needs
 -- and counting leaves as many, and as many backdrops
 place-requires : tie.Need-place-requires
 place-requires c κs =
-    let tiles = c .before .before .before .before .before .before .before .before .before .before .before .tiles2 .given ∙ c .before .before .before .before .before .before .before .before .before .before .before .before .before .before .before .before .before .before .before .tiles .given in
+    let tiles = c .before .before .before .before .before .before .before .before .before .before .before .stored2 .given ∙ c .before .before .before .before .before .before .before .before .before .before .before .before .before .before .before .before .before .before .before .stored .given in
     let backs = c .before .before .before .before .before .before .before .before .before .before .before .before .backdrops2 .given ∙ c .before .before .before .before .before .before .before .before .before .before .before .before .before .before .before .before .before .before .before .before .before .before .backdrops .given in
     (rw tiles (c .before .before .before .before .before .before .before .before .before .before .before .before .before .before .before .before .before .before .before .before .before .before .before .before .before .before .before .before .before .before .before .before .pre .0), backs ∙ c .before .before .before .before .before .before .before .before .before .before .before .before .before .before .before .before .before .before .before .before .before .before .before .before .before .before .before .before .before .before .before .before .pre .1 ∙ sym tiles)
 

@@ -53,7 +53,7 @@ enum-told-2 c = search needs
 
 -- hand-out leaves as many tiles
 tile-checked-requires : tie.Need-tile-checked-requires
-tile-checked-requires c κs = rw (c .before .before .before .before .before .before .before .tiles .given) (c .before .before .before .before .before .before .before .before .before .before .before .before .before .before .before .before .before .before .before .before .before .before .before .before .pre .0)
+tile-checked-requires c κs = rw (c .before .before .before .before .before .before .before .stored .given) (c .before .before .before .before .before .before .before .before .before .before .before .before .before .before .before .before .before .before .before .before .before .before .before .before .pre .0)
 
 enum-known-tiled : tie.Need-enum-known-tiled
 enum-known-tiled c = search needs
