@@ -3,3 +3,4 @@ pub mod Told
 pub mod ToldFrame
 pub mod ToldPpm
 pub mod ToldPixel
+pub mod ToldSvg

@@ -5,3 +5,5 @@ pub mod CallFrame
 pub mod CallLists
 pub mod CallPpm
 pub mod CallPixel
+pub mod CallSvg
+pub mod Version

@@ -9,7 +9,7 @@ use lib.IntN.{ℤ, pos, negsuc}
 use lib.ListN.{length, replicate}
 use lib.Ieee.{Float}
 use Rattle.panel.specs.Limits.{edgeMost}
-use Rattle.panel.specs.Paths.{pathAt, pathsFrom, pathsAnswer}
+use Rattle.panel.specs.Paths.{boxed, pathAt, pathsFrom, pathsAnswer}
 use Rattle.panel.specs.declared.kinds.Answer.the-variants.{Done}
 use Rattle.hand_out.specs.HandOut.{outOf, handOutOf}
 use Rattle.panel.specs.Signed.{inI32}
@@ -31,7 +31,7 @@ unfolding handOutOf
 handed-out = refl
 
 abbrev pub two : Tables
-two = tables (0 ∷ 0 ∷ 2 ∷ 1 ∷ 0 ∷ []) (0x2040_60ff ∷ 1 ∷ []) (pos 0 ∷ negsuc 0 ∷ []) (0xffff_ffff ∷ 0 ∷ []) (1 ∷ 0 ∷ [])
+two = tables (boxed 0 0 2 1 0) (0x2040_60ff ∷ 1 ∷ []) (pos 0 ∷ negsuc 0 ∷ []) (0xffff_ffff ∷ 0 ∷ []) (1 ∷ 0 ∷ [])
 
 pub two-handed : Handed 1 (two .stored) (two .tally)
 two-handed = handed 1 (1 ∷ 0 ∷ []) (7 ∷ 7 ∷ []) (two .stored) (two .tally) handed-out
@@ -56,7 +56,7 @@ an-instance a b c d e = like-painted two 2 1 1 (replicate 128 9) two-words two-w
 -- n paths over one screen tile, the first of them with tile i
 unfoldable pub boxes : ℕ → ℕ → List ℕ
 boxes zero i = []
-boxes (suc n) i = 0 ∷ 0 ∷ 1 ∷ 1 ∷ i ∷ boxes n (suc i)
+boxes (suc n) i = boxed 0 0 1 1 i ++ boxes n (suc i)
 
 unfoldable pub times : ℕ → List ℕ → List ℕ
 times zero l = []

@@ -17,7 +17,7 @@ use Rattle.lists.specs.Sums.{from}
 use Rattle.panel.specs.Limits.{mostCommands, edgeMost}
 use Rattle.panel.specs.Refusals.{tooLong, pastEnd}
 use Rattle.panel.specs.Widths.{segmentFloats}
-use Rattle.panel.specs.Paths.{pathAt, pathCount, tileOf, pathsFrom, pathsAnswer}
+use Rattle.panel.specs.Paths.{boxed, pathAt, pathCount, tileOf, pathsFrom, pathsAnswer}
 use Rattle.panel.specs.Slots.{not32}
 use Rattle.panel.specs.declared.kinds.Answer.the-variants.{Done}
 use Rattle.panel.specs.declared.kinds.Verdict.{Verdict}
@@ -102,7 +102,7 @@ lastFirst s segs x y k = actAll (paintPath s segs x y k) (reverse (from 0 (pathC
 
 -- an even-odd path whose backdrop is 2: its list is END
 abbrev even : Tables
-even = tables (0 ∷ 0 ∷ 1 ∷ 1 ∷ 0 ∷ []) (0x2040_60ff ∷ 1 ∷ []) (pos 2 ∷ []) (0 ∷ []) (0 ∷ [])
+even = tables (boxed 0 0 1 1 0) (0x2040_60ff ∷ 1 ∷ []) (pos 2 ∷ []) (0 ∷ []) (0 ∷ [])
 
 abbrev even-words : List ℕ
 even-words = 9 ∷ endNo ∷ replicate 62 9
@@ -128,7 +128,7 @@ odd-is-odd f =
 
 -- two paths over one tile, the second of another colour
 abbrev pair : Tables
-pair = tables (0 ∷ 0 ∷ 1 ∷ 1 ∷ 0 ∷ 0 ∷ 0 ∷ 1 ∷ 1 ∷ 1 ∷ []) (0x2040_60ff ∷ 0 ∷ 0x6040_20ff ∷ 0 ∷ []) (pos 1 ∷ pos 1 ∷ []) (0 ∷ 0 ∷ []) (0 ∷ 0 ∷ [])
+pair = tables (boxed 0 0 1 1 0 ++ boxed 0 0 1 1 1) (0x2040_60ff ∷ 0 ∷ 0x6040_20ff ∷ 0 ∷ []) (pos 1 ∷ pos 1 ∷ []) (0 ∷ 0 ∷ []) (0 ∷ 0 ∷ [])
 
 abbrev pair-words : List ℕ
 pair-words = region (9 ∷ pairWords (Solid 0x2040_60ff) ++ pairWords (Solid 0x6040_20ff) ++ (endNo ∷ []))
@@ -161,7 +161,7 @@ RoomInFloats =
 
 -- a tile with two slots, and one segment lent
 abbrev filled : Tables
-filled = tables (0 ∷ 0 ∷ 1 ∷ 1 ∷ 0 ∷ []) (0x2040_60ff ∷ 0 ∷ []) (pos 0 ∷ []) (0xffff_ffff ∷ []) (2 ∷ [])
+filled = tables (boxed 0 0 1 1 0) (0x2040_60ff ∷ 0 ∷ []) (pos 0 ∷ []) (0xffff_ffff ∷ []) (2 ∷ [])
 
 abbrev filled-words : List ℕ
 filled-words = region (9 ∷ pairWords (Fill 2 0 0 0 0x2040_60ff) ++ (endNo ∷ []))

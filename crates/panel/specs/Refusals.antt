@@ -62,6 +62,12 @@ badFile = 18
 abbrev pub offTile : ℕ
 offTile = 19
 
+abbrev pub badText : ℕ
+badText = 21
+
+abbrev pub tooDeep : ℕ
+tooDeep = 22
+
 -- all of them, in order
 abbrev pub refusalNumbers : List ℕ
 refusalNumbers =
@@ -85,4 +91,6 @@ refusalNumbers =
     ∷ badSize
     ∷ badFile
     ∷ offTile
+    ∷ badText
+    ∷ tooDeep
     ∷ []

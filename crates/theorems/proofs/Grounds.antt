@@ -21,7 +21,7 @@ use Rattle.panel.specs.declared.kinds.Path.{Path}
 use Rattle.walk.specs.Num.{insideOf}
 use Rattle.walk.specs.Lent.{reachedOf}
 use Rattle.walk.specs.Step.{tileIn, stepOf}
-use Rattle.walk.specs.declared.kinds.LineEnds.{LineEnds}
+use Rattle.panel.specs.declared.lines.LineEnds.{LineEnds}
 use Rattle.walk.specs.declared.kinds.Pace.{Pace}
 use Rattle.walk.specs.declared.kinds.Walk.{Walk}
 use Rattle.walk.specs.declared.step.Step.{Step}

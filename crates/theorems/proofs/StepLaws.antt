@@ -1,10 +1,13 @@
 -- Step numbers stay exact in a float. Assumes nothing.
---     steps-exact   a checked line: fewer than 2 ^ 15 steps, and z, rows and columns whole and exact
-use mathlib.Core.Path.{_≡_, sym, ap, subst}
-use Prim.Native.Nat.{ℕ, _^_, _≤_, _<_}
+--     steps-exact   a checked line: fewer than 2 ^ 15 steps, and z, rows and columns of every step whole, below 2 ^ 15 in size and exact
+use mathlib.Core.Path.{_≡_, refl, sym, ap, subst}
+use mathlib.Core.Bool.{true, false}
+use Prim.Native.Nat.{ℕ, zero, suc, _+_, _^_, _≤_, _<_}
 use native.Mathlib.Omega.{arith}
 use lib.Dec.{T}
-use lib.IntN.{ℤ, pos, _+ℤ_, _-ℤ_, natAbs}
+use lib.IntN.{ℤ, pos, negsuc, _+ℤ_, _-ℤ_, negℤ, natAbs}
+use lib.Signed.{leZ}
+use borrow.Author.Tests.{le-leb}
 use lib.Ieee.{Float, binary32, add, sub, mul}
 use lib.Ieee.Scale.{finite}
 use Rattle.util.specs.declared.Vec2.{Vec2}
@@ -14,23 +17,29 @@ use Rattle.panel.specs.declared.kinds.TileNo.{TileNo}
 use Rattle.panel.proofs.LimitLaws.{small, packs}
 use Rattle.exact.specs.Whole.{IsWhole, turn}
 use Rattle.exact.specs.Reach.{Starts, coordTiles}
-use Rattle.exact.proofs.Signs.{abs-sum, abs-other, abs-turn}
+use Rattle.exact.proofs.Signs.{plusOf, minusOf, one-part, abs-parts, neg-plus, neg-minus, sum-parts, abs-sum, abs-other, abs-turn}
 use Rattle.exact.proofs.Exact.{nat-whole, add-whole, sub-whole}
 use Rattle.walk.specs.Num.{float}
 use Rattle.walk.specs.Page.{lineOf}
 use Rattle.walk.specs.Lent.{Reached}
-use Rattle.walk.specs.Step.{Boxed, zAt, stepOf}
+use Rattle.walk.specs.Step.{Boxed, zAt, tileIn, stepOf}
 use Rattle.walk.specs.declared.kinds.Pace.{Pace}
-use Rattle.walk.specs.declared.step.Step.the-variants.{Tile}
+use Rattle.walk.specs.declared.step.Step.the-variants.{Tile, Refused}
 use Rattle.walk.proofs.Walks.{line-starts, line-few}
 use Rattle.walk.proofs.StepTiles.{z-fits, zWhole, z-whole, turned-whole}
 use Rattle.walk.proofs.Tiles.{step-told, step-exact}
-use Rattle.theorems.specs.StepNumbers.{ExactAt, ExactTile, ExactLine}
+use Rattle.errors.proofs.Steps.{Bounded, line-bounded, z-least, z-most}
+use Rattle.theorems.specs.StepNumbers.{ExactAt, ExactTile, FewAt, ExactLine}
 
 -- the coordinate's limit in tiles
 tiles-few : coordTiles ≤ 2 ^ 12
 unfolding coordTiles
 tiles-few = omega (arith, small .coord)
+
+-- a reference tells more steps apart than a checked line has
+range-wide : 2 ^ 14 ≤ stepRange
+unfolding stepRange
+range-wide = omega arith
 
 module _ (p : Pace) (l : Starts (p .sign) (p .x0) (p .y0)) where
   number-is : (i : ℕ) → i < stepRange → IsWhole (float i) (pos i)
@@ -77,6 +86,47 @@ module _ (p : Pace) (l : Starts (p .sign) (p .x0) (p .y0)) where
         row-by = r .1;
       }
 
+-- ---- every step, in the box or out of it
+not-less : (n : ℤ) → minusOf n ≤ 1 → leZ (negsuc 0) n ≡ true
+not-less (pos n) h = refl
+not-less (negsuc zero) h = refl
+not-less (negsuc (suc n)) h = absurd (omega arith)
+
+not-more : (n : ℤ) (k : ℕ) → plusOf n ≤ k → leZ n (pos k) ≡ true
+not-more (pos n) k h = le-leb n k h
+not-more (negsuc n) k h = refl
+
+module _ (p : Pace) (l : Starts (p .sign) (p .x0) (p .y0)) (w : Bounded (p .a) (p .b)) where
+  at-any : (i : ℕ) → i < 2 ^ 14 → T (finite (zAt (p .a) (p .b) (float i))) → FewAt p l i (zAt (p .a) (p .b) (float i))
+  unfolding at-step
+  at-any i h f =
+      let s = at-step p l i (omega (arith, range-wide)) f in
+      let n = s .n in
+      let m = turn (l .turned) n in
+      let lo : minusOf n ≤ 1 = z-least (p .a) (p .b) w i (omega arith) f in
+      let hi : plusOf n ≤ i + 2 = z-most (p .a) (p .b) w i (omega arith) f in
+      let z : natAbs n < 2 ^ 14 + 2 = omega (arith, abs-parts n, one-part n) in
+      let c : natAbs (l .x0n +ℤ m) < 2 ^ 15 = omega (arith, abs-sum (l .x0n) m, abs-turn (l .turned) n, l .x0-small, tiles-few) in
+      let y = l .y0n +ℤ pos i in
+      let r : natAbs (y -ℤ n) < 2 ^ 15 =
+      omega (arith, abs-parts (y -ℤ n), one-part (y -ℤ n), sum-parts y (negℤ n), neg-plus n, neg-minus n, sum-parts (l .y0n) (pos i), abs-parts (l .y0n), l .y0-small, tiles-few) in
+      record {
+        n = n;
+        z-is = s .z-is;
+        z-least = not-less n lo;
+        z-most = not-more n (i + 2) hi;
+        z-few = omega arith;
+        col-few = c;
+        row-few = r;
+        col = s .col-is (omega arith);
+        row = s .row-is (omega arith);
+      }
+
+-- where z isn't finite, the step is refused
+none-of : (p : Pace) (b : Path) (i : ℕ) → finite (zAt (p .a) (p .b) (float i)) ≡ false → stepOf p b i ≡ Refused
+unfolding stepOf tileIn
+none-of p b i h = rw h
+
 pub steps-exact : (p0 p1 : Vec2) → Reached p0 p1 → ExactLine (lineOf p0 p1)
 steps-exact p0 p1 h =
     let l = line-starts p0 p1 h in
@@ -92,4 +142,6 @@ steps-exact p0 p1 h =
       row-sum = sum-is (lineOf p0 p1 .pace) l;
       step = at-step (lineOf p0 p1 .pace) l;
       tile = at-tile (lineOf p0 p1 .pace) l;
+      every = λ i c. at-any (lineOf p0 p1 .pace) l (line-bounded p0 p1 h) i (omega (arith, k .most, tiles-few));
+      lost = none-of (lineOf p0 p1 .pace);
     }

@@ -100,4 +100,12 @@ extern "C" {
         segments: *const f32, segments_len: usize,
         tile: u32, column: u32, row: u32, pixel: &mut u32,
     ) -> u32;
+
+    pub fn gp_svg_lines(
+        text: *const u8, text_len: usize,
+        depth: u32, path: u32,
+        path_nos: *mut u32, path_nos_len: usize,
+        coords: *mut f32, coords_len: usize,
+        lines: &mut usize, place: &mut usize,
+    ) -> u32;
 }

@@ -12,11 +12,36 @@ fn counted(coords: &[f32], paths: &[u32], refs: &mut [u32]) -> Result<Running, S
 
 #[test]
 fn numbers_and_names_agree() {
-    for (k, refusal) in Refusal::ALL.iter().enumerate() {
-        assert_eq!(refusal.number() as usize, k + 1);
-    }
+    let numbers: Vec<u32> = Refusal::ALL.iter().map(|r| r.number()).collect();
+    assert!(numbers.is_sorted_by(|a, b| a < b) && numbers[0] == 1, "{numbers:?}");
     let refused = Refused { refusal: Refusal::Outside, item: 3 };
-    assert_eq!(refused.to_string(), "refused with 10 (Outside) at item 3");
+    assert_eq!(refused.to_string(), "refusal 10: a step outside its path's box; item 3");
+}
+
+#[cfg(feature = "svg")]
+#[test]
+fn an_outline_is_read_or_refused_at_its_place() {
+    let (mut path_nos, mut coords) = ([7; 6], [0.5; 24]);
+    // a curve of two lines, then the line back, and a second outline that draws nothing
+    assert_eq!(svg_lines(b"M0,0 q8 16 16,0 M5 5", 1, 2, &mut path_nos, &mut coords), Ok(3));
+    assert_eq!(path_nos, [2, 2, 2, 7, 7, 7]);
+    assert_eq!(coords[..12], [0.0, 0.0, 8.0, 8.0, 8.0, 8.0, 16.0, 0.0, 16.0, 0.0, 0.0, 0.0]);
+    assert_eq!(coords[12..], [0.5; 12]);
+    let before = (path_nos, coords);
+    let mut refused = |text: &[u8], depth, room| {
+        let no =
+            svg_lines(text, depth, 2, &mut path_nos[..room], &mut coords[..LINE_FLOATS * room]).unwrap_err();
+        assert_eq!((path_nos, coords), before, "a refusal wrote");
+        (no.refusal.number(), no.place)
+    };
+    assert_eq!(refused(b"?", 7, 1), (22, 0));
+    assert_eq!(refused(b"M1 2,", 0, 6), (21, 5));
+    assert_eq!(refused(b"M1234567 2", 0, 6), (21, 7));
+    assert_eq!(refused(b"M0 0h1z", 0, 1), (9, 0));
+    let no = svg_lines(b"?", 0, 2, &mut path_nos, &mut coords[..23]).unwrap_err();
+    assert_eq!((no.refusal, no.place), (Refusal::NotWhole, 0));
+    let no = svg_lines(b"L", 0, 2, &mut path_nos, &mut coords).unwrap_err();
+    assert_eq!(no.to_string(), "refusal 21: a text that is no path data of SVG; byte 0");
 }
 
 #[test]

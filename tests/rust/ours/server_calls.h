@@ -76,6 +76,9 @@ extern uint32_t gp_pixel_area(const float *segments, size_t segments_len, uint32
 #ifdef HAS_PIXEL
 extern uint32_t gp_pixel(const uint32_t *words, size_t words_len, const float *segments, size_t segments_len, uint32_t tile, uint32_t column, uint32_t row, uint32_t *pixel);
 #endif
+#ifdef HAS_SVG
+extern uint32_t gp_svg_lines(const uint8_t *text, size_t text_len, uint32_t depth, uint32_t path, uint32_t *path_nos, size_t path_nos_len, float *coords, size_t coords_len, size_t *lines, size_t *place);
+#endif
 
 static uint32_t run(uint32_t which) {
     uint32_t *n = numbers;
@@ -156,6 +159,16 @@ static uint32_t run(uint32_t which) {
 #ifdef HAS_PIXEL
     case 12: { /* pixel */
         uint32_t answer = gp_pixel(SLICE(0, uint32_t), SLICE(1, float), (uint32_t)n[0], (uint32_t)n[1], (uint32_t)n[2], &n[3]);
+        return answer;
+    }
+#endif
+#ifdef HAS_SVG
+    case 13: { /* svg_lines */
+        size_t lines = n[2];
+        size_t place = n[3];
+        uint32_t answer = gp_svg_lines(SLICE(0, uint8_t), (uint32_t)n[0], (uint32_t)n[1], SLICE(1, uint32_t), SLICE(2, float), &lines, &place);
+        n[2] = (uint32_t)lines;
+        n[3] = (uint32_t)place;
         return answer;
     }
 #endif

@@ -136,6 +136,19 @@ uint32_t __wrap_gp_pixel(const uint32_t *words, size_t words_len, const float *s
     return answer;
 }
 
+uint32_t __real_gp_svg_lines(const uint8_t *text, size_t text_len, uint32_t depth, uint32_t path, uint32_t *path_nos, size_t path_nos_len, float *coords, size_t coords_len, size_t *lines, size_t *place);
+uint32_t __wrap_gp_svg_lines(const uint8_t *text, size_t text_len, uint32_t depth, uint32_t path, uint32_t *path_nos, size_t path_nos_len, float *coords, size_t coords_len, size_t *lines, size_t *place) {
+    uint32_t answer = __real_gp_svg_lines(text, text_len, depth, path, path_nos, path_nos_len, coords, coords_len, lines, place);
+    if (strikes("svg_lines path_nos", answer == 0 && path_nos_len > 0)) flip(path_nos + path_nos_len / 2);
+    if (strikes("svg_lines path_nos refused", answer != 0 && path_nos_len > 0)) flip(path_nos + path_nos_len / 2);
+    if (strikes("svg_lines coords", answer == 0 && coords_len > 0)) flip(coords + coords_len / 2);
+    if (strikes("svg_lines coords refused", answer != 0 && coords_len > 0)) flip(coords + coords_len / 2);
+    if (strikes("svg_lines lines", 1)) *lines += 1;
+    if (strikes("svg_lines place", 1)) *place += 1;
+    if (strikes("svg_lines answer", 1)) answer ^= 1;
+    return answer;
+}
+
 #ifndef BRIDGED /* over the bridge the helpers are no functions of their own */
 
 float __real_gp_floor(float x);

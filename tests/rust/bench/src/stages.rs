@@ -6,6 +6,8 @@ use cases::commands::{Command, OURS, RUST};
 use cases::memory::one_zero;
 use cases::Rng;
 use oracle::{BumpAllocators, PathSegment, SegmentCount, Tile};
+use rules::limits::{REF, SEGMENT};
+use rules::records::path;
 use std::hint::black_box;
 
 /// The sizes that show the growth.
@@ -58,7 +60,7 @@ pub fn backdrop(rounds: usize) {
 }
 
 fn sums(n: u32, rounds: usize) -> Times {
-    let paths: Vec<u32> = (0..n).flat_map(|k| [0, 0, 50, 40, 2_000 * k]).collect();
+    let paths: Vec<u32> = (0..n).flat_map(|k| path([0, 0, 50, 40], 2_000 * k)).collect();
     let before: Vec<i32> = (0..2_000 * n as i32).map(|k| k % 7 - 3).collect();
     let records = oracle::paths_of(&paths);
     let cleared: Vec<Tile> = before.iter().map(|&backdrop| Tile { backdrop, segment_count_or_ix: 0 }).collect();
@@ -91,7 +93,7 @@ fn count_scene(kind: Kind, n: usize, rounds: usize) -> Times {
     let paths = oracle::paths_of(&scene.paths);
     let mut tiles = vec![Tile::default(); scene.tiles];
     let mut records = vec![SegmentCount::default(); scene.room];
-    let (mut backs, mut counts, mut refs) = (vec![0; scene.tiles], vec![0; scene.tiles], vec![0; 2 * scene.room]);
+    let (mut backs, mut counts, mut refs) = (vec![0; scene.tiles], vec![0; scene.tiles], vec![0; REF * scene.room]);
     let times = measured(
         n,
         rounds,
@@ -132,7 +134,7 @@ fn tile_scene(kind: Kind, n: usize, rounds: usize) -> Times {
     let paths = oracle::paths_of(&scene.paths);
     let tiles: Vec<Tile> = counted.stored.iter().map(|&i| Tile { backdrop: 0, segment_count_or_ix: i }).collect();
     let mut records = vec![PathSegment::default(); scene.room];
-    let mut mine = vec![0.0f32; 5 * scene.room];
+    let mut mine = vec![0.0f32; SEGMENT * scene.room];
     let all = scene.room as u32;
     let times = measured(
         scene.room,
@@ -204,7 +206,7 @@ fn fine_screen(cols: u32, rows: u32, rounds: usize) -> Times {
             their_at = RUST.put(&mut theirs, their_at, command, 0);
         };
         for (k, n) in FILLS.into_iter().enumerate() {
-            let first = (list.len() / 5) as u32;
+            let first = (list.len() / SEGMENT) as u32;
             let more = segments(&mut rng, n as usize);
             records.extend(moved(&more, 16.0 * (t % cols) as f32, 16.0 * (t / cols) as f32));
             list.extend(more);
@@ -251,7 +253,7 @@ fn frame_scene(kind: Kind, n: usize, rounds: usize) -> Times {
     let mut refs = vec![SegmentCount::default(); scene.room];
     let mut records = vec![PathSegment::default(); scene.room];
     let (mut backs, mut stored, mut tally) = (vec![0; scene.tiles], vec![0; scene.tiles], vec![0; scene.tiles]);
-    let (mut mine_refs, mut mine) = (vec![0; 2 * scene.room], vec![0.0f32; 5 * scene.room]);
+    let (mut mine_refs, mut mine) = (vec![0; REF * scene.room], vec![0.0f32; SEGMENT * scene.room]);
     let times = measured(
         n,
         rounds,

@@ -2,6 +2,7 @@
 
 use crate::floats::{any_bits, ulps};
 use crate::Rng;
+use rules::limits::SEGMENT;
 
 /// How the segments of a list are drawn.
 #[derive(Clone, Copy, PartialEq, Debug)]
@@ -60,7 +61,7 @@ pub fn of_kind(rng: &mut Rng, kind: Kind) -> [f32; 5] {
 
 pub fn list(rng: &mut Rng, n: usize) -> Vec<f32> {
     let kind = rng.pick(&KINDS);
-    let mut out = Vec::with_capacity(5 * n);
+    let mut out = Vec::with_capacity(SEGMENT * n);
     for _ in 0..n {
         let kind = if rng.one_in(8) { rng.pick(&KINDS) } else { kind };
         out.extend(of_kind(rng, kind));

@@ -22,6 +22,7 @@ pub const NAMES: &[&str] = &[
     "ppm_read",
     "pixel_area",
     "pixel",
+    "svg_lines",
 ];
 
 /// The slices that a call of a kind may change.
@@ -39,6 +40,7 @@ pub const CHANGED: &[&[usize]] = &[
     &[1],
     &[],
     &[],
+    &[1, 2],
 ];
 
 /// The slices that are bytes, a word for each.
@@ -56,6 +58,7 @@ pub const BYTES: &[&[usize]] = &[
     &[0, 1],
     &[],
     &[],
+    &[0],
 ];
 
 /// How many slices and numbers a call of a kind takes.
@@ -73,6 +76,7 @@ pub const SHAPES: &[(usize, usize)] = &[
     (2, 0),
     (1, 9),
     (2, 4),
+    (3, 2),
 ];
 
 /// Whether a call of a kind is linked.
@@ -90,6 +94,7 @@ pub const LINKED: &[bool] = &[
     ours::has::PICTURE,
     ours::has::PIXEL,
     ours::has::PIXEL,
+    ours::has::SVG,
 ];
 
 macro_rules! answered_by {
@@ -268,6 +273,22 @@ macro_rules! answered_by {
                         &mut pixel,
                     );
                     vec![no, 0, pixel]
+                }
+                (13, [text, path_nos, coords]) => {
+                    let mut lines = UNTOLD as usize;
+                    let mut place = UNTOLD as usize;
+                    let text_bytes = LentBytes::of(text.u32s());
+                    let no = $side::svg_lines(
+                        text_bytes.u8s(),
+                        n[0],
+                        n[1],
+                        path_nos.u32s_mut(),
+                        coords.f32s_mut(),
+                        &mut lines,
+                        &mut place,
+                    );
+                    text_bytes.give_back(text.u32s_mut());
+                    vec![no, 0, lines as u32, place as u32]
                 }
                 _ => panic!("no call of kind {}", call.kind),
             };

@@ -59,6 +59,13 @@ pub fn pixel(answer: Result<u32, Refused>, pixel: &mut u32) -> u32 {
     nothing(answer.map(|_| ()))
 }
 
+/// Lines where it is done, the text's place where it is refused.
+#[cfg(feature = "svg")]
+pub fn lines_place(answer: Result<usize, groatpocket::TextRefused>, lines: &mut usize, place: &mut usize) -> u32 {
+    (*lines, *place) = answer.map_or_else(|r| (0, r.place), |n| (n, 0));
+    answer.err().map_or(0, |r| r.refusal.number())
+}
+
 #[cfg(feature = "picture")]
 pub fn width_height(answer: Result<(u32, u32), Refused>, width: &mut u32, height: &mut u32) -> u32 {
     (*width, *height) = answer.unwrap_or((0, 0));

@@ -286,3 +286,27 @@ unsafe extern "C" fn gp_pixel(
     *pixel = n[3];
     answer
 }
+
+#[cfg(feature = "svg")]
+#[no_mangle]
+unsafe extern "C" fn gp_svg_lines(
+    text: *const u8, text_len: usize,
+    depth: u32, path: u32,
+    path_nos: *mut u32, path_nos_len: usize,
+    coords: *mut f32, coords_len: usize,
+    lines: &mut usize, place: &mut usize,
+) -> u32 {
+    let mut n = [depth, path, *lines as u32, *place as u32];
+    let answer = call(
+        13,
+        &mut n,
+        vec![
+            read_only(text, text_len),
+            changed(path_nos, path_nos_len),
+            changed(coords, coords_len),
+        ],
+    );
+    *lines = n[2] as usize;
+    *place = n[3] as usize;
+    answer
+}

@@ -18,6 +18,8 @@ pub mod limits;
 pub mod lists;
 pub mod picture;
 pub mod pixel;
+pub mod records;
+pub mod svg;
 pub mod tile;
 pub mod walk;
 
@@ -31,4 +33,5 @@ pub use hand_out::hand_out;
 pub use lists::write_lists;
 pub use picture::{ppm_read, ppm_write};
 pub use pixel::{pixel, pixel_area};
+pub use svg::svg_lines;
 pub use tile::tile;

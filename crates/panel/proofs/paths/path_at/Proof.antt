@@ -1,10 +1,10 @@
--- `panel::checks::path_at` meets its contract.
+-- `panel::paths::path_at` meets its contract.
 -- Assumes nothing.
 use mathlib.Core.Path.{refl}
 use borrow.Author.Needs.{needs}
 use Rattle.panel.specs.Paths.{pathAt}
-use Rattle.panel.proofs.checks.path_at.Statement.{statement}
-use Rattle.panel.proofs.checks.path_at.Tie as tie
+use Rattle.panel.proofs.paths.path_at.Statement.{statement}
+use Rattle.panel.proofs.paths.path_at.Tie as tie
 
 mul-at : tie.Need-mul-at
 mul-at c = search needs

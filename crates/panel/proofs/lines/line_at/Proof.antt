@@ -1,9 +1,9 @@
--- `walk::setup::line_at` meets its contract. Assumes nothing.
+-- `panel::lines::line_at` meets its contract. Assumes nothing.
 use borrow.Author.Needs.{needs}
 use mathlib.Core.Path.{refl}
-use Rattle.walk.specs.Lent.{lineAt}
-use Rattle.walk.proofs.setup.line_at.Statement.{statement}
-use Rattle.walk.proofs.setup.line_at.Tie as tie
+use Rattle.panel.specs.Lines.{lineAt}
+use Rattle.panel.proofs.lines.line_at.Statement.{statement}
+use Rattle.panel.proofs.lines.line_at.Tie as tie
 
 mul-at : tie.Need-mul-at
 mul-at c = search needs

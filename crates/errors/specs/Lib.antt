@@ -1,0 +1,2 @@
+-- Sizes and signs of floats. Definitions only.
+pub mod Sizes
