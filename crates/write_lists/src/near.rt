@@ -1,10 +1,10 @@
 // The paths that can put something on a screen tile, in painting order: of all paths those whose box has
 // the tile's row, of these the ones that reach into a wide block of its columns, and of these the ones
 // that reach into a narrow block. What is left out puts nothing there.
-use panel::checks::path_at;
 use panel::kinds::Path;
 use panel::limits::EDGE_MOST;
 use panel::limits::MOST_PATHS;
+use panel::paths::path_at;
 use panel::widths::PATH_WORDS;
 ghost use mathlib.Core.Path.{_≡_};
 ghost use Prim.Native.Nat.{_+_, _-_, _%_, _<_, _≤_};
