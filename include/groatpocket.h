@@ -1,25 +1,46 @@
 /* Groatpocket: a proved tile rasterizer. Link with libgroatpocket.a.
  *
  * Everything is lent: a slice is a pointer and the number of its elements. Each pointer must be
- * valid and aligned for that many elements (not NULL, also for none), and slices that a call writes
+ * valid and aligned for that many elements (for none it may be NULL), and slices that a call writes
  * must not overlap any other slice of the call. A pointer to one number (item, stage, lines, made,
- * size, width, height) must not be NULL, and the number must lie apart from the others and from
+ * size, width, height, area, pixel, place) must not be NULL, and the number must lie apart from the others and from
  * every slice. Floats are IEEE 754 with the default environment:
  * round to nearest, subnormals kept (a program linked with -ffast-math turns them off). Nothing else
- * is asked: any words and floats may be lent, and calls may run at once over different memory. A call
- * touches nothing outside the slices, always ends, and answers a refusal number; what is refused
- * changes nothing, and what came before it stands. docs/RULES.md has the rules, docs/PROMISES.md
- * what is proved of each call.
+ * is asked: any words and floats may be lent. A call touches nothing outside the slices, always ends,
+ * and answers a refusal number; what is refused changes nothing, and what came before it stands.
+ * docs/RULES.md has the rules, docs/PROMISES.md what is proved of each call.
+ *
+ * NULL for no elements: the proofs speak of slices, and a slice of none has no element to read or
+ * write; that a pointer which is never followed may be NULL is seen by inspection (the module that is
+ * compiled calls no pointer nonnull or dereferenceable and compares none with NULL) and tried by the
+ * runs, not proved.
+ *
+ * Threads: the archive has no data of its own. Calls may run at once, on any threads, where no call
+ * writes what another reads or writes: they may share what all of them only read. So one screen may
+ * be drawn by several calls of gp_fine at once over ranges of tiles only where each has pixels of its
+ * own: the slice of pixels that a call is lent is its own while it runs.
+ *
+ * Stack: under 8,192 bytes for any call, no recursion, nothing allocated. From outside it needs memset
+ * alone.
  */
 #ifndef GROATPOCKET_H
 #define GROATPOCKET_H
 
+#include <stdbool.h>
 #include <stddef.h>
 #include <stdint.h>
+
+/* The version, as text and as a number: 10,000 for each major one, 100 for each minor one. */
+#define GP_VERSION "0.2.0"
+#define GP_VERSION_NUMBER 200u
 
 #ifdef __cplusplus
 extern "C" {
 #endif
+
+/* The archive's version: GP_VERSION_NUMBER of the header that it was made with. Ask it once, at the start: another
+ * number means that the header and the archive aren't of one version. */
+uint32_t gp_version(void);
 
 /* The refusals. */
 #define GP_DONE 0u        /* done */
@@ -31,7 +52,7 @@ extern "C" {
 #define GP_COORDINATE 6u  /* a coordinate not finite, or over 65,536 in size */
 #define GP_NO_SUCH 7u     /* no such path; in a reference, no such line or a skipped one */
 #define GP_COUNT_OVER 8u  /* a step number or a tile's count over its limit */
-#define GP_NO_ROOM 9u     /* no room for references, slots, regions of commands or a file */
+#define GP_NO_ROOM 9u     /* no room for references, slots, regions of commands, a file or lines */
 #define GP_OUTSIDE 10u    /* a step outside its path's box */
 #define GP_SUM_OVER 11u   /* a backdrop or a running sum leaves 32 bits */
 #define GP_CROOKED 12u    /* a segment end outside its tile */
@@ -42,6 +63,22 @@ extern "C" {
 #define GP_BAD_SIZE 17u   /* a picture's width or height outside 1 to 16,384 */
 #define GP_BAD_FILE 18u   /* no P6 file: another header, or bytes missing or left over */
 #define GP_OFF_TILE 19u   /* a pixel's column or row over 15 */
+#define GP_BAD_SEGMENT 20u /* a fill's segment with an end outside 0..16, or a y_edge not finite */
+#define GP_BAD_TEXT 21u   /* a text that is no path data of SVG */
+#define GP_TOO_DEEP 22u   /* a curve halved more than 6 times */
+
+/* The limits: at most so many, or so large. */
+#define GP_MAX_PATHS 4096u
+#define GP_MAX_TILES 1048576u  /* tiles of all boxes together; tiles of a screen */
+#define GP_MAX_EDGE 4096u      /* an edge of a box, in tiles */
+#define GP_MAX_LINES 65536u    /* line numbers are below it */
+#define GP_MAX_STEPS 65536u    /* a line's step numbers are below it */
+#define GP_MAX_COUNT 65536u    /* a tile's count */
+#define GP_MAX_SLOTS 16777216u /* references; segments that can be handed out */
+#define GP_MAX_COMMANDS 4096u  /* commands on one screen tile, END not counted */
+#define GP_MAX_SIDE 16384u     /* a picture's width, and its height, in pixels */
+#define GP_MAX_COORD 65536.0f  /* a coordinate's size, in pixels */
+#define GP_MAX_DEPTH 6u        /* how often a curve of an outline is halved */
 
 /* The part of a frame that refused. */
 #define GP_STAGE_NONE 0u     /* none: the frame is done */
@@ -50,6 +87,28 @@ extern "C" {
 #define GP_STAGE_SUMS 3u     /* the sums of the backdrops; the item is a path */
 #define GP_STAGE_HAND_OUT 4u /* hand-out: too few segments lent; the item is 0 */
 #define GP_STAGE_TILE 5u     /* tiling; the item is a reference */
+
+/* Tiles are squares of so many pixels to a side. A path's box is in tiles: x0, y0 are its first column and
+ * row, x1, y1 the first ones outside. A box of x0 = x1 or y0 = y1 has no tile. Tile (x, y) of a box is
+ * number first + (y - y0) * (x1 - x0) + (x - x0). */
+#define GP_TILE 16u
+
+/* Colours. A paint, and the word after GP_CMD_COLOR, has red in the HIGH byte; a pixel has it in the LOW one:
+ *
+ *                     bits 31..24   23..16   15..8   7..0
+ *     paint, COLOR    red           green    blue    alpha     0x204060ff: red 0x20
+ *     pixel           alpha         blue     green   red       0xff604020: the same colour
+ *
+ * (in memory, on a little-endian processor, a pixel's bytes are red, green, blue, alpha). Both are multiplied
+ * by alpha already (premultiplied): no channel is to be larger than alpha. From straight red, green, blue and
+ * alpha, 0 to 255 each: (c * alpha + 127) / 255 for each of the three, GP_PAINT does it. A colour that isn't
+ * premultiplied is no refusal: it is drawn too bright. A pixel starts as 0; a paint of channels c and alpha a
+ * (as parts of 255) over a pixel p, covering the part k of it, makes p * (1 - a * k) + c * k in each channel,
+ * alpha too; packed, each channel is held to 0..1, times 255, rounded, halves up. */
+#define GP_PREMULTIPLIED(c, alpha) (((uint32_t)(c) * (uint32_t)(alpha) + 127u) / 255u)
+#define GP_PAINT(red, green, blue, alpha)                                                     \
+    (GP_PREMULTIPLIED(red, alpha) << 24 | GP_PREMULTIPLIED(green, alpha) << 16 |             \
+     GP_PREMULTIPLIED(blue, alpha) << 8 | (uint32_t)(alpha))
 
 /* The widths of the records, and the commands. */
 #define GP_PATH_WORDS 5u     /* box x0, y0, x1, y1 in tiles, then the first tile */
@@ -64,6 +123,14 @@ extern "C" {
 #define GP_CMD_JUMP 4u  /* then the word to go on at */
 #define GP_TILE_WORDS 64u /* tile t's list starts at word 64 t + 1 */
 
+/* What a 1 was for: each call says in which order it looks. "Whole" is a length that is so many times the
+ * record's width. After 1 comes 2, then 16, then each path's 3 and 4 in order; after that what the call says.
+ *
+ * What a 9 would have needed: for references, *made and as many as the refused line has steps (GP_MAX_STEPS
+ * always suffice for one line); for slots, the sum of the counts, which is *made where the tiles were clear;
+ * for a file, 3 bytes a pixel and at most 19 for its head; for lists see gp_write_lists. A 16 needs
+ * a width of GP_TILE * cols, and width * GP_TILE * rows pixels. */
+
 /* Lists kept from before: SOLID used to take a second word, 0. That 0 is now read as END, so the tile
  * shows nothing of what follows it, and the call still answers 0. Write such lists again, by
  * gp_write_lists or without that word, before they are drawn. */
@@ -73,7 +140,9 @@ extern "C" {
  * backdrops are the sums, stored what hand-out left, tally the counts, and segments below *made are
  * written.
  * Where it refuses, *stage says which part; *item is the line, path or reference; *lines and *made are
- * what was counted (0 and 0 where the checks refuse). What the parts before it did stands. */
+ * what was counted (0 and 0 where the checks refuse). What the parts before it did stands.
+ * 1: coords whole; as many path_nos as lines; backdrops, stored and tally equally long; refs whole;
+ * segments whole; paths whole. */
 uint32_t gp_frame(const uint32_t *path_nos, size_t path_nos_len,
                   const float *coords, size_t coords_len,
                   const uint32_t *paths, size_t paths_len,
@@ -89,7 +158,8 @@ uint32_t gp_frame(const uint32_t *path_nos, size_t path_nos_len,
  * number of segments that gp_fine will be lent. A list that fills its 64 words goes on in 64 fresh
  * ones past all tiles'; other words stay. 64 words for each tile and ten paths always suffice. 15 with
  * the first screen tile of too many commands in *item; 9 where the words or the room don't suffice. A
- * refusal writes no word. */
+ * refusal writes no word.
+ * 1: paths whole; two words of paint for each path; stored, then tally, as long as backdrops. */
 uint32_t gp_write_lists(const uint32_t *paths, size_t paths_len,
                         const uint32_t *paints, size_t paints_len,
                         const int32_t *backdrops, size_t backdrops_len,
@@ -99,14 +169,16 @@ uint32_t gp_write_lists(const uint32_t *paths, size_t paths_len,
                         uint32_t *words, size_t words_len, uint32_t *item);
 
 /* Pixels: screen tiles from .. to of a screen of cols by rows tiles and width pixels to a row, each
- * by its list of commands. Stops before the first tile refused, with its number in *item. */
+ * by its list of commands. Stops before the first tile refused, with its number in *item.
+ * 1: segments whole; from <= to; to <= cols * rows. */
 uint32_t gp_fine(const uint32_t *words, size_t words_len,
                  const float *segments, size_t segments_len,
                  uint32_t width, uint32_t cols, uint32_t rows, uint32_t from, uint32_t to,
                  uint32_t *pixels, size_t pixels_len, uint32_t *item);
 
 /* A picture on paper: pixels, width * height of them, as a binary Netpbm P6 file at the front of out;
- * *size is its length, 0 where refused (17, 1, 9). */
+ * *size is its length, 0 where refused (17, 1, 9).
+ * 17 first, then 1: pixels not width * height of them, then 9. */
 uint32_t gp_ppm_write(const uint32_t *pixels, size_t pixels_len,
                       uint32_t width, uint32_t height,
                       uint8_t *out, size_t out_len, size_t *size);
@@ -121,7 +193,9 @@ uint32_t gp_ppm_read(const uint8_t *file, size_t file_len,
  * Counting. Lines from *lines up to end: path_nos has a path number for each line, coords four
  * floats. Each line adds to its tiles' counts and backdrops and writes its references; *lines and
  * *made go on from where they stood. It stops before the first line refused, whose number is in
- * *item (for 3 and 4 the path's, for 0, 1 and 2 it is 0). A refused line changes nothing. */
+ * *item (for 3 and 4 the path's, for 0, 1 and 2 it is 0). A refused line changes nothing.
+ * 1: coords whole; as many path_nos as lines; backdrops and counts equally long; refs whole;
+ * *lines <= end; end at most the lines lent; paths whole. */
 uint32_t gp_count(const uint32_t *path_nos, size_t path_nos_len,
                   const float *coords, size_t coords_len,
                   const uint32_t *paths, size_t paths_len,
@@ -131,18 +205,22 @@ uint32_t gp_count(const uint32_t *path_nos, size_t path_nos_len,
                   uint32_t end, uint32_t *lines, uint32_t *made, uint32_t *item);
 
 /* Running sums of the backdrops along the tile rows of each path. Stops before the first path whose
- * sums leave 32 bits, with its number in *item. */
+ * sums leave 32 bits, with its number in *item.
+ * 1: paths whole. */
 uint32_t gp_backdrop(const uint32_t *paths, size_t paths_len,
                      int32_t *backdrops, size_t backdrops_len, uint32_t *item);
 
 /* Hand-out: each tile with a count above 0 takes so many slots and holds the NOT of its first; an
  * empty tile holds 0: the stored words, under which name gp_tile and gp_write_lists take them. The
- * counts are kept in the tally. 9 where they need more than room slots. */
+ * counts are kept in the tally. 9 where they need more than room slots.
+ * 1: counts and tally equally long. */
 uint32_t gp_hand_out(uint32_t *counts, size_t counts_len,
                      uint32_t *tally, size_t tally_len, uint32_t room);
 
 /* Tiling: references from .. to, each writes its segment, relative to its tile, at its slot. Stops
- * before the first refused, with its number in *item. stored is what gp_hand_out left in counts. */
+ * before the first refused, with its number in *item. stored is what gp_hand_out left in counts.
+ * 1: coords whole; as many path_nos as lines; paths whole; refs whole; segments whole; from <= to; to at
+ * most the references lent. */
 uint32_t gp_tile(const uint32_t *path_nos, size_t path_nos_len,
                  const float *coords, size_t coords_len,
                  const uint32_t *paths, size_t paths_len,
@@ -154,26 +232,111 @@ uint32_t gp_tile(const uint32_t *path_nos, size_t path_nos_len,
 /* The coverage of the 256 pixels of one tile: number segments from first on, over the backdrop.
  * even_odd: 0 for non-zero, else even-odd. x_tile, y_tile: the tile's corner in the segments'
  * coordinates: 0, 0 for segments from gp_tile or gp_frame, which are relative to their tile.
- * area_len must be 256, else 1. */
+ * area_len must be 256, else 1; then 13, then 20 where one of those segments has an end outside 0 to 16 or a
+ * y_edge not finite. Where it refuses, the area stays.
+ * 1: segments whole; then area_len. */
 uint32_t gp_fill(const float *segments, size_t segments_len,
                  uint32_t first, uint32_t number, uint32_t even_odd, int32_t backdrop,
                  float x_tile, float y_tile, float *area, size_t area_len);
 
 /* One pixel of a tile, 0 to 15 in column and row, without the other 255: what gp_fill leaves there for
  * the same segments, rule, backdrop and corner, in *area. 19 for a column or row over 15, then as
- * gp_fill 1 and 13. Where it refuses, *area stays. */
+ * gp_fill 1, 13 and 20. Where it refuses, *area stays.
+ * 1: segments whole. */
 uint32_t gp_pixel_area(const float *segments, size_t segments_len,
                        uint32_t first, uint32_t number, uint32_t even_odd, int32_t backdrop,
                        float x_tile, float y_tile, uint32_t column, uint32_t row, float *area);
 
 /* The same under a list of commands: the pixel that gp_fine leaves there for a screen with that tile,
- * in *pixel. 19, then 1, then as the tile has them 13, 14 and 15. Where it refuses, *pixel stays. */
+ * in *pixel. 19, then 1, then as the tile has them 13, 14, 15 and 20. Where it refuses, *pixel stays.
+ * 1: segments whole. */
 uint32_t gp_pixel(const uint32_t *words, size_t words_len,
                   const float *segments, size_t segments_len,
                   uint32_t tile, uint32_t column, uint32_t row, uint32_t *pixel);
 
+/* A recount of one path, where one gauge has moved: its tiles are zeroed and its new lines counted into
+ * them, and no tile of another path changes. line_nos has each line's own number, path_nos must name
+ * path. It works on counts and backdrops as gp_count leaves them, before sums and hand-out; refs is a
+ * list of this path alone, from its first place on, and *made says how many references are in it.
+ * kept_backdrops and kept_counts are each as long as the path's range, and afterwards hold what it held.
+ * 7 for a path not there comes after 1 to 4, then 1 for a kept slice of another length. Where a line is
+ * refused, its own number is in *item, the range gets back what it held, and refs holds the references
+ * of the lines before it. */
+uint32_t gp_recount(uint32_t path,
+                    const uint32_t *line_nos, size_t line_nos_len,
+                    const uint32_t *path_nos, size_t path_nos_len,
+                    const float *coords, size_t coords_len,
+                    const uint32_t *paths, size_t paths_len,
+                    int32_t *backdrops, size_t backdrops_len,
+                    uint32_t *counts, size_t counts_len,
+                    uint32_t *refs, size_t refs_len,
+                    int32_t *kept_backdrops, size_t kept_backdrops_len,
+                    uint32_t *kept_counts, size_t kept_counts_len,
+                    uint32_t *made, uint32_t *item);
+
+/* The lines of an outline, from the path data of SVG 1.1: M, L, H, V, Z and Q, large or small, with
+ * numbers of up to six digits before the point and three after. They stand at the front of path_nos
+ * and coords as gp_count and gp_frame take them, each with the number path; *lines says how many. A Q
+ * curve becomes 2^depth lines; outlines left open are closed. 22 for a depth over 6; 1 where coords
+ * isn't four to each of path_nos; 21 for a text that is no such path data, with the first byte that
+ * can't stand there (or text_len, where it ends too soon) in *place; 9 where the lines have no room.
+ * *lines is 0 where refused, *place 0 but for 21; a refusal writes no line.
+ * 22 first, then 1: coords not four to each of path_nos. */
+uint32_t gp_svg_lines(const uint8_t *text, size_t text_len,
+                      uint32_t depth, uint32_t path,
+                      uint32_t *path_nos, size_t path_nos_len,
+                      float *coords, size_t coords_len,
+                      size_t *lines, size_t *place);
+
+/* The float helpers: each is the rules' own, docs/RULES.md, "Float meanings". */
+float gp_floor(float x);
+float gp_ceil(float x);
+float gp_round(float x); /* halves away from zero */
+float gp_trunc(float x);
+float gp_abs(float x);
+float gp_signum(float x); /* 1 for +0, -1 for -0, NaN for NaN */
+float gp_min(float a, float b); /* the other where one is NaN; -0 below +0 */
+float gp_max(float a, float b);
+float gp_copysign(float magnitude, float sign); /* the sign of a NaN counts as plus */
+float gp_clamp(float x, float lo, float hi); /* x itself where lo > hi or one is NaN */
+uint32_t gp_to_u32(float x); /* toward zero, held to the range, 0 for NaN */
+int32_t gp_to_i32(float x);
+float gp_of_u32(uint32_t n); /* to nearest, ties to even */
+float gp_of_i32(int32_t n);
+bool gp_is_finite(float x);
+
 #ifdef __cplusplus
 }
 #endif
+
+/* A refusal in words, for a log: the same as the Rust crate's. No function of the archive. */
+static inline const char *gp_refusal_text(uint32_t refusal) {
+    switch (refusal) {
+    case GP_DONE: return "done";
+    case GP_NOT_WHOLE: return "no whole records, paired slices that differ, or a bad range";
+    case GP_TOO_MANY: return "too many paths, tiles or screen tiles";
+    case GP_BAD_BOX: return "a box edge over 4,096, or edges the wrong way round";
+    case GP_BAD_RANGE: return "a path's first tile before the end of the path before it, or tiles past the end";
+    case GP_LINE_NUMBER: return "counting: line number 65,536 or more";
+    case GP_COORDINATE: return "a coordinate not finite, or over 65,536 in size";
+    case GP_NO_SUCH: return "no such path; in a reference, no such line or a skipped one";
+    case GP_COUNT_OVER: return "a step number or a tile's count over its limit";
+    case GP_NO_ROOM: return "no room for references, slots, regions of commands or a file";
+    case GP_OUTSIDE: return "a step outside its path's box";
+    case GP_SUM_OVER: return "a backdrop or a running sum leaves 32 bits";
+    case GP_CROOKED: return "a segment end outside its tile";
+    case GP_PAST_END: return "command words or segments past the end of those lent";
+    case GP_UNKNOWN: return "an unknown command";
+    case GP_TOO_LONG: return "over 4,096 commands on one tile";
+    case GP_BAD_SCREEN: return "a screen too narrow, or too few pixels";
+    case GP_BAD_SIZE: return "a picture's width or height outside 1 to 16,384";
+    case GP_BAD_FILE: return "no P6 file: another header, or bytes missing or left over";
+    case GP_OFF_TILE: return "a pixel's column or row over 15";
+    case GP_BAD_SEGMENT: return "a fill's segment with an end outside 0..16, or a y_edge not finite";
+    case GP_BAD_TEXT: return "a text that is no path data of SVG";
+    case GP_TOO_DEEP: return "a curve halved more than 6 times";
+    default: return "no refusal of this version";
+    }
+}
 
 #endif

@@ -1,8 +1,9 @@
-//! Finds the archive: the file that GROATPOCKET_LIB names (from the project's root), else
-//! target/staticlib/libgroatpocket.a, which `rt staticlib groatpocket` writes.
+//! Finds the archive: the file that GROATPOCKET_LIB names, from where the person stands or, if there is none, from the
+//! project's root; with no name, target/staticlib/libgroatpocket.a of the project, which `rt staticlib groatpocket` writes.
 //!
-//! An archive for another processor is not linked: a build that calls nothing still passes. A crate
-//! above is told both as DEP_GROATPOCKET_ARCHIVE and DEP_GROATPOCKET_LINKED.
+//! With no name and no archive there, nothing is linked: `cargo doc` and `cargo check` still pass, and a warning says
+//! what a program would lack. On docs.rs no archive is looked for. An archive for another processor is not linked either: a
+//! build that calls nothing still passes. A crate above is told both as DEP_GROATPOCKET_ARCHIVE and DEP_GROATPOCKET_LINKED.
 use std::path::{Path, PathBuf};
 use std::{env, fs};
 
@@ -21,19 +22,40 @@ fn here() -> Option<u16> {
     }
 }
 
+/// The archive, if it is there; without one that was named the build fails.
+fn archive() -> Option<PathBuf> {
+    let root = PathBuf::from(env!("CARGO_MANIFEST_DIR")).join("../..");
+    let Some(name) = env::var_os("GROATPOCKET_LIB").filter(|n| !n.is_empty()).map(PathBuf::from) else {
+        return root.join("target/staticlib/libgroatpocket.a").canonicalize().ok();
+    };
+    // cargo runs this in the crate's folder; PWD is still the folder of the shell
+    let stands = env::var_os("PWD").map(PathBuf::from).filter(|_| name.is_relative());
+    if name.is_relative() {
+        println!("cargo:rerun-if-env-changed=PWD");
+    }
+    let places: Vec<PathBuf> = stands.into_iter().chain([root]).map(|p| p.join(&name)).collect();
+    let Some(found) = places.iter().find_map(|p| p.canonicalize().ok()) else {
+        let tried: Vec<String> = places.iter().map(|p| p.display().to_string()).collect();
+        eprintln!("GROATPOCKET_LIB names {}, and no archive is at {}", name.display(), tried.join(" or "));
+        std::process::exit(1);
+    };
+    Some(found)
+}
+
 fn main() {
     println!("cargo:rerun-if-env-changed=GROATPOCKET_LIB");
+    println!("cargo:rerun-if-env-changed=DOCS_RS");
     println!("cargo:rerun-if-changed=build.rs");
-    let root = PathBuf::from(env!("CARGO_MANIFEST_DIR")).join("../..");
-    let named = env::var_os("GROATPOCKET_LIB").filter(|n| !n.is_empty());
-    let archive =
-        root.join(named.map(PathBuf::from).unwrap_or_else(|| "target/staticlib/libgroatpocket.a".into()));
-    let Ok(archive) = archive.canonicalize() else {
-        eprintln!(
-            "no archive at {}: run `rt staticlib groatpocket` in the project, or name one by GROATPOCKET_LIB",
-            archive.display()
+    if env::var_os("DOCS_RS").is_some() {
+        return;
+    }
+    let Some(archive) = archive() else {
+        println!(
+            "cargo:warning=no archive, so nothing is linked, and a program that calls anything won't link: run `rt staticlib groatpocket` in the project, or name an archive by GROATPOCKET_LIB"
         );
-        std::process::exit(1);
+        // this file is never there: the next build looks again
+        println!("cargo:rerun-if-changed=no-archive");
+        return;
     };
     println!("cargo:rerun-if-changed={}", archive.display());
     println!("cargo:archive={}", archive.display());

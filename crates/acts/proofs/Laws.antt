@@ -15,7 +15,7 @@ use borrow.Author.Tests.{lt-ltb, le-ltb, ltb-true}
 use Rattle.lists.specs.Run.{Step, taken, halted, Ran, done, refused, andThen, onStep, run-append}
 use Rattle.panel.specs.Limits.{mostSteps, mostCount}
 use Rattle.panel.specs.Refusals.{countOver, outside, sumOver}
-use Rattle.panel.specs.Widths.{refWords}
+use Rattle.panel.specs.Refs.{putRef}
 use Rattle.panel.specs.declared.kinds.Verdict.{Verdict}
 use Rattle.panel.specs.declared.kinds.Verdict.the-variants.{Fine, Against}
 use Rattle.panel.specs.Signed.{inI32}
@@ -192,7 +192,7 @@ module _ (δ : ℤ) (l : ℕ) (p : Hit) (i : ℕ) (bs : List ℤ) (cs rs : List 
         picked (inI32 (getD bs (t + 1) (pos 0) +ℤ δ)) (visited l t i (stOf bs cs rs at)) (marked δ (t + 1) (visited l t i (stOf bs cs rs at))) sumOver done
         (rw f at (ap isDone (sym counted) ∙ on-done))
 
-    module _ (bs′ : List ℤ) (cs′ rs′ : List ℕ) (ec : cs′ ≡ set cs t (getD cs t 0 + 1)) (er : rs′ ≡ set (set rs (refWords * at) l) (refWords * at + 1) (packed (getD cs t 0) i)) where
+    module _ (bs′ : List ℤ) (cs′ rs′ : List ℕ) (ec : cs′ ≡ set cs t (getD cs t 0 + 1)) (er : rs′ ≡ putRef at l (packed (getD cs t 0) i) rs) where
       pub write-cross : x ≡ true → bs′ ≡ set bs (t + 1) (getD bs (t + 1) (pos 0) +ℤ δ) → done (stOf bs′ cs′ rs′ (at + 1)) ≡ runActs δ l (stepActs p i) (stOf bs cs rs at)
       unfolding runActs
       write-cross f eb = rw (e, counted, f, write-bump f, eb, ec, er)
@@ -218,7 +218,7 @@ module _ (δ : ℤ) (s : Hit) (i : ℕ) (bs : List ℤ) (cs : List ℕ) (t : ℕ
 
 pub write-hit : (δ : ℤ) (l : ℕ) (p : Hit) (i : ℕ) (bs : List ℤ) (cs rs : List ℕ) (at : ℕ) → isDone (runActs δ l (stepActs p i) (stOf bs cs rs at)) ≡ true
     → (t : ℕ) (x : Bool) → p ≡ on t x → (bs′ : List ℤ) (cs′ rs′ : List ℕ) → cs′ ≡ set cs t (getD cs t 0 + 1)
-    → rs′ ≡ set (set rs (refWords * at) l) (refWords * at + 1) (packed (getD cs t 0) i)
+    → rs′ ≡ putRef at l (packed (getD cs t 0) i) rs
     → bs′ ≡ cond x (set bs (t + 1) (getD bs (t + 1) (pos 0) +ℤ δ)) bs → done (stOf bs′ cs′ rs′ (at + 1)) ≡ runActs δ l (stepActs p i) (stOf bs cs rs at)
 write-hit δ l p i bs cs rs at h t true e bs′ cs′ rs′ ec er eb = write-cross δ l p i bs cs rs at h t true e bs′ cs′ rs′ ec er refl eb
 write-hit δ l p i bs cs rs at h t false e bs′ cs′ rs′ ec er eb = write-plain δ l p i bs cs rs at h t false e bs′ cs′ rs′ ec er refl eb

@@ -9,7 +9,8 @@ use lib.IntN.{ℤ, pos, negsuc, _+ℤ_}
 use Rattle.lists.specs.Run.{Step, taken, halted, Ran, done, refused, run}
 use Rattle.panel.specs.Limits.{mostCount}
 use Rattle.panel.specs.Refusals.{countOver, outside, sumOver}
-use Rattle.panel.specs.Widths.{refWords, stepRange}
+pub use Rattle.panel.specs.Refs.{packed}
+use Rattle.panel.specs.Refs.{putRef}
 use Rattle.panel.specs.Signed.{inI32}
 use Rattle.panel.specs.declared.kinds.Verdict.{Verdict}
 use Rattle.panel.specs.declared.kinds.Verdict.the-variants.{Fine, Against}
@@ -66,14 +67,11 @@ deltaOf false = negsuc 0
 abbrev pub marked : ℤ → ℕ → St → St
 marked δ t s = stOf (set (s .backs) t (getD (s .backs) t (pos 0) +ℤ δ)) (s .counts) (s .refs) (s .made)
 
--- a reference's second word: the slice number, which is the tile's count before, and the step's number
-abbrev pub packed : ℕ → ℕ → ℕ
-packed slice i = slice * stepRange + i
-
+-- a tile is counted once more, and its reference's slice number is its count before
 abbrev pub visited : ℕ → ℕ → ℕ → St → St
 visited l t i s =
     stOf (s .backs) (set (s .counts) t (getD (s .counts) t 0 + 1))
-    (set (set (s .refs) (refWords * s .made) l) (refWords * s .made + 1) (packed (getD (s .counts) t 0) i))
+    (putRef (s .made) l (packed (getD (s .counts) t 0) i) (s .refs))
     (s .made + 1)
 
 abbrev pub takeIf : Bool → St → ℕ → Step St ℕ

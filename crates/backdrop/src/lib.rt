@@ -6,8 +6,8 @@ ghost use Rattle.panel.specs.Paths.{pathCount, pathsAnswer};
 ghost use Rattle.panel.specs.declared.kinds.Answer.the-variants.{Done};
 ghost use Rattle.backdrop.specs.Backdrop.{outOf, sumPaths, BackdropMet};
 use panel::checks::check_paths;
-use panel::checks::path_at;
 use panel::kinds::Answer;
+use panel::paths::path_at;
 use panel::refusals::SUM_OVER;
 use panel::widths::PATH_WORDS;
 

@@ -11,6 +11,7 @@ use lib.ListN.{getD, replicate}
 use lib.Ieee.{Float, nan, binary32, ofBits, isNan}
 use Rattle.util.specs.Constants as Number
 use Rattle.lists.specs.Grid.{tabFrom}
+use Rattle.panel.specs.Paths.{boxed}
 use Rattle.panel.specs.Refusals.{notWhole, noRoom, noSuch, badSize, badFile}
 use Rattle.panel.specs.Kinds.{runningOf}
 use Rattle.panel.specs.declared.kinds.Answer.{Answer}
@@ -24,6 +25,7 @@ use Rattle.path_tiling.specs.Look.{lent}
 use Rattle.path_tiling.specs.Tiling.{TileMet}
 use Rattle.coverage.specs.Tile.{tileWidth, tileSize}
 use Rattle.coverage.specs.Coverage.{coverageOf}
+use Rattle.coverage.specs.Ground.{straightFrom}
 use Rattle.coverage.specs.Fill.{fillOf, FillMet}
 use Rattle.commands.specs.Numbers.{encode, endNo}
 use Rattle.commands.specs.declared.steps.Act.the-variants.{Solid, Color}
@@ -77,11 +79,11 @@ CountMemory = List ℤ × List ℕ × List ℕ
 
 abbrev CountAt : (nos : List ℕ) (coords : List Float) → Counted → CountMemory → Type 0
 CountAt nos coords a m =
-    CountMet (runningOf 0 0) 1 nos coords (0 ∷ 0 ∷ 2 ∷ 2 ∷ 0 ∷ []) (replicate 4 (pos 0)) (replicate 4 0) (replicate 4 0) a (m .0) (m .1) (m .2)
+    CountMet (runningOf 0 0) 1 nos coords (boxed 0 0 2 2 0) (replicate 4 (pos 0)) (replicate 4 0) (replicate 4 0) a (m .0) (m .1) (m .2)
 
 once-count : (nos : List ℕ) (coords : List Float) → Once Counted CountMemory (CountAt nos coords)
 once-count nos coords a b m n p q =
-    let e = one-count (runningOf 0 0) 1 nos coords (0 ∷ 0 ∷ 2 ∷ 2 ∷ 0 ∷ []) (replicate 4 (pos 0)) (replicate 4 0) (replicate 4 0) a b (m .0) (n .0) (m .1) (n .1) (m .2) (n .2) p q in
+    let e = one-count (runningOf 0 0) 1 nos coords (boxed 0 0 2 2 0) (replicate 4 (pos 0)) (replicate 4 0) (replicate 4 0) a b (m .0) (n .0) (m .1) (n .1) (m .2) (n .2) p q in
     (e .0, λ i. (e .1 i, e .2 i, e .3 i))
 
 pub count-shut : Shut Counted CountMemory RefusesCount (CountAt (0 ∷ []) (floatsOf (8 ∷ 8 ∷ 8 ∷ 24 ∷ []))) (CountAt (0 ∷ []) (floatsOf (8 ∷ 8 ∷ 8 ∷ [])))
@@ -100,12 +102,12 @@ count-shut =
 abbrev BackdropAt : (paths : List ℕ) (bs : List ℤ) → Answer → List ℤ → Type 0
 BackdropAt paths bs a m = BackdropMet paths bs a m
 
-pub backdrop-shut : Shut Answer (List ℤ) Refuses (BackdropAt (0 ∷ 0 ∷ 2 ∷ 1 ∷ 0 ∷ []) (pos 1 ∷ pos 1 ∷ [])) (BackdropAt (0 ∷ []) []) (pos 1 ∷ pos 1 ∷ [])
+pub backdrop-shut : Shut Answer (List ℤ) Refuses (BackdropAt (boxed 0 0 2 1 0) (pos 1 ∷ pos 1 ∷ [])) (BackdropAt (0 ∷ []) []) (pos 1 ∷ pos 1 ∷ [])
 unfolding computing backdropOf sumPaths rowsSums rowsFit rowSums rowFits
 backdrop-shut =
-    shut Answer (List ℤ) Refuses (BackdropAt (0 ∷ 0 ∷ 2 ∷ 1 ∷ 0 ∷ []) (pos 1 ∷ pos 1 ∷ [])) (BackdropAt (0 ∷ []) []) (pos 1 ∷ pos 1 ∷ [])
+    shut Answer (List ℤ) Refuses (BackdropAt (boxed 0 0 2 1 0) (pos 1 ∷ pos 1 ∷ [])) (BackdropAt (0 ∷ []) []) (pos 1 ∷ pos 1 ∷ [])
     Done (Refused notWhole 0) (pos 1 ∷ pos 2 ∷ []) []
-    (λ a b m n p q. one-backdrop (0 ∷ 0 ∷ 2 ∷ 1 ∷ 0 ∷ []) (pos 1 ∷ pos 1 ∷ []) a b m n p q) (λ a b m n p q. one-backdrop (0 ∷ []) [] a b m n p q)
+    (λ a b m n p q. one-backdrop (boxed 0 0 2 1 0) (pos 1 ∷ pos 1 ∷ []) a b m n p q) (λ a b m n p q. one-backdrop (0 ∷ []) [] a b m n p q)
     refl refl (λ h. h) tt (λ e. let z : _≡_ {A = ℕ} 2 1 = cc in omega arith)
 
 -- ---- hand-out: one tile with one reference; and no room for it
@@ -126,11 +128,11 @@ hand-shut =
 -- ---- tiling: the first reference of (8,8)-(8,24), over NaNs; and a reference to a line that isn't there
 
 abbrev TileAt : (refs : List ℕ) → Answer → List Float → Type 0
-TileAt refs a m = TileMet 0 1 (lent (0 ∷ []) (floatsOf (8 ∷ 8 ∷ 8 ∷ 24 ∷ [])) (0 ∷ 0 ∷ 2 ∷ 2 ∷ 0 ∷ []) (4294967295 ∷ 0 ∷ 0 ∷ 0 ∷ []) refs) (replicate 5 nan) a m
+TileAt refs a m = TileMet 0 1 (lent (0 ∷ []) (floatsOf (8 ∷ 8 ∷ 8 ∷ 24 ∷ [])) (boxed 0 0 2 2 0) (4294967295 ∷ 0 ∷ 0 ∷ 0 ∷ []) refs) (replicate 5 nan) a m
 
 once-tile : (refs : List ℕ) → Once Answer (List Float) (TileAt refs)
 once-tile refs a b m n p q =
-    one-tile 0 1 (lent (0 ∷ []) (floatsOf (8 ∷ 8 ∷ 8 ∷ 24 ∷ [])) (0 ∷ 0 ∷ 2 ∷ 2 ∷ 0 ∷ []) (4294967295 ∷ 0 ∷ 0 ∷ 0 ∷ []) refs) (replicate 5 nan) a b m n p q
+    one-tile 0 1 (lent (0 ∷ []) (floatsOf (8 ∷ 8 ∷ 8 ∷ 24 ∷ [])) (boxed 0 0 2 2 0) (4294967295 ∷ 0 ∷ 0 ∷ 0 ∷ []) refs) (replicate 5 nan) a b m n p q
 
 abbrev piece : List Float
 piece = ofBits binary32 0x40ff_fffe ∷ ofBits binary32 0x4100_0000 ∷ ofBits binary32 0x40ff_fffe ∷ ofBits binary32 0x4180_0000 ∷ ofBits binary32 0x4e6e_6b28 ∷ []
@@ -151,7 +153,7 @@ once-fill : (area : List Float) → Once Answer (List Float) (FillAt area)
 once-fill area a b m n p q = one-fill [] 0 0 false (pos 1) Number.zero Number.zero area a b m n p q
 
 pub fill-shut : Shut Answer (List Float) Refuses (FillAt (replicate tileSize nan)) (FillAt []) (replicate tileSize nan)
-unfolding computing fillOf coverageOf tabFrom
+unfolding computing straightFrom fillOf coverageOf tabFrom
 fill-shut =
     shut Answer (List Float) Refuses (FillAt (replicate tileSize nan)) (FillAt []) (replicate tileSize nan)
     Done (Refused notWhole 0) (replicate tileSize Number.one) [] (once-fill (replicate tileSize nan)) (once-fill [])
@@ -181,11 +183,11 @@ abbrev FrameMemory : Type 0
 FrameMemory = List ℤ × List ℕ × List ℕ × List ℕ × List Float
 
 abbrev FrameAt : (ks : List ℕ) → Framed → FrameMemory → Type 0
-FrameAt ks a m = FrameMet [] [] (0 ∷ 0 ∷ 1 ∷ 1 ∷ 0 ∷ []) (pos 5 ∷ []) (3 ∷ []) ks [] [] a (m .0) (m .1) (m .2) (m .3) (m .4)
+FrameAt ks a m = FrameMet [] [] (boxed 0 0 1 1 0) (pos 5 ∷ []) (3 ∷ []) ks [] [] a (m .0) (m .1) (m .2) (m .3) (m .4)
 
 once-frame : (ks : List ℕ) → Once Framed FrameMemory (FrameAt ks)
 once-frame ks a b m n p q =
-    let e = one-frame [] [] (0 ∷ 0 ∷ 1 ∷ 1 ∷ 0 ∷ []) (pos 5 ∷ []) (3 ∷ []) ks [] [] a b (m .0) (n .0) (m .1) (n .1) (m .2) (n .2) (m .3) (n .3) (m .4) (n .4) p q in
+    let e = one-frame [] [] (boxed 0 0 1 1 0) (pos 5 ∷ []) (3 ∷ []) ks [] [] a b (m .0) (n .0) (m .1) (n .1) (m .2) (n .2) (m .3) (n .3) (m .4) (n .4) p q in
     (e .0, λ i. (e .1 i, e .2 i, e .3 i, e .4 i, e .5 i))
 
 pub frame-shut : Shut Framed FrameMemory RefusesFrame (FrameAt (8 ∷ [])) (FrameAt []) (pos 5 ∷ [], 3 ∷ [], 8 ∷ [], [], [])

@@ -113,11 +113,11 @@ module _ (room : ℕ) (ns kept : List ℕ) (x : Answer) (ns′ kept′ : List �
 -- ---- coverage
 
 module _ (segs : List Float) (first n : ℕ) (evenOdd : Bool) (backdrop : ℤ) (x y : Float) (area : List Float) (a : Answer) (area′ : List Float) where
-  met-fill-no : (k : ℕ) → firstNo (fillChecks (length segs) (length area) first n) ≡ Against k → FillMet segs first n evenOdd backdrop x y area (Refused k 0) area
+  met-fill-no : (k : ℕ) → firstNo (fillChecks segs (length area) first n) ≡ Against k → FillMet segs first n evenOdd backdrop x y area (Refused k 0) area
   unfolding fillOf
   met-fill-no k e = rw e
 
-  met-fill : firstNo (fillChecks (length segs) (length area) first n) ≡ Fine
+  met-fill : firstNo (fillChecks segs (length area) first n) ≡ Fine
       → FillMet segs first n evenOdd backdrop x y area Done (coverageOf segs first n evenOdd backdrop x y)
   unfolding fillOf
   met-fill e = rw e
@@ -126,16 +126,16 @@ module _ (segs : List Float) (first n : ℕ) (evenOdd : Bool) (backdrop : ℤ) (
   fill-call-exact = (why, back)
     where
       why : FillMet segs first n evenOdd backdrop x y area a area′ → FillWay segs first n evenOdd backdrop x y area a area′
-      why p = go (firstNo (fillChecks (length segs) (length area) first n)) refl
+      why p = go (firstNo (fillChecks segs (length area) first n)) refl
         where
-          go : (v : Verdict) → firstNo (fillChecks (length segs) (length area) first n) ≡ v → FillWay segs first n evenOdd backdrop x y area a area′
+          go : (v : Verdict) → firstNo (fillChecks segs (length area) first n) ≡ v → FillWay segs first n evenOdd backdrop x y area a area′
           go Fine q = let e = one-fill segs first n evenOdd backdrop x y area a Done area′ (coverageOf segs first n evenOdd backdrop x y) p (met-fill q) in filled (e .0) q (e .1)
           go (Against k) q =
               let e = one-fill segs first n evenOdd backdrop x y area a (Refused k 0) area′ area p (met-fill-no k q) in
-              fill-refused k (e .0) (row-exact k (fillChecks (length segs) (length area) first n) .0 q) (e .1)
+              fill-refused k (e .0) (row-exact k (fillChecks segs (length area) first n) .0 q) (e .1)
 
       back : FillWay segs first n evenOdd backdrop x y area a area′ → FillMet segs first n evenOdd backdrop x y area a area′
-      back (fill-refused k ex w ea) = rw (ex, ea) (met-fill-no k (row-exact k (fillChecks (length segs) (length area) first n) .1 w))
+      back (fill-refused k ex w ea) = rw (ex, ea) (met-fill-no k (row-exact k (fillChecks segs (length area) first n) .1 w))
       back (filled ex ok ea) = rw (ex, ea) (met-fill ok)
 
 -- ---- fine

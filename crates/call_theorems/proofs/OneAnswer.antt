@@ -18,6 +18,7 @@ use Rattle.groatpocket.specs.Calls.{CountSeen, GpFillMet, GpBackdropMet, GpHand
 use Rattle.groatpocket.specs.CallFrame.{FrameSeen, GpFrameMet}
 use Rattle.groatpocket.specs.CallLists.{GpListsMet}
 use Rattle.groatpocket.specs.CallPixel.{GpPixelAreaMet, GpPixelMet}
+use Rattle.groatpocket.specs.CallRecount.{RecountSeen, GpRecountMet}
 use Rattle.groatpocket.specs.CallPpm.{ReadSeen, GpWriteMet, GpReadMet}
 
 -- ---- the picture's writer and reader, whole
@@ -78,6 +79,22 @@ one-gp-count l m end nos coords paths bs cs rs r s i j l₁ l₂ m₁ m₂ bs₁
       ap (λ (x : CountSeen). x .backs) e,
       ap (λ (x : CountSeen). x .counts) e,
       ap (λ (x : CountSeen). x .refs) e,
+    )
+
+pub one-gp-recount : (p : ℕ) (lineNos nos : List ℕ) (coords : List Float) (paths : List ℕ) (bs : List ℤ) (cs rs : List ℕ) (kb : List ℤ) (kc : List ℕ) (r s i j m₁ m₂ : ℕ)
+    (bs₁ bs₂ : List ℤ) (cs₁ cs₂ rs₁ rs₂ : List ℕ) (kb₁ kb₂ : List ℤ) (kc₁ kc₂ : List ℕ)
+    → GpRecountMet p lineNos nos coords paths bs cs rs kb kc r i m₁ bs₁ cs₁ rs₁ kb₁ kc₁ → GpRecountMet p lineNos nos coords paths bs cs rs kb kc s j m₂ bs₂ cs₂ rs₂ kb₂ kc₂
+    → (r ≡ s) × (i ≡ j) × (m₁ ≡ m₂) × (bs₁ ≡ bs₂) × (cs₁ ≡ cs₂) × (rs₁ ≡ rs₂) × (kb₁ ≡ kb₂) × (kc₁ ≡ kc₂)
+one-gp-recount p lineNos nos coords paths bs cs rs kb kc r s i j m₁ m₂ bs₁ bs₂ cs₁ cs₂ rs₁ rs₂ kb₁ kb₂ kc₁ kc₂ d e =
+    let q = d ∙ sym e in (
+      ap (λ (x : RecountSeen). x .number) q,
+      ap (λ (x : RecountSeen). x .at) q,
+      ap (λ (x : RecountSeen). x .made) q,
+      ap (λ (x : RecountSeen). x .backs) q,
+      ap (λ (x : RecountSeen). x .counts) q,
+      ap (λ (x : RecountSeen). x .refs) q,
+      ap (λ (x : RecountSeen). x .keptBacks) q,
+      ap (λ (x : RecountSeen). x .keptCounts) q,
     )
 
 pub one-gp-frame : (nos : List ℕ) (coords : List Float) (paths : List ℕ) (bs : List ℤ) (ts ks rs : List ℕ) (sg : List Float) (r s at₁ at₂ i j l₁ l₂ m₁ m₂ : ℕ)

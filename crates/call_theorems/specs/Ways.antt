@@ -13,7 +13,7 @@ use Rattle.lists.specs.Sums.{sum}
 use Rattle.lists.specs.Tally.{zeros}
 use Rattle.panel.specs.Limits.{mostTiles, mostSlots, mostCommands, sideMost}
 use Rattle.panel.specs.Refusals.{notWhole, tooMany, noRoom, sumOver, tooLong, badSize, badFile}
-use Rattle.panel.specs.Widths.{refWords, segmentFloats}
+use Rattle.panel.specs.Widths.{refWords}
 use Rattle.panel.specs.Kinds.{runningOf}
 use Rattle.panel.specs.Checks.{Check, firstNo}
 use Rattle.panel.specs.Paths.{pathCount, pathsAnswer}
@@ -131,8 +131,8 @@ pub data TileWay (from to : ℕ) (L : Lent) (segs : List Float) (x : Answer) (se
 
 pub data FillWay (segs : List Float) (first n : ℕ) (evenOdd : Bool) (backdrop : ℤ) (x y : Float) (area : List Float) (a : Answer) (area′ : List Float) : Type 0 where
   -- 1, 13: nothing changes
-  fill-refused : (k : ℕ) → a ≡ Refused k 0 → RowWhy k (fillChecks (length segs) (length area) first n) → area′ ≡ area → FillWay segs first n evenOdd backdrop x y area a area′
-  filled : a ≡ Done → firstNo (fillChecks (length segs) (length area) first n) ≡ Fine → area′ ≡ coverageOf segs first n evenOdd backdrop x y
+  fill-refused : (k : ℕ) → a ≡ Refused k 0 → RowWhy k (fillChecks segs (length area) first n) → area′ ≡ area → FillWay segs first n evenOdd backdrop x y area a area′
+  filled : a ≡ Done → firstNo (fillChecks segs (length area) first n) ≡ Fine → area′ ≡ coverageOf segs first n evenOdd backdrop x y
       → FillWay segs first n evenOdd backdrop x y area a area′
 
 -- ---- fine
@@ -145,7 +145,7 @@ pub data FineWay (words : List ℕ) (segs : List Float) (width cols rows from to
   screen-refused : (n : ℕ) → x ≡ Refused n 0 → RowWhy n (fineRow segs width cols rows from to pixels) → pixels′ ≡ pixels → FineWay words segs width cols rows from to pixels x pixels′
   -- screen tile t is refused by its commands, the first: those before it are shown
   tile-refused : (n t : ℕ) → x ≡ Refused n t → firstNo (fineRow segs width cols rows from to pixels) ≡ Fine → from ≤ t → t < to
-      → tilesOf words segs width cols from t pixels ≡ done pixels′ → TraceWhy mostCommands words (length segs / segmentFloats) (startOf t) n
+      → tilesOf words segs width cols from t pixels ≡ done pixels′ → TraceWhy mostCommands words segs (startOf t) n
       → FineWay words segs width cols rows from to pixels x pixels′
   -- all are shown
   all-shown : x ≡ Done → firstNo (fineRow segs width cols rows from to pixels) ≡ Fine → tilesOf words segs width cols from to pixels ≡ done pixels′

@@ -8,7 +8,7 @@ use Rattle.float32.specs.Meaning.{floorOf, ceilOf, roundOf, absOf, minOf, maxOf
 use Rattle.util.specs.Span.{spanOf}
 use Rattle.panel.specs.Limits.{coordMost}
 use Rattle.panel.specs.Refusals.{coordinate, noSuch}
-use Rattle.panel.specs.Paths.{pathAt}
+use Rattle.panel.specs.Paths.{boxed, pathAt}
 use Rattle.panel.specs.declared.kinds.Path.{Path}
 use Rattle.walk.specs.Num.{float, cutOf, insideOf, rowOf}
 use Rattle.walk.specs.Setup.{endsOf}
@@ -59,7 +59,7 @@ abbrev lineIn : (n : ℕ) (box : List ℕ) (px py qx qy : ℕ) → Trace
 lineIn n box px py qx qy = given n box (float px) (float py) (float qx) (float qy)
 
 abbrev two : List ℕ
-two = 0 ∷ 0 ∷ 2 ∷ 2 ∷ 0 ∷ []
+two = boxed 0 0 2 2 0
 
 -- names all that a trace computes with
 unfoldable computing : ℕ
@@ -86,27 +86,27 @@ unfolding computing
 across = refl
 
 -- box 1,0,3,2: no step, and row 1 is marked; reversed too, the other way
-left : lineIn 0 (1 ∷ 0 ∷ 3 ∷ 2 ∷ 0 ∷ []) 8 8 8 24 ≡ walked 0 0 1 2 [] true
+left : lineIn 0 (boxed 1 0 3 2 0) 8 8 8 24 ≡ walked 0 0 1 2 [] true
 unfolding computing
 left = refl
 
-left-up : lineIn 0 (1 ∷ 0 ∷ 3 ∷ 2 ∷ 0 ∷ []) 8 24 8 8 ≡ walked 0 0 1 2 [] false
+left-up : lineIn 0 (boxed 1 0 3 2 0) 8 24 8 8 ≡ walked 0 0 1 2 [] false
 unfolding computing
 left-up = refl
 
 -- box 0,0,6,1, (80,0)-(80,y) with y so small that 1 / (dx + dy) overflows: its step is refused
-tiny : given 1 (0 ∷ 0 ∷ 6 ∷ 1 ∷ 0 ∷ []) (float 80) (float 0) (float 80) (ofBits binary32 1000) ≡ walked 0 1 0 0 (off ∷ []) true
+tiny : given 1 (boxed 0 0 6 1 0) (float 80) (float 0) (float 80) (ofBits binary32 1000) ≡ walked 0 1 0 0 (off ∷ []) true
 unfolding computing
 tiny = refl
 
 -- box 0,0,5,4: the walk jumps, from (2, 2) to (4, 1)
-jump : given 6 (0 ∷ 0 ∷ 5 ∷ 4 ∷ 0 ∷ []) (ofBits binary32 0x42c0_0001) (ofBits binary32 0x4200_0001) (ofBits binary32 0xc180_0000) (ofBits binary32 0x41ff_fffd)
+jump : given 6 (boxed 0 0 5 4 0) (ofBits binary32 0x42c0_0001) (ofBits binary32 0x4200_0001) (ofBits binary32 0xc180_0000) (ofBits binary32 0x41ff_fffd)
     ≡ walked 1 7 2 2 (on 5 false ∷ on 6 false ∷ on 11 true ∷ on 12 false ∷ on 9 false ∷ on 14 false ∷ []) false
 unfolding computing
 jump = refl
 
 -- box 3,1,4,2, (12,16)-(108, just under 16): no step is left, from the largest number of 32 bits on
-none : given 0 (3 ∷ 1 ∷ 4 ∷ 2 ∷ 0 ∷ []) (float 12) (float 16) (float 108) (ofBits binary32 0x417f_fffe) ≡ walked 4294967295 4294967295 1 1 [] false
+none : given 0 (boxed 3 1 4 2 0) (float 12) (float 16) (float 108) (ofBits binary32 0x417f_fffe) ≡ walked 4294967295 4294967295 1 1 [] false
 unfolding computing
 none = refl
 

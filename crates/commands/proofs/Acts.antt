@@ -2,22 +2,24 @@
 use mathlib.Core.Path.{_≡_, refl, sym, ap, subst, _∙_}
 use mathlib.Core.Bool.{Bool, true, false, cond}
 use mathlib.Core.List.{List, []}
-use Prim.Native.Nat.{ℕ, _+_, _-_, _/_, _<_, _≤_}
+use Prim.Native.Nat.{ℕ, _+_, _-_, _<_}
 use native.Mathlib.Omega.{arith}
 use lib.Dec.{leb}
 use lib.IntN.{ℤ}
 use lib.ListN.{length, getD}
 use lib.Ieee.{Float, nan}
-use borrow.Author.Tests.{leb-true}
 use Rattle.util.specs.Constants as Number
 use Rattle.lists.specs.Grid.{mapi, tabulate}
 use Rattle.lists.specs.GridLaws.{mapi-is, getD-mapi, length-mapi}
 use Rattle.panel.specs.Refusals.{pastEnd}
-use Rattle.panel.specs.Widths.{segmentFloats}
+use Rattle.panel.specs.declared.kinds.Verdict.{Verdict}
+use Rattle.panel.specs.declared.kinds.Verdict.the-variants.{Fine, Against}
+use Rattle.coverage.specs.Ground.{groundOf}
+use Rattle.coverage.proofs.Grounds.{ground-room}
 use Rattle.coverage.specs.Tile.{tileSize}
 use Rattle.coverage.specs.Coverage.{pixelOf, coverageOf}
 use Rattle.coverage.proofs.Laws.{mapi-over}
-use Rattle.commands.specs.Moves.{countOf, fillMove, wholeMove, moveOf}
+use Rattle.commands.specs.Moves.{countOf, onGround, fillMove, wholeMove, moveOf}
 use Rattle.commands.specs.Numbers.{wordsOf}
 use Rattle.commands.specs.Pixel.{evenOddOf, signedOf, cover, paint, coverAll, paintAll, Within}
 use Rattle.commands.specs.declared.steps.Op.{Op}
@@ -76,21 +78,24 @@ pick-goes : (b : Bool) (m : Move) (k : ℕ) (a : Act) (n : ℕ) → cond b m (Re
 pick-goes true m k a n e = (refl, e)
 pick-goes false m k a n e = let z : _≡_ {A = ℕ} 0 1 = cc in absurd (omega arith)
 
-whole-within : (o : Op) (ws : List ℕ) (size at : ℕ) (a : Act) (n : ℕ) → wholeMove o ws (size / segmentFloats) at ≡ Goes a n → Within a size
+ground-goes : (v : Verdict) (m : Move) (a : Act) (n : ℕ) → onGround v m ≡ Goes a n → (v ≡ Fine) × (m ≡ Goes a n)
+ground-goes Fine m a n e = (refl, e)
+ground-goes (Against k) m a n e = let z : _≡_ {A = ℕ} 0 1 = cc in absurd (omega arith)
+
+whole-within : (o : Op) (ws : List ℕ) (segs : List Float) (at : ℕ) (a : Act) (n : ℕ) → wholeMove o ws segs at ≡ Goes a n → Within a (length segs)
 unfolding wholeMove fillMove
-whole-within Op′.Fill ws size at a n e =
-    let p = pick-goes _ _ _ a n e in
+whole-within Op′.Fill ws segs at a n e =
+    let p = ground-goes (groundOf segs (getD ws (at + 2) 0) (countOf (getD ws (at + 1) 0))) _ a n e in
     let f : Fill (getD ws (at + 1) 0) (getD ws (at + 2) 0) (getD ws (at + 3) 0) ≡ a = same (p .1) in
-    let h : getD ws (at + 2) 0 + countOf (getD ws (at + 1) 0) ≤ size / segmentFloats = leb-true _ _ (p .0) in
-    subst (λ (z : Act). Within z size) f (omega arith)
+    subst (λ (z : Act). Within z (length segs)) f (ground-room segs (getD ws (at + 2) 0) (countOf (getD ws (at + 1) 0)) (p .0))
   where
     same : {x y : Act} {i j : ℕ} → Goes x i ≡ Goes y j → x ≡ y
     same e = cc
-whole-within Op′.Solid ws size at a n e = let f : Solid ≡ a = cc in subst (λ (z : Act). Within z size) f tt
-whole-within Op′.Color ws size at a n e = let f : Color (getD ws (at + 1) 0) ≡ a = cc in subst (λ (z : Act). Within z size) f tt
-whole-within Op′.Jump ws size at a n e = let f : Jump ≡ a = cc in subst (λ (z : Act). Within z size) f tt
-whole-within Op′.Unknown ws size at a n e = let z : _≡_ {A = ℕ} 0 1 = cc in absurd (omega arith)
+whole-within Op′.Solid ws segs at a n e = let f : Solid ≡ a = cc in subst (λ (z : Act). Within z (length segs)) f tt
+whole-within Op′.Color ws segs at a n e = let f : Color (getD ws (at + 1) 0) ≡ a = cc in subst (λ (z : Act). Within z (length segs)) f tt
+whole-within Op′.Jump ws segs at a n e = let f : Jump ≡ a = cc in subst (λ (z : Act). Within z (length segs)) f tt
+whole-within Op′.Unknown ws segs at a n e = let z : _≡_ {A = ℕ} 0 1 = cc in absurd (omega arith)
 
-pub move-within : (o : Op) (ws : List ℕ) (size at : ℕ) (a : Act) (n : ℕ) → moveOf o ws (size / segmentFloats) at ≡ Goes a n → Within a size
+pub move-within : (o : Op) (ws : List ℕ) (segs : List Float) (at : ℕ) (a : Act) (n : ℕ) → moveOf o ws segs at ≡ Goes a n → Within a (length segs)
 unfolding moveOf
-move-within o ws size at a n e = whole-within o ws size at a n (pick-goes (leb (wordsOf o) (length ws - at)) (wholeMove o ws (size / segmentFloats) at) pastEnd a n e .1)
+move-within o ws segs at a n e = whole-within o ws segs at a n (pick-goes (leb (wordsOf o) (length ws - at)) (wholeMove o ws segs at) pastEnd a n e .1)

@@ -6,13 +6,16 @@ use native.Mathlib.Nat.{add-zero}
 use native.Mathlib.Omega.{arith}
 use lib.ListN.{length, getD, set}
 use lib.Seq.{sets, length-sets}
+use lib.Ieee.{Float}
 use borrow.Author.Tests.{lt-ltb, le-leb}
 use Rattle.lists.specs.Cells.{getD-sets-in}
+use Rattle.panel.specs.declared.kinds.Verdict.{Verdict}
 use Rattle.panel.specs.declared.kinds.Verdict.the-variants.{Fine}
+use Rattle.coverage.specs.Ground.{groundOf}
 use Rattle.reader.specs.Look.{lookAt}
 use Rattle.reader.specs.declared.Look.the-variants.{Word}
 use Rattle.commands.specs.Numbers.{endNo, solidNo, encodeTo, encode, fillWords, solidWords, colorWords, jumpWords, tileWords, listStart}
-use Rattle.commands.specs.Moves.{opOf, countOf, fillMove, wholeMove, moveOf, ends, does, traceOf}
+use Rattle.commands.specs.Moves.{opOf, countOf, onGround, fillMove, wholeMove, moveOf, ends, does, traceOf}
 use Rattle.commands.specs.declared.steps.Act.{Act}
 use Rattle.commands.specs.declared.steps.Act.the-variants.{Fill, Solid, Color, Jump}
 use Rattle.commands.specs.declared.steps.Move.the-variants.{Goes}
@@ -41,27 +44,28 @@ nextOf at to Solid = at + length (encode Solid)
 nextOf at to (Color word) = at + length (encode (Color word))
 nextOf at to Jump = to
 
--- a fill's segments are among so many
-abbrev pub Among : ℕ → Act → Type 0
-Among room (Fill rule first backdrop) = first + countOf rule ≤ room
-Among room Solid = Unit {0}
-Among room (Color word) = Unit {0}
-Among room Jump = Unit {0}
+-- a fill's segments are not refused
+abbrev pub Grounded : List Float → Act → Type 0
+Grounded segs (Fill rule first backdrop) = groundOf segs first (countOf rule) ≡ Fine
+Grounded segs Solid = Unit {0}
+Grounded segs (Color word) = Unit {0}
+Grounded segs Jump = Unit {0}
 
-module _ (ws : List ℕ) (room at to : ℕ) where
+module _ (ws : List ℕ) (segs : List Float) (at to : ℕ) where
   -- the first of the words that stand there
   head : (w : ℕ) (vs : List ℕ) → Stands ws at (w ∷ vs) → getD ws at 0 ≡ w
   head w vs s = rw add-zero at (s .each 0 (omega arith))
 
   -- what is encoded at a place is what is read there
-  pub read-back : (a : Act) → Among room a → Stands ws at (encodeTo to a) → moveOf (opOf (getD ws at 0)) ws room at ≡ Goes a (nextOf at to a)
+  pub read-back : (a : Act) → Grounded segs a → Stands ws at (encodeTo to a) → moveOf (opOf (getD ws at 0)) ws segs at ≡ Goes a (nextOf at to a)
   unfolding opOf moveOf wholeMove fillMove
   read-back (Fill rule first backdrop) h s =
       let r = s .room in
       let a : getD ws (at + 1) 0 ≡ rule = s .each 1 (omega arith) in
       let b : getD ws (at + 2) 0 ≡ first = s .each 2 (omega arith) in
       let c : getD ws (at + 3) 0 ≡ backdrop = s .each 3 (omega arith) in
-      rw (head _ _ s, le-leb fillWords (length ws - at) (omega arith), a, b, c, le-leb (first + countOf rule) room h)
+      rw (head _ _ s, le-leb fillWords (length ws - at) (omega arith), a, b, c)
+      (ap (λ (v : Verdict). onGround v (Goes (Fill rule first backdrop) (at + fillWords))) h)
   read-back Solid h s = let r = s .room in rw (head _ _ s, le-leb solidWords (length ws - at) (omega arith))
   read-back (Color word) h s =
       let r = s .room in
@@ -76,23 +80,23 @@ module _ (ws : List ℕ) (room at to : ℕ) where
   looks : (w : ℕ) (vs : List ℕ) → Stands ws at (w ∷ vs) → lookAt ws at ≡ Word w
   looks w vs s = let r = s .room in rw (lt-ltb at (length ws) (omega arith), head w vs s)
 
-  goes : (w : ℕ) (vs : List ℕ) → (w ≡ endNo → ⊥) → (n : ℕ) (a : Act) (next : ℕ) → Stands ws at (w ∷ vs) → moveOf (opOf (getD ws at 0)) ws room at ≡ Goes a next
-      → traceOf (suc n) ws room at ≡ does a (traceOf n ws room next)
-  goes w vs z n a next s m = trace-goes ws room at w (looks w vs s) z (opOf w) refl (Goes a next) (sym m ∙ ap (λ (x : ℕ). moveOf (opOf x) ws room at) (head w vs s)) n a next refl
+  goes : (w : ℕ) (vs : List ℕ) → (w ≡ endNo → ⊥) → (n : ℕ) (a : Act) (next : ℕ) → Stands ws at (w ∷ vs) → moveOf (opOf (getD ws at 0)) ws segs at ≡ Goes a next
+      → traceOf (suc n) ws segs at ≡ does a (traceOf n ws segs next)
+  goes w vs z n a next s m = trace-goes ws segs at w (looks w vs s) z (opOf w) refl (Goes a next) (sym m ∙ ap (λ (x : ℕ). moveOf (opOf x) ws segs at) (head w vs s)) n a next refl
 
-  pub act-goes : (n : ℕ) (a : Act) → Among room a → Stands ws at (encodeTo to a) → traceOf (suc n) ws room at ≡ does a (traceOf n ws room (nextOf at to a))
+  pub act-goes : (n : ℕ) (a : Act) → Grounded segs a → Stands ws at (encodeTo to a) → traceOf (suc n) ws segs at ≡ does a (traceOf n ws segs (nextOf at to a))
   act-goes n (Fill rule first backdrop) h s = goes _ _ (λ e. absurd (omega arith)) n _ _ s (read-back _ h s)
   act-goes n Solid h s = goes _ _ (λ e. absurd (omega arith)) n _ _ s (read-back _ h s)
   act-goes n (Color word) h s = goes _ _ (λ e. absurd (omega arith)) n _ _ s (read-back _ h s)
   act-goes n Jump h s = goes _ _ (λ e. absurd (omega arith)) n _ _ s (read-back _ h s)
 
-  pub end-goes : (n : ℕ) → Stands ws at (endNo ∷ []) → traceOf n ws room at ≡ ends Fine
-  end-goes n s = trace-end ws room at endNo (looks endNo [] s) n refl
+  pub end-goes : (n : ℕ) → Stands ws at (endNo ∷ []) → traceOf n ws segs at ≡ ends Fine
+  end-goes n s = trace-end ws segs at endNo (looks endNo [] s) n refl
 
 -- and where it was just written
-pub read-written : (ws : List ℕ) (room at to : ℕ) (a : Act) → Among room a → at + length (encodeTo to a) ≤ length ws
-    → moveOf (opOf (getD (sets ws at (encodeTo to a)) at 0)) (sets ws at (encodeTo to a)) room at ≡ Goes a (nextOf at to a)
-read-written ws room at to a h r = read-back (sets ws at (encodeTo to a)) room at to a h (written-stands ws at (encodeTo to a) r)
+pub read-written : (ws : List ℕ) (segs : List Float) (at to : ℕ) (a : Act) → Grounded segs a → at + length (encodeTo to a) ≤ length ws
+    → moveOf (opOf (getD (sets ws at (encodeTo to a)) at 0)) (sets ws at (encodeTo to a)) segs at ≡ Goes a (nextOf at to a)
+read-written ws segs at to a h r = read-back (sets ws at (encodeTo to a)) segs at to a h (written-stands ws at (encodeTo to a) r)
 
 -- ---- SOLID is one word, so twenty pairs of SOLID and COLOR, and a JUMP, have room in a tile's region, and no more
 

@@ -1,17 +1,16 @@
 -- What a tile's commands do to one pixel: a fold over them by two operations, cover and paint. Definitions only.
 use mathlib.Core.Bool.{Bool, cond}
 use mathlib.Core.List.{List}
-use Prim.Native.Nat.{ℕ, _+_, _-_, _*_, _/_, _%_, _^_, _≤_}
+use Prim.Native.Nat.{ℕ, _+_, _-_, _*_, _%_, _^_, _≤_}
 use lib.Dec.{eqb, ltb}
 use lib.IntN.{ℤ, pos, negsuc}
-use lib.ListN.{length, getD, replicate}
+use lib.ListN.{getD}
 use lib.Ieee.{Float, nan}
 use Rattle.util.specs.Constants.{zero, one}
 use Rattle.lists.specs.Grid.{mapi}
 use Rattle.panel.specs.Limits.{mostCommands}
 use Rattle.panel.specs.Widths.{segmentFloats}
 use Rattle.panel.specs.declared.kinds.Verdict.{Verdict}
-use Rattle.coverage.specs.Tile.{tileSize}
 use Rattle.coverage.specs.Coverage.{pixelOf}
 use Rattle.colours.specs.Colour.{colourOf, overOf}
 use Rattle.commands.specs.Moves.{countOf, Trace, ends, does, traceOf, endOf}
@@ -69,10 +68,6 @@ Within Solid n = Unit {0}
 Within (Color word) n = Unit {0}
 Within Jump n = Unit {0}
 
--- the areas that a tile starts with. Shut, so that a goal does not write out all of them
-unfoldable pub noArea : List Float
-noArea = replicate tileSize zero
-
 -- after a tile's commands: how they ended, and the colours
 pub record Ran : Type 0 where
   pub end : Verdict
@@ -84,5 +79,5 @@ ran v rgba = record { end = v; rgba = rgba }
 -- the commands from the word `start` on, over the colours there were, each pixel's area 0 at first
 unfoldable pub runOf : List ℕ → List Float → ℕ → List (List Float) → Ran
 runOf words segments start rgba =
-    let t = traceOf mostCommands words (length segments / segmentFloats) start in
+    let t = traceOf mostCommands words segments start in
     ran (endOf t) (mapi (λ k colour. pointOf segments k t (point zero colour) .colour) rgba)

@@ -7,6 +7,8 @@ use crate::numbers::JUMP;
 use crate::numbers::JUMP_WORDS;
 use crate::numbers::SOLID;
 use crate::numbers::SOLID_WORDS;
+use coverage::ground::ground;
+use panel::kinds::Verdict;
 use panel::refusals::PAST_END;
 use panel::refusals::UNKNOWN;
 ghost use mathlib.Core.Path.{_≡_};
@@ -66,32 +68,33 @@ pub fn words_of(op: Op) -> usize
     }
 }
 
-// A FILL whose words are all there: 13 where its segments aren't among the `room` lent.
-fn fill_move(words: &[u32], room: usize, at: usize) -> Move
+// A FILL whose words are all there: its segments are asked for as `fill` asks for them.
+fn fill_move(words: &[u32], segments: &[f32], at: usize) -> Move
     requires { ⌜ at + fillWords ≤ length (now words) ⌝ }
-    ensures { λ r. ⌜ r ≡ fillMove (now (words .entry)) room at ⌝ }
+    ensures { λ r. ⌜ r ≡ fillMove (now (words .entry)) (now (segments .entry)) at ⌝ }
 {
     let rule = words[at + 1];
     let first = words[at + 2];
     let backdrop = words[at + 3];
-    if (first as usize) + ((rule / 2) as usize) > room {
-        return Move::Refused(PAST_END);
+    let v = ground(segments, first, rule / 2);
+    if let Verdict::Against(no) = v {
+        return Move::Refused(no);
     }
     let next = at + FILL_WORDS;
     Move::Goes(Act::Fill(rule, first, backdrop), next)
 }
 
 // The command at a place where a word stands.
-pub fn move_at(words: &[u32], room: usize, at: usize, op: Op) -> Move
+pub fn move_at(words: &[u32], segments: &[f32], at: usize, op: Op) -> Move
     requires { ⌜ at < length (now words) ⌝ }
-    ensures { λ r. ⌜ r ≡ moveOf op (now (words .entry)) room at ⌝ }
+    ensures { λ r. ⌜ r ≡ moveOf op (now (words .entry)) (now (segments .entry)) at ⌝ }
 {
     let size = words_of(op);
     if words.len() - at < size {
         return Move::Refused(PAST_END);
     }
     match op {
-        Op::Fill => fill_move(words, room, at),
+        Op::Fill => fill_move(words, segments, at),
         Op::Solid => {
             let past = at + SOLID_WORDS;
             Move::Goes(Act::Solid, past)

@@ -86,12 +86,12 @@ module _ (segs : List Float) (first n : ℕ) (z : ℤ) (xt yt : Float) where
       → InUnit (getD (fillOf segs first n false z xt yt area .area) k nan)
   unfolding fillOf
   fill-nonzero area e k h =
-      let v = firstNo (fillChecks (length segs) (length area) first n) in
+      let v = firstNo (fillChecks segs (length area) first n) in
       subst (λ (l : List Float). InUnit (getD l k nan)) (sym (done-new v (coverageOf segs first n false z xt yt) area e)) (nonzero-tile k h)
 
   pub fill-even-odd : (area : List Float) → fillOf segs first n true z xt yt area .answer ≡ paperOf Done → (k : ℕ) → k < tileSize
       → T (finite (sumOf segs first n z xt yt k)) → InUnit (getD (fillOf segs first n true z xt yt area .area) k nan)
   unfolding fillOf
   fill-even-odd area e k h t =
-      let v = firstNo (fillChecks (length segs) (length area) first n) in
+      let v = firstNo (fillChecks segs (length area) first n) in
       subst (λ (l : List Float). InUnit (getD l k nan)) (sym (done-new v (coverageOf segs first n true z xt yt) area e)) (even-odd-tile k h t)

@@ -1,7 +1,8 @@
 pub mod Past
 pub mod Laws
+pub mod Grounds
+pub mod Crooked
 pub mod Page
-pub mod Turn
 pub mod Even
 pub mod Bounds
 pub mod Traces

@@ -1,15 +1,15 @@
 -- The public call of coverage: refusals 1 and 13, then the coverage of a tile's pixels. Definitions only.
 use mathlib.Core.Path.{_≡_}
 use mathlib.Core.Bool.{Bool}
-use mathlib.Core.List.{List, [], _∷_}
-use Prim.Native.Nat.{ℕ, _+_, _/_, _%_}
-use lib.Dec.{eqb, leb}
+use mathlib.Core.List.{List, _∷_}
+use Prim.Native.Nat.{ℕ, _%_}
+use lib.Dec.{eqb}
 use lib.IntN.{ℤ}
 use lib.ListN.{length}
 use lib.Ieee.{Float}
 use Rattle.panel.specs.Checks.{Check, check, firstNo, unless}
 use Rattle.panel.specs.Kinds.{paperOf}
-use Rattle.panel.specs.Refusals.{notWhole, pastEnd}
+use Rattle.panel.specs.Refusals.{notWhole}
 use Rattle.panel.specs.Widths.{segmentFloats}
 use Rattle.panel.specs.declared.kinds.Answer.{Answer}
 use Rattle.panel.specs.declared.kinds.Answer.the-variants.{Done}
@@ -17,11 +17,12 @@ use Rattle.panel.specs.declared.kinds.Verdict.{Verdict}
 use Rattle.panel.specs.declared.kinds.Verdict.the-variants.{Fine, Against}
 use Rattle.coverage.specs.Tile.{tileSize}
 use Rattle.coverage.specs.Coverage.{coverageOf}
+use Rattle.coverage.specs.Ground.{groundChecks}
 
--- of so many floats of segments and an area so long, the first segment of the fill and their number
-abbrev pub fillChecks : ℕ → ℕ → ℕ → ℕ → List Check
+-- of the segments lent and an area so long, the fill's first segment and their number
+abbrev pub fillChecks : List Float → ℕ → ℕ → ℕ → List Check
 fillChecks segments area first n =
-    check (eqb (segments % segmentFloats) 0) notWhole ∷ check (eqb area tileSize) notWhole ∷ check (leb (first + n) (segments / segmentFloats)) pastEnd ∷ []
+    check (eqb (length segments % segmentFloats) 0) notWhole ∷ check (eqb area tileSize) notWhole ∷ groundChecks segments first n
 
 -- after the call: its answer on paper, and the area
 pub record Filled : Type 0 where
@@ -38,7 +39,7 @@ ifFine (Against n) new old = old
 
 unfoldable pub fillOf : List Float → ℕ → ℕ → Bool → ℤ → Float → Float → List Float → Filled
 fillOf segments first n even-odd backdrop x-tile y-tile area =
-    let v = firstNo (fillChecks (length segments) (length area) first n) in
+    let v = firstNo (fillChecks segments (length area) first n) in
     filled (unless v 0 Done) (ifFine v (coverageOf segments first n even-odd backdrop x-tile y-tile) area)
 
 -- the call's promise: the answer r and the area afterwards are these

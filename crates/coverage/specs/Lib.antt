@@ -5,4 +5,5 @@ pub mod Tile
 pub mod Row
 pub mod Coverage
 pub mod Page
+pub mod Ground
 pub mod Fill

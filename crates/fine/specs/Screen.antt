@@ -3,12 +3,11 @@ use mathlib.Core.Bool.{Bool, cond, _&&_}
 use mathlib.Core.List.{List, []}
 use Prim.Native.Nat.{ℕ, _+_, _*_, _/_, _%_}
 use lib.Dec.{eqb}
-use lib.ListN.{length, getD, replicate}
+use lib.ListN.{getD, replicate}
 use lib.Ieee.{Float}
 use Rattle.util.specs.Constants.{zero}
 use Rattle.lists.specs.Grid.{mapi}
 use Rattle.panel.specs.Limits.{mostCommands}
-use Rattle.panel.specs.Widths.{segmentFloats}
 use Rattle.panel.specs.declared.kinds.Verdict.{Verdict}
 use Rattle.panel.specs.declared.kinds.Verdict.the-variants.{Fine, Against}
 use Rattle.coverage.specs.Tile.{tileWidth, tileHeight, tileSize}
@@ -42,6 +41,10 @@ packed colour width p old = packOf (colour (placeOf width p))
 abbrev pub fromList : List (List Float) → ℕ → ℕ → ℕ → ℕ
 fromList rgba width p old = packed (λ k. getD rgba k []) width p old
 
+-- one word in each pixel
+abbrev pub oneWord : ℕ → ℕ → ℕ → ℕ
+oneWord word p old = word
+
 -- ---- what its commands make of it
 
 -- no colour, at one pixel and at each
@@ -53,7 +56,7 @@ noColour = replicate tileSize clear
 
 -- tile t's commands
 unfoldable pub tileTrace : List ℕ → List Float → ℕ → Trace
-tileTrace words segments t = traceOf mostCommands words (length segments / segmentFloats) (startOf t)
+tileTrace words segments t = traceOf mostCommands words segments (startOf t)
 
 abbrev pub endsAt : List ℕ → List Float → ℕ → Verdict
 endsAt words segments t = endOf (tileTrace words segments t)

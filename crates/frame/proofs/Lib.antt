@@ -1,9 +1,7 @@
 -- What the proofs of a frame share.
 --     KindLaws    an answer on paper is one answer's
---     FillLaws    a loop that stores one value everywhere
 --     AllLines    how far lines need be counted
 --     FrameLaws   a frame by what its stages answer
 pub mod KindLaws
-pub mod FillLaws
 pub mod AllLines
 pub mod FrameLaws

@@ -2,7 +2,6 @@
 // out, all references tiled. docs/RULES.md, "A frame". Each stage is its own public call; a frame
 // ends at the first that refuses, and what came before it stands.
 mod call;
-mod clears;
 mod kinds;
 mod stages;
 

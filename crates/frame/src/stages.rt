@@ -6,14 +6,14 @@ ghost use Rattle.panel.specs.Limits.{mostLines};
 ghost use Rattle.panel.specs.Paths.{pathsAnswer};
 ghost use Rattle.panel.specs.declared.kinds.Answer.the-variants.{Done};
 ghost use Rattle.frame.specs.Frame.{outOf, placedOf, drawnOf};
-use super::clears::clear_backdrops;
-use super::clears::clear_tiles;
 use super::kinds::Framed;
 use super::kinds::Stage;
 use panel::kinds::Answer;
 use panel::kinds::Running;
 use panel::limits::MOST_LINES;
 use path_count::Counted;
+use ranges::clear_backdrops;
+use ranges::clear_words;
 
 // Up to which line is counted: all of them, and no further than the first whose number is over the
 // limit, at which counting stops.
@@ -83,8 +83,11 @@ pub(crate) fn draw(
     ensures { λ r. ⌜ outOf r (now (backdrops .exit)) (now (stored .exit)) (now (tally .exit)) (now (refs .exit)) (now (segments .exit))
         ≡ drawnOf (now («path_nos» .entry)) (now (coords .entry)) (now (paths .entry)) (now (backdrops .entry)) (now (stored .entry)) (now (tally .entry)) (now (refs .entry)) (now (segments .entry)) ⌝ }
 {
-    clear_backdrops(backdrops);
-    clear_tiles(stored);
+    // What an older frame left would be counted on.
+    let marks = backdrops.len();
+    clear_backdrops(backdrops, 0, marks);
+    let tiles = stored.len();
+    clear_words(stored, 0, tiles);
     let none = Running { lines: 0, refs: 0 };
     let end = end_of(path_nos.len());
     match path_count::count_checked(none, end, path_nos, coords, paths, backdrops, stored, refs) {

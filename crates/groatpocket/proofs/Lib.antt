@@ -3,3 +3,5 @@ pub mod Told
 pub mod ToldFrame
 pub mod ToldPpm
 pub mod ToldPixel
+pub mod ToldRecount
+pub mod ToldSvg

@@ -5,3 +5,6 @@ pub mod CallFrame
 pub mod CallLists
 pub mod CallPpm
 pub mod CallPixel
+pub mod CallRecount
+pub mod CallSvg
+pub mod Version

@@ -10,5 +10,8 @@ pub mod call_hand_out;
 pub mod call_lists;
 pub mod call_pixel;
 pub mod call_ppm;
+pub mod call_recount;
+pub mod call_svg;
 pub mod call_tile;
+pub mod call_version;
 pub mod floats;

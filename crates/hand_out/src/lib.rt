@@ -16,6 +16,7 @@ use panel::limits::MOST_TILES;
 use panel::refusals::NO_ROOM;
 use panel::refusals::NOT_WHOLE;
 use panel::refusals::TOO_MANY;
+use panel::slots::flipped;
 
 // The sum of the counts, in 64 bits: so few tiles can't wrap it.
 fn total_of(counts: &[u32]) -> u64
@@ -35,7 +36,7 @@ fn total_of(counts: &[u32]) -> u64
 fn word_of(count: u32, first: SlotNo) -> u32
     ensures { λ r. ⌜ r ≡ stored count (first .0) ⌝ }
 {
-    if count == 0 { 0 } else { !first.0 }
+    if count == 0 { 0 } else { flipped(first.0) }
 }
 
 // The slices lent, then the room.

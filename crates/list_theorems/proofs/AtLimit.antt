@@ -10,12 +10,13 @@ use borrow.Author.Tests.{le-leb, eq-eqb}
 use Rattle.lists.specs.Sums.{from}
 use Rattle.panel.specs.Limits.{mostPaths, mostTiles, edgeMost, mostCommands}
 use Rattle.panel.specs.Refusals.{tooLong}
-use Rattle.panel.specs.Widths.{pathWords, placeX0, placeY0, placeX1, placeY1, placeFirst, paintWords, placeColour, placeRule}
+use Rattle.panel.specs.Widths.{pathWords, paintWords, placeColour, placeRule}
 use Rattle.panel.specs.Slots.{not32}
 use Rattle.panel.specs.Checks.{firstNo}
-use Rattle.panel.specs.Paths.{pathAt, pathCount, tileOf, endOf, lentChecks, pathsFrom, pathsAnswer}
+use Rattle.panel.specs.Paths.{pathOf, pathAt, pathCount, tileOf, endOf, lentChecks, pathsFrom, pathsAnswer}
 use Rattle.panel.specs.declared.kinds.Path.{Path}
 use Rattle.panel.specs.declared.kinds.Answer.the-variants.{Done}
+use Rattle.panel.proofs.RecordLaws.{path-first, path-next, path-more}
 use Rattle.panel.proofs.CheckLaws.{none-fails, unless-fine}
 use Rattle.write_lists.specs.Pairs.{Tables, tables, onTile, onPath, pairsOf, tilePairs, bitsOf}
 use Rattle.write_lists.specs.Layout.{commandsOf}
@@ -29,7 +30,7 @@ use Rattle.list_theorems.proofs.Refuted.{limit-passes, limit-is-met}
 -- ---- n paths over one tile, f with a segment and m without
 
 abbrev boxAt : ℕ → Path
-boxAt p = record { x0 = 0; y0 = 0; x1 = 1; y1 = 1; first = p }
+boxAt p = pathOf 0 0 1 1 p
 
 abbrev paint : List ℕ
 paint = 0 ∷ 0 ∷ []
@@ -70,34 +71,16 @@ tally-long zero m = length-replicate {A = ℕ} m 0 ∙ sums m
     sums m = omega arith
 tally-long (suc f) m = let e = tally-long f m in omega arith
 
-box-word : (n i p c : ℕ) → p < n → c < pathWords → getD (boxes n i) (p * pathWords + c) 0 ≡ getD (0 ∷ 0 ∷ 1 ∷ 1 ∷ (i + p) ∷ []) c 0
+box-from : (n i p : ℕ) → p < n → pathAt (boxes n i) p ≡ boxAt (i + p)
 unfolding boxes
-box-word zero i p c h k = absurd (omega arith)
-box-word (suc n) i zero c h k = let z : 0 * pathWords + c ≡ c = omega arith in rw z (front c k)
-  where
-    front : (c : ℕ) → c < pathWords → getD (0 ∷ 0 ∷ 1 ∷ 1 ∷ i ∷ boxes n (suc i)) c 0 ≡ getD (0 ∷ 0 ∷ 1 ∷ 1 ∷ (i + 0) ∷ []) c 0
-    front zero k = refl
-    front (suc zero) k = refl
-    front (suc (suc zero)) k = refl
-    front (suc (suc (suc zero))) k = refl
-    front (suc (suc (suc (suc zero)))) k = omega arith
-    front (suc (suc (suc (suc (suc c))))) k = absurd (omega arith)
-box-word (suc n) i (suc p) c h k =
-    let z : suc p * pathWords + c ≡ suc (suc (suc (suc (suc (p * pathWords + c))))) = omega arith in
-    let y : suc i + p ≡ i + suc p = omega arith in
-    rw z (rw y at (box-word n (suc i) p c (omega arith) k))
+box-from zero i p h = absurd (omega arith)
+box-from (suc n) i zero h = let z : i ≡ i + 0 = omega arith in path-first (boxAt i) (boxes n (suc i)) ∙ ap boxAt z
+box-from (suc n) i (suc p) h =
+    let z : suc i + p ≡ i + suc p = omega arith in
+    path-next (boxAt i) (boxes n (suc i)) p ∙ box-from n (suc i) p (omega arith) ∙ ap boxAt z
 
 box-at : (n p : ℕ) → p < n → pathAt (boxes n 0) p ≡ boxAt p
-unfolding pathAt
-box-at n p h =
-    let a : getD (boxes n 0) (p * pathWords + placeX0) 0 ≡ 0 = box-word n 0 p placeX0 h (omega arith) in
-    let b : getD (boxes n 0) (p * pathWords + placeY0) 0 ≡ 0 = box-word n 0 p placeY0 h (omega arith) in
-    let c : getD (boxes n 0) (p * pathWords + placeX1) 0 ≡ 1 = box-word n 0 p placeX1 h (omega arith) in
-    let d : getD (boxes n 0) (p * pathWords + placeY1) 0 ≡ 1 = box-word n 0 p placeY1 h (omega arith) in
-    let e : getD (boxes n 0) (p * pathWords + placeFirst) 0 ≡ 0 + p = box-word n 0 p placeFirst h (omega arith) in
-    let z : 0 + p ≡ p = omega arith in
-    let f : getD (boxes n 0) (p * pathWords + placeFirst) 0 ≡ p = e ∙ z in
-    λ i. record { x0 = a i; y0 = b i; x1 = c i; y1 = d i; first = f i }
+box-at n p h = let z : 0 + p ≡ p = omega arith in box-from n 0 p h ∙ ap boxAt z
 
 paint-word : (n p c : ℕ) → p < n → c < paintWords → getD (times n paint) (p * paintWords + c) 0 ≡ 0
 unfolding times
@@ -115,7 +98,7 @@ paint-word (suc n) (suc p) c h k =
 boxes-long : (n i : ℕ) → length (boxes n i) ≡ n * pathWords
 unfolding boxes
 boxes-long zero i = refl
-boxes-long (suc n) i = let e = boxes-long n (suc i) in omega arith
+boxes-long (suc n) i = let e = boxes-long n (suc i) in omega (arith, path-more (boxAt i) (boxes n (suc i)))
 
 times-long : (n : ℕ) → length (times n paint) ≡ n * paintWords
 unfolding times

@@ -7,13 +7,16 @@ use Prim.Native.Nat.{ℕ, suc, _+_, _-_, _*_, _≤_, _<_}
 use native.Mathlib.Omega.{arith}
 use lib.ListN.{length, getD, length-append}
 use lib.Seq.{sets, length-sets}
+use lib.Ieee.{Float}
 use Rattle.lists.specs.Cells.{getD-sets-before, getD-sets-after}
 use Rattle.lists.specs.Run.{All}
 use Rattle.commands.specs.Numbers.{encode, tileWords}
-use Rattle.commands.specs.Moves.{does, traceOf}
+use Rattle.panel.specs.declared.kinds.Verdict.the-variants.{Fine}
+use Rattle.coverage.specs.Ground.{groundOf}
+use Rattle.commands.specs.Moves.{countOf, does, traceOf}
 use Rattle.commands.specs.declared.steps.Act.the-variants as Act
 use Rattle.commands.proofs.Encoded.{Stands, written-stands, act-goes, end-goes}
-use Rattle.write_lists.specs.Pairs.{coverOf, colourOf}
+use Rattle.write_lists.specs.Pairs.{fillRule, coverOf, colourOf}
 use Rattle.write_lists.specs.Layout.{pairWords, pairSize, Chunk, chunk, penAt, fits, jumpIf, turned, past, laid, jumpCount, leftAt, jumpsOf, written}
 use Rattle.write_lists.specs.declared.pairs.Pair.{Pair}
 use Rattle.write_lists.specs.declared.pairs.Pair.the-variants.{Fill, Solid}
@@ -66,44 +69,51 @@ abbrev pub Filled : ℕ → Pair → Type 0
 Filled room (Fill count rule first backdrop colour) = first + count ≤ room
 Filled room (Solid colour) = Unit {0}
 
-module _ (ws : List ℕ) (room : ℕ) where
-  cover-goes : (n at : ℕ) (p : Pair) → Filled room p → Stands ws at (encode (coverOf p))
-      → traceOf (suc n) ws room at ≡ does (coverOf p) (traceOf n ws room (at + length (encode (coverOf p))))
-  cover-goes n at (Fill count rule first backdrop colour) h s = act-goes ws room at 0 n _ (omega arith) s
-  cover-goes n at (Solid colour) h s = act-goes ws room at 0 n Act.Solid tt s
+-- nor are they refused
+abbrev pub Drawn : List Float → Pair → Type 0
+Drawn segs (Fill count rule first backdrop colour) = groundOf segs first count ≡ Fine
+Drawn segs (Solid colour) = Unit {0}
 
-  pair-goes : (n at : ℕ) (p : Pair) → Filled room p → Stands ws at (pairWords p) → traceOf (suc (suc n)) ws room at ≡ pairThen p (traceOf n ws room (at + pairSize p))
+module _ (ws : List ℕ) (segs : List Float) where
+  cover-goes : (n at : ℕ) (p : Pair) → Drawn segs p → Stands ws at (encode (coverOf p))
+      → traceOf (suc n) ws segs at ≡ does (coverOf p) (traceOf n ws segs (at + length (encode (coverOf p))))
+  cover-goes n at (Fill count rule first backdrop colour) h s =
+      let e : countOf (fillRule count rule) ≡ count = omega arith in
+      act-goes ws segs at 0 n _ (ap (groundOf segs first) e ∙ h) s
+  cover-goes n at (Solid colour) h s = act-goes ws segs at 0 n Act.Solid tt s
+
+  pub pair-goes : (n at : ℕ) (p : Pair) → Drawn segs p → Stands ws at (pairWords p) → traceOf (suc (suc n)) ws segs at ≡ pairThen p (traceOf n ws segs (at + pairSize p))
   pair-goes n at p h s =
       let vs = encode (coverOf p) in
       let us = encode (Act.Color (colourOf p)) in
       let e : at + length vs + length us ≡ at + pairSize p = omega (arith, length-append vs us) in
       cover-goes (suc n) at p h (first-stands ws at vs us s)
       ∙ ap (does (coverOf p))
-      (act-goes ws room (at + length vs) 0 n (Act.Color (colourOf p)) tt (then-stands ws at vs us s)
-      ∙ ap (λ (k : ℕ). does (Act.Color (colourOf p)) (traceOf n ws room k)) e)
+      (act-goes ws segs (at + length vs) 0 n (Act.Color (colourOf p)) tt (then-stands ws at vs us s)
+      ∙ ap (λ (k : ℕ). does (Act.Color (colourOf p)) (traceOf n ws segs k)) e)
 
   -- the whole list, where so many commands are allowed
-  pub list-goes : (ps : List Pair) (n at left fresh : ℕ) → All (Filled room) ps → 2 * length ps + jumpsOf left ps ≤ n → All (ChunkStands ws) (laid (penAt at left fresh) ps)
-      → traceOf n ws room at ≡ listTrace left ps
+  pub list-goes : (ps : List Pair) (n at left fresh : ℕ) → All (Drawn segs) ps → 2 * length ps + jumpsOf left ps ≤ n → All (ChunkStands ws) (laid (penAt at left fresh) ps)
+      → traceOf n ws segs at ≡ listTrace left ps
   unfolding listTrace
-  list-goes [] n at left fresh h m s = end-goes ws room at 0 n (s .0)
+  list-goes [] n at left fresh h m s = end-goes ws segs at 0 n (s .0)
   list-goes (p ∷ ps) n at left fresh h m s = go (fits p left) (λ k at left fresh. list-goes ps k at left fresh (h .1)) m s
     where
-      go : (b : Bool) → ((k at left fresh : ℕ) → 2 * length ps + jumpsOf left ps ≤ k → All (ChunkStands ws) (laid (penAt at left fresh) ps) → traceOf k ws room at ≡ listTrace left ps)
+      go : (b : Bool) → ((k at left fresh : ℕ) → 2 * length ps + jumpsOf left ps ≤ k → All (ChunkStands ws) (laid (penAt at left fresh) ps) → traceOf k ws segs at ≡ listTrace left ps)
           → 2 * length (p ∷ ps) + (jumpCount b + jumpsOf (leftAt b left - pairSize p) ps) ≤ n
           → All (ChunkStands ws) ((jumpIf b (penAt at left fresh) ++ (chunk (turned b (penAt at left fresh) .at) (pairWords p) ∷ [])) ++ laid (past p (turned b (penAt at left fresh))) ps)
-          → traceOf n ws room at ≡ jumpThen b (pairThen p (listTrace (leftAt b left - pairSize p) ps))
+          → traceOf n ws segs at ≡ jumpThen b (pairThen p (listTrace (leftAt b left - pairSize p) ps))
       go true ih m s =
           let k = n - 2 in
           let e : n ≡ suc (suc k) = omega arith in
-          ap (λ (i : ℕ). traceOf i ws room at) e
+          ap (λ (i : ℕ). traceOf i ws segs at) e
           ∙ pair-goes k at p (h .0) (s .0)
           ∙ ap (pairThen p) (ih k (at + pairSize p) (left - pairSize p) fresh (omega arith) (s .1))
       go false ih m s =
           let k = n - 3 in
           let e : n ≡ suc (suc (suc k)) = omega arith in
-          ap (λ (i : ℕ). traceOf i ws room at) e
-          ∙ act-goes ws room at fresh (suc (suc k)) Act.Jump tt (s .0)
+          ap (λ (i : ℕ). traceOf i ws segs at) e
+          ∙ act-goes ws segs at fresh (suc (suc k)) Act.Jump tt (s .0)
           ∙ ap (does Act.Jump)
           (pair-goes k fresh p (h .0) (s .1 .0)
           ∙ ap (pairThen p) (ih k (fresh + pairSize p) (tileWords - pairSize p) (fresh + tileWords) (omega arith) (s .1 .1)))

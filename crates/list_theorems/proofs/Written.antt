@@ -16,7 +16,10 @@ use Rattle.panel.specs.Widths.{segmentFloats}
 use Rattle.panel.specs.declared.kinds.Answer.{Answer}
 use Rattle.panel.specs.declared.kinds.Answer.the-variants.{Done}
 use Rattle.panel.specs.declared.kinds.Verdict.{Verdict}
+use Rattle.panel.specs.Segments.{segmentAt}
 use Rattle.panel.proofs.CheckLaws.{none-fails}
+use Rattle.panel.proofs.HeldLaws.{is-straight}
+use Rattle.coverage.proofs.Crooked.{all-straight}
 use Rattle.panel.proofs.KindLaws.{paper-once}
 use Rattle.coverage.specs.Tile.{tileWidth, tileHeight}
 use Rattle.commands.specs.Numbers.{tileWords, startOf}
@@ -31,7 +34,7 @@ use Rattle.write_lists.specs.declared.pairs.Pair.{Pair}
 use Rattle.write_lists.specs.declared.pairs.Pair.the-variants.{Fill, Solid}
 use Rattle.list_theorems.specs.Painted.{painted}
 use Rattle.list_theorems.specs.Written.{Wrote, Fills, AllI32, PairsInOrder, NeverRefused, LikePainted}
-use Rattle.list_theorems.proofs.Regions.{ChunkStands, InWords, Filled, Off, all-stand, word-stays, list-goes}
+use Rattle.list_theorems.proofs.Regions.{ChunkStands, InWords, Filled, Drawn, Off, all-stand, word-stays, list-goes}
 use Rattle.list_theorems.proofs.Apart.{all-map, lists-in, lists-apart, tile-among, first-off}
 use Rattle.list_theorems.proofs.Passed.{Passed, passed}
 use Rattle.list_theorems.proofs.Pixels.{list-ends, list-paints, pairs-paint}
@@ -50,16 +53,20 @@ met-wrote s cols rows room ws after p = sym p
 
 -- ---- what was written
 
-more : {a b : ℕ} → a ≤ b → (p : Pair) → Filled a p → Filled b p
-more h (Fill count rule first backdrop colour) f = omega arith
-more h (Solid colour) f = tt
+-- FILLs within the room told are not refused
+drawn : {room : ℕ} {segs : List Float} → Fills room segs → (p : Pair) → Filled room p → Drawn segs p
+drawn {room = room} {segs = segs} fills (Fill count rule first backdrop colour) f =
+    let h = fills .enough in
+    let all = all-straight segs first count (λ j l. is-straight (segmentAt segs (first + j)) (fills .straight (first + j) (omega arith))) in
+    rw (le-leb (first + count) (length segs / segmentFloats) (omega arith), all)
+drawn fills (Solid colour) f = tt
 
 module _ (s : Tables) (cols rows room : ℕ) (ws words : List ℕ) (wrote : Wrote s cols rows room ws words) where
   p : Passed s cols rows room ws words
   p = passed s cols rows room ws words wrote
 
   -- all chunks stand in the words left
-  stand : All (ChunkStands words) (listsOf s cols rows)
+  pub stand : All (ChunkStands words) (listsOf s cols rows)
   unfolding listsOf regionsOf
   stand =
       let n = cols * rows in
@@ -91,8 +98,8 @@ module _ (s : Tables) (cols rows room : ℕ) (ws words : List ℕ) (wrote : Wrot
     unfolding tileTrace listsOf
     pairs-in-order t h =
         let w = tile-among s cols (ChunkStands words) (cols * rows) 0 (tileWords * (cols * rows)) t (omega arith) (omega arith) stand in
-        list-goes words (length segs / segmentFloats) (tilePairs s cols t) mostCommands (startOf t) ownWords (w .0)
-        (all-map (Filled room) (Filled (length segs / segmentFloats)) (more (fills .enough)) (tilePairs s cols t) (p .filled t h)) (p .short t h) (w .1)
+        list-goes words segs (tilePairs s cols t) mostCommands (startOf t) ownWords (w .0)
+        (all-map (Filled room) (Drawn segs) (drawn fills) (tilePairs s cols t) (p .filled t h)) (p .short t h) (w .1)
 
     pub never-refused : NeverRefused cols rows words segs
     never-refused t h = ap endOf (pairs-in-order t h) ∙ list-ends ownWords (tilePairs s cols t)

@@ -5,3 +5,5 @@ pub mod CheckLaws
 pub mod PathLaws
 pub mod KindLaws
 pub mod SegmentLaws
+pub mod RecordLaws
+pub mod HeldLaws

@@ -2,7 +2,7 @@
 use mathlib.Core.Path.{_≡_, refl}
 use mathlib.Core.Logic.{_≢_}
 use mathlib.Core.List.{List, [], _∷_}
-use Prim.Native.Nat.{ℕ, suc, _+_, _*_, _≤_, _<_}
+use Prim.Native.Nat.{ℕ, zero, suc, _+_, _*_, _≤_, _<_}
 use native.Mathlib.Decide.{decLt}
 use native.Mathlib.Nat.{add-zero}
 use native.Mathlib.Omega.{arith}
@@ -45,13 +45,23 @@ module _ (slot : ℕ) (s : Segment) (l : List Float) where
   unfolding segmentAt
   reads-put h =
       let a : (j : ℕ) → j < segmentFloats → getD (putOf slot s l) (segmentFloats * slot + j) nan ≡ getD (floatsOf s) j nan = float-in h in
-      let zero : getD (putOf slot s l) (segmentFloats * slot) nan ≡ s .p0 .x = rw add-zero at (a 0 (omega arith)) in
-      rw (zero, a 1 (omega arith), a 2 (omega arith), a 3 (omega arith), a 4 (omega arith))
+      let first : getD (putOf slot s l) (segmentFloats * slot) nan ≡ s .p0 .x = rw add-zero at (a 0 (omega arith)) in
+      rw (first, a 1 (omega arith), a 2 (omega arith), a 3 (omega arith), a 4 (omega arith))
 
   -- and at other slots nothing has changed
   pub reads-other : (k : ℕ) → k ≢ slot → segmentAt (putOf slot s l) k ≡ segmentAt l k
   unfolding segmentAt
   reads-other k n =
       let a : (j : ℕ) → j < segmentFloats → getD (putOf slot s l) (segmentFloats * k + j) nan ≡ getD l (segmentFloats * k + j) nan = float-other k n in
-      let zero : getD (putOf slot s l) (segmentFloats * k) nan ≡ getD l (segmentFloats * k) nan = rw add-zero at (a 0 (omega arith)) in
-      rw (zero, a 1 (omega arith), a 2 (omega arith), a 3 (omega arith), a 4 (omega arith))
+      let first : getD (putOf slot s l) (segmentFloats * k) nan ≡ getD l (segmentFloats * k) nan = rw add-zero at (a 0 (omega arith)) in
+      rw (first, a 1 (omega arith), a 2 (omega arith), a 3 (omega arith), a 4 (omega arith))
+
+-- a slot's floats are those of the segment that is read there: `floatsOf` undoes `segmentAt`
+pub floats-read : (l : List Float) (k j : ℕ) → j < segmentFloats → getD (floatsOf (segmentAt l k)) j nan ≡ getD l (segmentFloats * k + j) nan
+unfolding segmentAt
+floats-read l k zero q = rw add-zero
+floats-read l k (suc zero) q = refl
+floats-read l k (suc (suc zero)) q = refl
+floats-read l k (suc (suc (suc zero))) q = refl
+floats-read l k (suc (suc (suc (suc zero)))) q = refl
+floats-read l k (suc (suc (suc (suc (suc j))))) q = absurd (omega arith)

@@ -5,6 +5,7 @@ use mathlib.Core.List.{List, [], _∷_}
 use Prim.Native.Nat.{ℕ, zero, suc, _+_, _-_, _*_, _/_, _%_}
 use lib.Dec.{leb, eqb}
 use lib.ListN.{length, getD}
+use lib.Seq.{sets}
 use Rattle.panel.specs.Limits.{mostPaths, mostTiles, edgeMost}
 use Rattle.panel.specs.Refusals.{notWhole, tooMany, badBox, badRange}
 use Rattle.panel.specs.Widths.{pathWords, placeX0, placeY0, placeX1, placeY1, placeFirst}
@@ -23,6 +24,21 @@ pathAt ws p =
       y1 = getD ws (p * pathWords + placeY1) 0;
       first = getD ws (p * pathWords + placeFirst) 0;
     }
+
+-- a path's words, in the order of their places
+abbrev pub pathRecord : Path → List ℕ
+pathRecord p = p .x0 ∷ p .y0 ∷ p .x1 ∷ p .y1 ∷ p .first ∷ []
+
+-- path p into its place
+abbrev pub putPath : ℕ → Path → List ℕ → List ℕ
+putPath k p ws = sets ws (k * pathWords) (pathRecord p)
+
+-- a path by its numbers, and the words of one that is lent
+abbrev pub pathOf : (x0 y0 x1 y1 first : ℕ) → Path
+pathOf x0 y0 x1 y1 first = record { x0 = x0; y0 = y0; x1 = x1; y1 = y1; first = first }
+
+abbrev pub boxed : (x0 y0 x1 y1 first : ℕ) → List ℕ
+boxed x0 y0 x1 y1 first = pathRecord (pathOf x0 y0 x1 y1 first)
 
 -- how many paths are lent
 abbrev pub pathCount : List ℕ → ℕ

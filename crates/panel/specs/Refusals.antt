@@ -62,6 +62,15 @@ badFile = 18
 abbrev pub offTile : ℕ
 offTile = 19
 
+abbrev pub badSegment : ℕ
+badSegment = 20
+
+abbrev pub badText : ℕ
+badText = 21
+
+abbrev pub tooDeep : ℕ
+tooDeep = 22
+
 -- all of them, in order
 abbrev pub refusalNumbers : List ℕ
 refusalNumbers =
@@ -85,4 +94,7 @@ refusalNumbers =
     ∷ badSize
     ∷ badFile
     ∷ offTile
+    ∷ badSegment
+    ∷ badText
+    ∷ tooDeep
     ∷ []

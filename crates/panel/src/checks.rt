@@ -5,43 +5,19 @@ ghost use Prim.Native.Nat.{_+_, _*_, _≤_};
 ghost use lib.ListN.{length};
 ghost use Rattle.panel.specs.Widths.{pathWords};
 ghost use Rattle.panel.specs.Checks.{firstNo};
-ghost use Rattle.panel.specs.Paths.{pathAt, boxFits, endOf, pathChecks, pathsFrom, lentChecks, pathsAnswer};
+ghost use Rattle.panel.specs.Paths.{boxFits, endOf, pathChecks, pathsFrom, lentChecks, pathsAnswer};
 use super::kinds::Answer;
 use super::kinds::Path;
 use super::kinds::Verdict;
 use super::limits::EDGE_MOST;
 use super::limits::MOST_PATHS;
 use super::limits::MOST_TILES;
+use super::paths::path_at;
 use super::refusals::BAD_BOX;
 use super::refusals::BAD_RANGE;
 use super::refusals::NOT_WHOLE;
 use super::refusals::TOO_MANY;
-use super::widths::PATH_FIRST;
 use super::widths::PATH_WORDS;
-use super::widths::PATH_X0;
-use super::widths::PATH_X1;
-use super::widths::PATH_Y0;
-use super::widths::PATH_Y1;
-
-// The record of a path that is there.
-pub fn path_at(paths: &[u32], k: u32) -> Path
-    requires { ⌜ k * pathWords + pathWords ≤ length (now paths) ⌝ }
-    ensures { λ r. ⌜ r ≡ pathAt (now (paths .entry)) k ⌝ }
-{
-    let at = (k as usize) * PATH_WORDS;
-    let x0 = paths[at + PATH_X0];
-    let y0 = paths[at + PATH_Y0];
-    let x1 = paths[at + PATH_X1];
-    let y1 = paths[at + PATH_Y1];
-    let first = paths[at + PATH_FIRST];
-    Path {
-        x0,
-        y0,
-        x1,
-        y1,
-        first,
-    }
-}
 
 // Whether no edge is over the limit, and none is the wrong way round.
 pub fn box_fits(p: Path) -> bool

@@ -62,8 +62,17 @@ pub const BAD_FILE: u32 = 18;
 // 19: a pixel's column or row outside its tile
 pub const OFF_TILE: u32 = 19;
 
+// 20: a fill's segment with an end outside its tile, or a y_edge not finite
+pub const BAD_SEGMENT: u32 = 20;
+
+// 21: a text that is no path data of SVG
+pub const BAD_TEXT: u32 = 21;
+
+// 22: a curve halved too often
+pub const TOO_DEEP: u32 = 22;
+
 // All of them, in order.
-pub fn all() -> [u32; 20]
+pub fn all() -> [u32; 23]
     ensures { λ r. ⌜ r ≡ refusalNumbers ⌝ }
 {
     [
@@ -87,5 +96,8 @@ pub fn all() -> [u32; 20]
         BAD_SIZE,
         BAD_FILE,
         OFF_TILE,
+        BAD_SEGMENT,
+        BAD_TEXT,
+        TOO_DEEP,
     ]
 }

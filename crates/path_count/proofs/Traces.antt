@@ -10,7 +10,7 @@ use Rattle.panel.specs.Limits.{edgeMost, mostSteps, coordBits, coordMost}
 use Rattle.panel.specs.Widths.{stepRange}
 use Rattle.panel.specs.Refusals.{doneNo, badBox, coordinate, countOver}
 use Rattle.panel.specs.Kinds.{runningOf}
-use Rattle.panel.specs.Paths.{pathAt, pathsFrom, pathsAnswer}
+use Rattle.panel.specs.Paths.{boxed, pathAt, pathsFrom, pathsAnswer}
 use Rattle.walk.specs.Num.{float, cutOf, insideOf, rowOf}
 use Rattle.walk.specs.Setup.{endsOf}
 use Rattle.walk.specs.Page.{lineOf}
@@ -44,10 +44,10 @@ abbrev pub ran : Case → Told
 ran c = counted (runningOf 0 0) 1 (0 ∷ []) (floats (c .ends)) (c .box) none (c .before) empty
 
 abbrev two : List ℕ
-two = 0 ∷ 0 ∷ 2 ∷ 2 ∷ 0 ∷ []
+two = boxed 0 0 2 2 0
 
 abbrev right : List ℕ
-right = 1 ∷ 0 ∷ 3 ∷ 2 ∷ 0 ∷ []
+right = boxed 1 0 3 2 0
 
 abbrev done : ℕ → List ℕ
 done n = doneNo ∷ 1 ∷ n ∷ []
@@ -84,10 +84,10 @@ unchanged paper = record { paper = paper; backs = none; counts = empty; refs = e
 abbrev pub border : List (Told × Told)
 border =
     -- a box whose edges are at the limit passes, in the far corner or in one of no tiles; one more is 3
-    (lent ((edgeMost - 2) ∷ (edgeMost - 2) ∷ edgeMost ∷ edgeMost ∷ 0 ∷ []) (floats (8 ∷ 8 ∷ 8 ∷ 24 ∷ [])), unchanged (done 0))
-    ∷ (lent (edgeMost ∷ edgeMost ∷ edgeMost ∷ edgeMost ∷ 0 ∷ []) (floats (8 ∷ 8 ∷ 8 ∷ 24 ∷ [])), unchanged (done 0))
-    ∷ (lent (0 ∷ 0 ∷ (edgeMost + 1) ∷ 0 ∷ 0 ∷ []) (floats (8 ∷ 8 ∷ 8 ∷ 24 ∷ [])), unchanged (badBox ∷ 0 ∷ 0 ∷ 0 ∷ []))
-    ∷ (lent (0 ∷ 0 ∷ 0 ∷ (edgeMost + 1) ∷ 0 ∷ []) (floats (8 ∷ 8 ∷ 8 ∷ 24 ∷ [])), unchanged (badBox ∷ 0 ∷ 0 ∷ 0 ∷ []))
+    (lent (boxed (edgeMost - 2) (edgeMost - 2) edgeMost edgeMost 0) (floats (8 ∷ 8 ∷ 8 ∷ 24 ∷ [])), unchanged (done 0))
+    ∷ (lent (boxed edgeMost edgeMost edgeMost edgeMost 0) (floats (8 ∷ 8 ∷ 8 ∷ 24 ∷ [])), unchanged (done 0))
+    ∷ (lent (boxed 0 0 (edgeMost + 1) 0 0) (floats (8 ∷ 8 ∷ 8 ∷ 24 ∷ [])), unchanged (badBox ∷ 0 ∷ 0 ∷ 0 ∷ []))
+    ∷ (lent (boxed 0 0 0 (edgeMost + 1) 0) (floats (8 ∷ 8 ∷ 8 ∷ 24 ∷ [])), unchanged (badBox ∷ 0 ∷ 0 ∷ 0 ∷ []))
     -- coordinates at the limit pass, of either sign; the next float is 6
     ∷ (lent two (coordMost ∷ float 3 ∷ coordMost ∷ neg coordMost ∷ []), unchanged (done 0))
     ∷ (lent two (float 3 ∷ coordMost ∷ neg coordMost ∷ coordMost ∷ []), unchanged (done 0))

@@ -36,7 +36,7 @@ fn write_step(
     refs: &mut [u32],
 ) -> f32
     requires { ⌜ OnTiles path (length (now backs)) (length (now counts)) × (i < stepRange) × («last_z» ≡ lastZ pace i)
-        × (refWords * at + 1 < length (now refs)) × (at < mostSlots)
+        × (refWords * at + refWords ≤ length (now refs)) × (at < mostSlots)
         × (isDone (runActs (deltaOf up) (line .0) (stepActs (hitAt pace path i) i) (stOf (now backs) (now counts) (now refs) at)) ≡ true) ⌝ }
     ensures { λ r. ⌜ (done (stOf (now (backs .exit)) (now (counts .exit)) (now (refs .exit)) (at + 1))
         ≡ runActs (deltaOf up) (line .0) (stepActs (hitAt pace path i) i) (stOf (now (backs .entry)) (now (counts .entry)) (now (refs .entry)) at))
@@ -95,7 +95,7 @@ fn write_noted(
     refs: &mut [u32],
 )
     requires { ⌜ (word / 2 + word % 2 < length (now backs)) × (length (now backs) ≡ length (now counts)) × (i < stepRange)
-        × (refWords * at + 1 < length (now refs)) × (at < mostSlots)
+        × (refWords * at + refWords ≤ length (now refs)) × (at < mostSlots)
         × (isDone (runActs (deltaOf up) (line .0) (stepActs (hitBy word) i) (stOf (now backs) (now counts) (now refs) at)) ≡ true) ⌝ }
     ensures { λ _. ⌜ done (stOf (now (backs .exit)) (now (counts .exit)) (now (refs .exit)) (at + 1))
         ≡ runActs (deltaOf up) (line .0) (stepActs (hitBy word) i) (stOf (now (backs .entry)) (now (counts .entry)) (now (refs .entry)) at) ⌝ }

@@ -9,7 +9,7 @@ use Rattle.float32.specs.Meaning.{floorOf, ceilOf, roundOf, absOf, minOf, maxOf
 use Rattle.util.specs.Span.{spanOf}
 use Rattle.panel.specs.Limits.{edgeMost, coordMost}
 use Rattle.panel.specs.Widths.{stepRange}
-use Rattle.panel.specs.Paths.{pathAt, pathsFrom, pathsAnswer}
+use Rattle.panel.specs.Paths.{boxed, pathAt, pathsFrom, pathsAnswer}
 use Rattle.panel.specs.declared.kinds.Answer.the-variants.{Done, Refused}
 use Rattle.panel.specs.Refusals.{noSuch, noRoom, outside}
 use Rattle.walk.specs.Num.{float, cutOf, insideOf}
@@ -18,7 +18,8 @@ use Rattle.walk.specs.Page.{lineOf}
 use Rattle.walk.specs.Skip.{flatOf, pastOf}
 use Rattle.walk.specs.Step.{zAt, tileIn, stepOf}
 use Rattle.walk.specs.Lent.{lineAt, walkedOf, walkAt}
-use Rattle.segment.specs.Clips.{cornerOf, farOf, atRowOf, atColOf, clipOf, makeOf, edgeOf, offOf, turnOf, heldOf, firstOf, lastOf, segmentOf, pieceOf}
+use Rattle.segment.specs.Clips.{cornerOf, farOf, atRowOf, atColOf, clipOf, makeOf, edgeOf, offOf, turnOf, firstOf, lastOf, segmentOf, pieceOf}
+use Rattle.panel.specs.Segments.{heldOf}
 use Rattle.path_tiling.specs.Look.{lent, foundOf, pieceTo, wordTo, stepTo, foundTo, lookOf}
 use Rattle.path_tiling.specs.Tiling.{Tiled, tiled, rangeOf, wholeOf, checksOf, callOf, tiledOf}
 
@@ -37,7 +38,7 @@ zeros n = replicate n (ofBits binary32 0)
 -- the first n references, of one line over the box 0,0,2,2
 abbrev given : (n : ℕ) (px py qx qy : ℕ) (stored refs : List ℕ) (segs : List Float) → Tiled
 given n px py qx qy stored refs segs =
-    tiledOf 0 n (lent (0 ∷ []) (float px ∷ float py ∷ float qx ∷ float qy ∷ []) (0 ∷ 0 ∷ 2 ∷ 2 ∷ 0 ∷ []) stored refs) segs
+    tiledOf 0 n (lent (0 ∷ []) (float px ∷ float py ∷ float qx ∷ float qy ∷ []) (boxed 0 0 2 2 0) stored refs) segs
 
 -- (8,8)-(8,24): x is bits 0x40FFFFFE at all four ends, y 8 to 16 and 0 to 8, y_edge 1e9
 pub down : given 2 8 8 8 24 (4294967295 ∷ 0 ∷ 4294967294 ∷ 0 ∷ []) (0 ∷ 0 ∷ 0 ∷ 1 ∷ []) (zeros 10)

@@ -1,5 +1,5 @@
 -- What one reference comes to: docs/RULES.md, tiling's part of "When the panel says no". Definitions only.
-use Prim.Native.Nat.{ℕ, _+_, _*_, _/_, _%_, _≤_, _<_}
+use Prim.Native.Nat.{ℕ, _+_, _≤_, _<_}
 use mathlib.Core.Bool.{Bool, cond}
 use mathlib.Core.List.{List}
 use lib.Dec.{leb, ltb}
@@ -7,7 +7,7 @@ use lib.ListN.{length, getD}
 use lib.Ieee.{Float}
 use Rattle.panel.specs.Limits.{edgeMost}
 use Rattle.panel.specs.Refusals.{noSuch, noRoom, outside, crooked}
-use Rattle.panel.specs.Widths.{refWords, stepRange}
+pub use Rattle.panel.specs.Refs.{lineAt, packedAt, stepNo, sliceNo}
 use Rattle.panel.specs.Kinds.{slotNoOf}
 use Rattle.panel.specs.Paths.{endOf}
 use Rattle.panel.specs.Slots.{skips, slotOf}
@@ -35,19 +35,6 @@ pub record Lent : Type 0 where
 
 abbrev pub lent : List ℕ → List Float → List ℕ → List ℕ → List ℕ → Lent
 lent ns cs ps xs rs = record { pathNos = ns; coords = cs; paths = ps; stored = xs; refs = rs }
-
--- reference k: its line, and its second word, slice number times `stepRange` plus step number
-abbrev pub lineAt : List ℕ → ℕ → ℕ
-lineAt refs k = getD refs (k * refWords) 0
-
-abbrev pub packedAt : List ℕ → ℕ → ℕ
-packedAt refs k = getD refs (k * refWords + 1) 0
-
-abbrev pub stepNo : ℕ → ℕ
-stepNo packed = packed % stepRange
-
-abbrev pub sliceNo : ℕ → ℕ
-sliceNo packed = packed / stepRange
 
 -- line l, as the walk finds it; no such line is refused
 unfoldable pub foundOf : List ℕ → List Float → List ℕ → ℕ → Walked.Walked

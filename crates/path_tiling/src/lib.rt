@@ -16,6 +16,8 @@ use panel::kinds::Answer;
 use panel::kinds::LineNo;
 use panel::kinds::Verdict;
 use panel::limits::MOST_SLOTS;
+use panel::refs::named_at;
+use panel::refs::packed_at;
 use panel::refusals::NOT_WHOLE;
 use panel::segments::put;
 use panel::widths::LINE_FLOATS;
@@ -74,13 +76,12 @@ fn tile_run(
 {
     let mut k = from;
     while k < to {
-        let at = (k as usize) * REF_WORDS;
-        let named = refs[at];
+        let named = named_at(refs, k);
         if named != line.0 {
             let answer = Answer::Done;
             return Ran { answer, next: k };
         }
-        let packed = refs[at + 1];
+        let packed = packed_at(refs, k);
         let v = tile_one(found, packed, stored, slots, segments);
         if let Verdict::Against(why) = v {
             let answer = Answer::Refused(why, k);
@@ -109,8 +110,7 @@ fn tile_range(
     let slots = slots_of(segments.len());
     let mut k = from;
     while k < to {
-        let at = (k as usize) * REF_WORDS;
-        let named = refs[at];
+        let named = named_at(refs, k);
         let line = LineNo(named);
         let found = look::found_at(path_nos, coords, paths, line);
         let ran = tile_run(found, line, k, to, stored, refs, slots, segments);

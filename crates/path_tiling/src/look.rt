@@ -13,21 +13,21 @@ ghost use Rattle.path_tiling.specs.Look.{StepFits, FoundFits, pieceTo, w
 use panel::kinds::LineNo;
 use panel::kinds::Path;
 use panel::kinds::SlotNo;
+use panel::refs::slice_of;
+use panel::refs::step_of;
 use panel::refusals::CROOKED;
 use panel::refusals::NO_ROOM;
 use panel::refusals::NO_SUCH;
 use panel::refusals::OUTSIDE;
 use panel::segments::Segment;
-use panel::widths::STEP_RANGE;
+use panel::slots::flipped;
+use panel::slots::skips;
 use segment::Piece;
 use walk::edges::edges_of;
 use walk::edges::step_by;
 use walk::kinds::Walk;
 use walk::kinds::Walked;
 use walk::step::Step;
-
-// A tile's word below this was handed no slot: its NOT is negative as an i32.
-const HANDED_FROM: u32 = 0x8000_0000;
 
 // A segment and its slot; nothing, where the tile is empty; or a refusal.
 pub enum Look {
@@ -51,10 +51,10 @@ fn look_word(w: Walk, i: u32, z: f32, x: u32, y: u32, word: u32, slice: u32, slo
     requires { ⌜ (i < stepRange) × (x ≤ edgeMost) × (y ≤ edgeMost) × (slice < 2 ^ 31) ⌝ }
     ensures { λ r. ⌜ r ≡ wordTo slots word slice (pieceOf w i z x y) ⌝ }
 {
-    if word < HANDED_FROM {
+    if skips(word) {
         return Look::Empty;
     }
-    let slot = !word + slice;
+    let slot = flipped(word) + slice;
     if slot >= slots {
         return Look::Against(NO_ROOM);
     }
@@ -89,14 +89,7 @@ pub fn look_at(found: Walked, packed: u32, stored: &[u32], slots: u32) -> Look
     match found {
         Walked::Refused(why) => Look::Against(why),
         Walked::Skipped => Look::Against(NO_SUCH),
-        Walked::Line(w, p) => look_line(
-            w,
-            p,
-            packed % STEP_RANGE,
-            packed / STEP_RANGE,
-            stored,
-            slots,
-        ),
+        Walked::Line(w, p) => look_line(w, p, step_of(packed), slice_of(packed), stored, slots),
     }
 }
 

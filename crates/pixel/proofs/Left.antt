@@ -1,11 +1,9 @@
 -- What is left of a tile's commands, at one pixel. Assumes nothing.
 use mathlib.Core.Path.{_≡_, refl, ap}
 use mathlib.Core.List.{List}
-use Prim.Native.Nat.{ℕ, _/_}
-use lib.ListN.{length}
+use Prim.Native.Nat.{ℕ}
 use lib.Ieee.{Float}
 use Rattle.panel.specs.Limits.{mostCommands}
-use Rattle.panel.specs.Widths.{segmentFloats}
 use Rattle.colours.specs.Colour.{overOf, packOf}
 use Rattle.commands.specs.Numbers.{startOf}
 use Rattle.commands.specs.Moves.{Trace, does, traceOf, endOf}
@@ -35,6 +33,6 @@ module _ (segs : List Float) (k : ℕ) where
   unfolding left pointOf
   left-does a t p = ap (λ (x : Point). unlessNo (endOf t) (answered (packOf (pointOf segs k t x .colour)))) (held-point a segs k p)
 
-  pub left-starts : (ws : List ℕ) (t : ℕ) → left segs k (traceOf mostCommands ws (length segs / segmentFloats) (startOf t)) nothingHeld ≡ underList ws segs t k
+  pub left-starts : (ws : List ℕ) (t : ℕ) → left segs k (traceOf mostCommands ws segs (startOf t)) nothingHeld ≡ underList ws segs t k
   unfolding left underList colourAt tileTrace
   left-starts ws t = refl

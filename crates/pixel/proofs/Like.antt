@@ -45,9 +45,9 @@ pub like-fill : (segs : List Float) (first n : ℕ) (eo : Bool) (z : ℤ) (xt yt
     → coverageAtOf segs first n eo z xt yt column row ≡ filledAt (fillOf segs first n eo z xt yt area) (placeAt column row)
 unfolding coverageAtOf fillOf
 like-fill segs first n eo z xt yt area column row e h k =
-    ap (λ (v : Verdict). unlessNo v (unlessNo (firstNo (fillChecks (length segs) tileSize first n)) (answered (pixelOf segs first n eo z xt yt (placeAt column row))))) (placed column row h k)
-    ∙ ap (λ (m : ℕ). unlessNo (firstNo (fillChecks (length segs) m first n)) (answered (pixelOf segs first n eo z xt yt (placeAt column row)))) (sym e)
-    ∙ go (firstNo (fillChecks (length segs) (length area) first n))
+    ap (λ (v : Verdict). unlessNo v (unlessNo (firstNo (fillChecks segs tileSize first n)) (answered (pixelOf segs first n eo z xt yt (placeAt column row))))) (placed column row h k)
+    ∙ ap (λ (m : ℕ). unlessNo (firstNo (fillChecks segs m first n)) (answered (pixelOf segs first n eo z xt yt (placeAt column row)))) (sym e)
+    ∙ go (firstNo (fillChecks segs (length area) first n))
   where
     go : (v : Verdict) → unlessNo v (answered (pixelOf segs first n eo z xt yt (placeAt column row)))
         ≡ byAnswer (paperOf (unless v 0 Done)) (getD (orOld v (coverageOf segs first n eo z xt yt) area) (placeAt column row) nan)

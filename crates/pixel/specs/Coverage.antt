@@ -5,7 +5,6 @@ use mathlib.Core.Bool.{Bool}
 use mathlib.Core.List.{List}
 use Prim.Native.Nat.{ℕ}
 use lib.IntN.{ℤ}
-use lib.ListN.{length}
 use lib.Ieee.{Float}
 use Rattle.panel.specs.Checks.{firstNo}
 use Rattle.coverage.specs.Tile.{tileSize}
@@ -18,7 +17,7 @@ use Rattle.pixel.specs.declared.kinds.Covered.{Covered}
 unfoldable pub coverageAtOf : List Float → ℕ → ℕ → Bool → ℤ → Float → Float → ℕ → ℕ → Paper Float
 coverageAtOf segments first n even-odd backdrop x-tile y-tile column row =
     unlessNo (firstNo (placeChecks column row))
-    (unlessNo (firstNo (fillChecks (length segments) tileSize first n))
+    (unlessNo (firstNo (fillChecks segments tileSize first n))
     (answered (pixelOf segments first n even-odd backdrop x-tile y-tile (placeAt column row))))
 
 -- the call's promise: the answer r is this

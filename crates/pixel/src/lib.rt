@@ -55,7 +55,7 @@ pub fn coverage_at(
     if let Verdict::Against(no) = p {
         return Covered::Refused(no);
     }
-    let v = check_fill(segments.len(), TILE_SIZE, first, number);
+    let v = check_fill(segments, TILE_SIZE, first, number);
     if let Verdict::Against(no) = v {
         return Covered::Refused(no);
     }

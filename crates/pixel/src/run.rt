@@ -16,7 +16,6 @@ use commands::steps::op_of;
 use panel::limits::MOST_COMMANDS;
 use panel::refusals::PAST_END;
 use panel::refusals::TOO_LONG;
-use panel::widths::SEGMENT_FLOATS;
 use reader::Look;
 use reader::peek_from;
 ghost use mathlib.Core.Path.{_≡_};
@@ -85,7 +84,6 @@ pub fn colour_of(words: &[u32], segments: &[f32], t: u32, column: usize, row: us
     requires { ⌜ (column < tileWidth) × (row < tileHeight) ⌝ }
     ensures { λ r. ⌜ colourPaper r ≡ underList (now (words .entry)) (now (segments .entry)) t (placeAt column row) ⌝ }
 {
-    let room = segments.len() / SEGMENT_FLOATS;
     let mut p = nothing();
     let mut at = TILE_WORDS * (t as usize) + LIST_START;
     let mut count = 0u32;
@@ -99,7 +97,7 @@ pub fn colour_of(words: &[u32], segments: &[f32], t: u32, column: usize, row: us
         if count == MOST_COMMANDS {
             return Coloured::Refused(TOO_LONG);
         }
-        match move_at(words, room, at, op_of(tag)) {
+        match move_at(words, segments, at, op_of(tag)) {
             Move::Refused(no) => {
                 return Coloured::Refused(no);
             }

@@ -1,10 +1,9 @@
 -- The two ends of a step's piece of its line, clipped to its tile, by parts: path_tiling.rs from `tile_xy` to the asserts. specs/Page.antt has them
 -- on one page, in the file's order. Definitions only.
 use Prim.Native.Nat.{ℕ, _-_}
-use mathlib.Core.Path.{_≡_}
-use mathlib.Core.Bool.{Bool, true, cond, _&&_}
+use mathlib.Core.Bool.{Bool, cond, _&&_}
 use lib.Dec.{ltb}
-use lib.Ieee.{Float, binary32, add, sub, mul, div, le, eq, ne}
+use lib.Ieee.{Float, binary32, add, sub, mul, div, eq, ne}
 use Rattle.float32.specs.Meaning.{floorOf, clampOf}
 use Rattle.util.specs.Constants.{zero, one, two, tileSide, nudge, epsilon, noEdge}
 use Rattle.util.specs.Vec.{newOf, addOf, subOf}
@@ -12,6 +11,7 @@ use Rattle.util.specs.declared.Vec2.{Vec2}
 use Rattle.walk.specs.Num.{float}
 use Rattle.walk.specs.Step.{zAt}
 use Rattle.walk.specs.declared.kinds.Walk.{Walk}
+use Rattle.panel.specs.Segments.{heldOf}
 use Rattle.panel.specs.declared.segments.Segment.{Segment}
 use Rattle.segment.specs.declared.Piece.{Piece}
 use Rattle.segment.specs.declared.Piece.the-variants.{Kept, Crooked}
@@ -70,10 +70,6 @@ turnOf is-down s =
       «y_edge» = s .«y_edge»;
     }
 
--- Within 0..16, which NaN is not.
-unfoldable pub heldOf : Vec2 → Bool
-heldOf p = (le zero (p .x) && le (p .x) tileSide) && (le zero (p .y) && le (p .y) tileSide)
-
 -- The first end: as it is at step 0, and else where the walk comes into the tile: from above if the step before is in the same column, and else
 -- from the side. z is that of step i.
 unfoldable pub firstOf : Walk → ℕ → Float → Vec2 → Vec2
@@ -108,10 +104,3 @@ unfoldable pub pieceOf : Walk → ℕ → Float → ℕ → ℕ → Piece
 pieceOf w i z x y =
     let s = segmentOf w i z x y in
     cond (heldOf (s .p0) && heldOf (s .p1)) (Kept s) Crooked
-
--- what is meant by an end in its tile: no NaN, and each of its values in 0..16
-pub record InTile (p : Vec2) : Type 0 where
-  pub left : le zero (p .x) ≡ true
-  pub right : le (p .x) tileSide ≡ true
-  pub top : le zero (p .y) ≡ true
-  pub bottom : le (p .y) tileSide ≡ true

@@ -5,8 +5,9 @@ ghost use mathlib.Core.Path.{_≡_};
 ghost use Prim.Native.Nat.{_≤_, _<_};
 ghost use Rattle.panel.specs.Limits.{edgeMost};
 ghost use Rattle.panel.specs.Widths.{stepRange};
-ghost use Rattle.segment.specs.Clips.{cornerOf, farOf, atRowOf, atColOf, clipOf, makeOf, edgeOf, offOf, turnOf, heldOf, firstOf, lastOf, segmentOf, pieceOf};
+ghost use Rattle.segment.specs.Clips.{cornerOf, farOf, atRowOf, atColOf, clipOf, makeOf, edgeOf, offOf, turnOf, firstOf, lastOf, segmentOf, pieceOf};
 use panel::segments::Segment;
+use panel::segments::held;
 use util::Vec2;
 use util::pick;
 use walk::kinds::Walk;
@@ -119,13 +120,6 @@ pub fn turn(is_down: bool, s: Segment) -> Segment
         pick(is_down, r1.y, r0.y),
         s.y_edge,
     )
-}
-
-// Within 0..16, which NaN isn't.
-pub fn held(p: Vec2) -> bool
-    ensures { λ r. ⌜ r ≡ heldOf p ⌝ }
-{
-    ((p.x >= 0.0) & (p.x <= util::TILE_SIDE)) & ((p.y >= 0.0) & (p.y <= util::TILE_SIDE))
 }
 
 // The first end: the line's own at step 0, and else where the walk comes into the tile at t. z is

@@ -10,12 +10,13 @@ use lib.ListN.{length, replicate, set, length-set}
 use lib.Seq.{sets}
 use lib.Ieee.{Float}
 use borrow.Author.Tests.{le-leb, lt-leb, leb-true, leb-false, eqb-true}
-use Rattle.panel.specs.Refusals.{doneNo, notWhole, noRoom}
+use Rattle.panel.specs.Refusals.{doneNo, notWhole, noRoom, badText, tooDeep}
 use Rattle.panel.specs.Widths.{lineFloats}
 use Rattle.svg_path.specs.declared.State.the-variants.{Start}
 use Rattle.svg_path.specs.declared.Verdict.{Verdict}
 use Rattle.svg_path.specs.declared.Verdict.the-variants.{Fine, Refused as Against}
 use Rattle.svg_path.specs.Machine.{verdictOf}
+use Rattle.svg_path.proofs.Sound.{and-both}
 use Rattle.svg_outline.specs.Outline.{depthMost}
 use Rattle.svg_outline.specs.Strokes.{textLines}
 use Rattle.svg_outline.specs.Counts.{textCount, sumOf}
@@ -24,18 +25,13 @@ use Rattle.svg_outline.specs.declared.count.Sum.the-variants.{Lines, Over}
 use Rattle.svg_outline.proofs.Texts.{text-count}
 use Rattle.svg.specs.declared.Answer.{Answer}
 use Rattle.svg.specs.declared.Answer.the-variants.{Done, Refused}
-use Rattle.svg.specs.Lines.{badText, tooDeep, paperOf, Left, refused, pairedOf, wrote, drawnOf, onVerdict, linesOf}
+use Rattle.svg.specs.Lines.{paperOf, Left, refused, pairedOf, wrote, drawnOf, onVerdict, linesOf}
 
 -- ---- four coordinates to each path number
 pub paired-is : (n f : ℕ) (b : Bool) → b ≡ pairedOf n f → b ≡ true → f ≡ lineFloats * n
 unfolding pairedOf
-paired-is n f b e t = go (both (eqb (f % lineFloats) 0) (eqb (f / lineFloats) n) (sym e ∙ t))
+paired-is n f b e t = go (and-both (eqb (f % lineFloats) 0) (eqb (f / lineFloats) n) (sym e ∙ t))
   where
-    both : (x y : Bool) → (x && y) ≡ true → (x ≡ true) × (y ≡ true)
-    both true true h = (refl, refl)
-    both true false h = absurd (false≢true h)
-    both false y h = absurd (false≢true h)
-
     go : (eqb (f % lineFloats) 0 ≡ true) × (eqb (f / lineFloats) n ≡ true) → f ≡ lineFloats * n
     go p = let a : f % lineFloats ≡ 0 = eqb-true (f % lineFloats) 0 (p .0) in let c : f / lineFloats ≡ n = eqb-true (f / lineFloats) n (p .1) in omega arith
 

@@ -105,7 +105,42 @@ Pair c =
 pair-is : (c : ℕ) → isPair c ≡ true → Pair c
 unfolding isPair Pair isMove isAxis isQuad isClose sizeOf laterOf kindOf relativeOf linesFrom turnLines turnHand actOf gaitOf heldOf tokOf
 pair-is c h =
-    either Pair c 108 (eqb c 77 || eqb c 109 || eqb c 76) h (record { open-ended = refl; size = refl; kind = refl; relative = refl }, refl, λ d b h m n m′ n′ ts. record { drawn = true; hand = _; lines = refl; pen = refl }) (λ h2. either Pair c 76 (eqb c 77 || eqb c 109) h2 (record { open-ended = refl; size = refl; kind = refl; relative = refl }, refl, λ d b h m n m′ n′ ts. record { drawn = true; hand = _; lines = refl; pen = refl }) (λ h1. either Pair c 109 (eqb c 77) h1 (record { open-ended = refl; size = refl; kind = refl; relative = refl }, refl, λ d b h m n m′ n′ ts. record { drawn = false; hand = _; lines = refl; pen = refl }) (λ e. only Pair c 77 e (record { open-ended = refl; size = refl; kind = refl; relative = refl }, refl, λ d b h m n m′ n′ ts. record { drawn = false; hand = _; lines = refl; pen = refl }))))
+    either Pair c 108 (eqb c 77 || eqb c 109 || eqb c 76) h (
+      record { open-ended = refl; size = refl; kind = refl; relative = refl },
+      refl,
+      λ d b h m n m′ n′
+          ts. record { drawn = true; hand = _; lines = refl; pen = refl },
+    ) (λ h2. either Pair c 76 (eqb c 77 || eqb c 109) h2 (
+      record {
+        open-ended = refl;
+        size =
+            refl;
+        kind = refl;
+        relative = refl;
+      },
+      refl,
+      λ d b h m n m′ n′ ts. record { drawn = true; hand = _; lines = refl; pen = refl },
+    ) (λ h1. either Pair c 109 (eqb
+    c 77) h1 (
+      record { open-ended = refl; size = refl; kind = refl; relative = refl },
+      refl,
+      λ d b h m n m′ n′ ts. record {
+        drawn = false;
+        hand = _;
+        lines =
+            refl;
+        pen = refl;
+      },
+    ) (λ e. only Pair c 77 e (
+      record { open-ended = refl; size = refl; kind = refl; relative = refl },
+      refl,
+      λ d b h m n m′ n′ ts. record {
+        drawn = false;
+        hand = _;
+        lines = refl;
+        pen = refl;
+      },
+    ))))
 
 -- ---- H h V v
 one-long : (P : List Num → Type 0) (vs : List Num) → length vs ≡ 1 → ((m : Bool) (n : ℕ) → P (num m n ∷ [])) → P vs
@@ -124,7 +159,32 @@ Axis c =
 axis-is : (c : ℕ) → isAxis c ≡ true → Axis c
 unfolding isPair Axis isMove isAxis isQuad isClose sizeOf laterOf kindOf relativeOf linesFrom turnLines turnHand actOf gaitOf heldOf tokOf
 axis-is c h =
-    either Axis c 118 (eqb c 72 || eqb c 104 || eqb c 86) h (record { open-ended = refl; size = refl; kind = refl; relative = refl }, refl, λ d b h m n ts. record { drawn = true; hand = _; lines = refl; pen = refl }) (λ h2. either Axis c 86 (eqb c 72 || eqb c 104) h2 (record { open-ended = refl; size = refl; kind = refl; relative = refl }, refl, λ d b h m n ts. record { drawn = true; hand = _; lines = refl; pen = refl }) (λ h1. either Axis c 104 (eqb c 72) h1 (record { open-ended = refl; size = refl; kind = refl; relative = refl }, refl, λ d b h m n ts. record { drawn = true; hand = _; lines = refl; pen = refl }) (λ e. only Axis c 72 e (record { open-ended = refl; size = refl; kind = refl; relative = refl }, refl, λ d b h m n ts. record { drawn = true; hand = _; lines = refl; pen = refl }))))
+    either Axis c 118 (eqb c 72 || eqb c 104 || eqb c 86) h (
+      record { open-ended = refl; size = refl; kind = refl; relative = refl },
+      refl,
+      λ d b h m n ts.
+          record { drawn = true; hand = _; lines = refl; pen = refl },
+    ) (λ h2. either Axis c 86 (eqb c 72 || eqb c 104) h2 (
+      record {
+        open-ended = refl;
+        size = refl;
+        kind = refl;
+        relative = refl;
+      },
+      refl,
+      λ d b h m n ts. record { drawn = true; hand = _; lines = refl; pen = refl },
+    ) (λ h1. either Axis c 104 (eqb c 72) h1
+    (record { open-ended = refl; size = refl; kind = refl; relative = refl }, refl, λ d b h m n ts. record { drawn = true; hand = _; lines = refl; pen = refl })
+    (λ e. only Axis c 72 e (
+      record { open-ended = refl; size = refl; kind = refl; relative = refl },
+      refl,
+      λ d b h m n ts. record {
+        drawn = true;
+        hand = _;
+        lines = refl;
+        pen = refl;
+      },
+    ))))
 
 -- ---- Q q
 four-long : (P : List Num → Type 0) (vs : List Num) → length vs ≡ 4
@@ -148,7 +208,21 @@ Quad c =
 quad-is : (c : ℕ) → isQuad c ≡ true → Quad c
 unfolding isPair Quad isMove isAxis isQuad isClose sizeOf laterOf kindOf relativeOf linesFrom turnLines turnHand actOf gaitOf heldOf tokOf
 quad-is c h =
-    either Quad c 113 (eqb c 81) h (record { open-ended = refl; size = refl; kind = refl; relative = refl }, refl, λ d b h m n m′ n′ o p o′ p′ ts. record { drawn = true; hand = _; lines = refl; pen = refl }) (λ e. only Quad c 81 e (record { open-ended = refl; size = refl; kind = refl; relative = refl }, refl, λ d b h m n m′ n′ o p o′ p′ ts. record { drawn = true; hand = _; lines = refl; pen = refl }))
+    either Quad c 113 (eqb c 81) h (
+      record { open-ended = refl; size = refl; kind = refl; relative = refl },
+      refl,
+      λ d b h m n m′ n′ o p o′ p′ ts. record {
+        drawn = true;
+        hand = _;
+        lines = refl;
+        pen = refl;
+      },
+    ) (λ e. only Quad c 81 e (
+      record { open-ended = refl; size = refl; kind = refl; relative = refl },
+      refl,
+      λ
+          d b h m n m′ n′ o p o′ p′ ts. record { drawn = true; hand = _; lines = refl; pen = refl },
+    ))
 
 -- ---- Z z
 Shut : ℕ → Type 0
@@ -187,9 +261,11 @@ command-goes : (d : ℕ) (g : Gait) (h : Hand) {c : ℕ} {gs : List (List Num)} 
 unfolding toksOf flat Pair Axis Quad Shut
 command-goes d g h ts (closes {c = c} e) = shut-is c e d g h ts
 command-goes d g h ts (pairs {c = c} {gs = gs} e s) =
-    letter-goes 2 isPair (λ c e. pair-is c e .0) (λ c e. pair-is c e .1) d (λ c e b h vs ts l. two-long (λ (vs : List Num). One d c 2 b h vs ts) vs l (λ m n m′ n′. pair-is c e .2 d b h m n m′ n′ ts)) c e g h gs ts s
+    letter-goes 2 isPair (λ c e. pair-is c e .0) (λ c e. pair-is c e .1) d (λ c e b h vs ts l. two-long (λ (vs : List Num). One d c 2 b h vs ts) vs l (λ m n m′
+    n′. pair-is c e .2 d b h m n m′ n′ ts)) c e g h gs ts s
 command-goes d g h ts (axes {c = c} {gs = gs} e s) =
-    letter-goes 1 isAxis (λ c e. axis-is c e .0) (λ c e. axis-is c e .1) d (λ c e b h vs ts l. one-long (λ (vs : List Num). One d c 1 b h vs ts) vs l (λ m n. axis-is c e .2 d b h m n ts)) c e g h gs ts s
+    letter-goes 1 isAxis (λ c e. axis-is c e .0) (λ c e. axis-is c e .1) d (λ c e b h vs ts l. one-long (λ (vs : List Num). One d c 1 b h vs ts) vs l (λ m n.
+    axis-is c e .2 d b h m n ts)) c e g h gs ts s
 command-goes d g h ts (quads {c = c} {gs = gs} e s) =
     letter-goes 4 isQuad (λ c e. quad-is c e .0) (λ c e. quad-is c e .1) d
     (λ c e b h vs ts l. four-long (λ (vs : List Num). One d c 4 b h vs ts) vs l (λ m n m′ n′ o p o′ p′. quad-is c e .2 d b h m n m′ n′ o p o′ p′ ts)) c e g h gs ts s

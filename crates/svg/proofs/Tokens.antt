@@ -9,12 +9,13 @@ use lib.Dec.{eqb, leb}
 use lib.ListN.{length, drop, length-append}
 use lib.Seq.{drop-append-seam, drop-drop}
 use borrow.Author.Tests.{eqb-true, le-leb, lt-leb, leb-true, ne-eqb}
-use Rattle.svg_path.specs.Chars.{isSpace, isDigit, isSign, isMove, isPair, isAxis, isQuad, isClose}
+use Rattle.svg_path.specs.Chars.{wholeMost, partMost, isSpace, isDigit, isSign, isMove, isPair, isAxis, isQuad, isClose}
 use Rattle.svg_path.specs.Grammar as G
 use Rattle.svg_path.specs.Grammar.{Num, num, Cmd, cmd, Space, Gap, Digits, noDigit, noMore, allDigits, valueOf, thousandths, Sign, Body, Number, Args, Groups, Command, Rest, PathData}
+use Rattle.svg_path.proofs.Sound.{and-both}
 use Rattle.svg_tokens.specs.declared.Run.{Run}
 use Rattle.svg_tokens.specs.declared.Number.{Number as Read}
-use Rattle.svg_tokens.specs.Run.{runOf, wholeMost, partMost}
+use Rattle.svg_tokens.specs.Run.{runOf}
 use Rattle.svg_tokens.specs.Tokens.{Tok, letter, value, beginsOf, signsOf, pointAt, headOf, partOf, numberOf, tokensOf}
 use Rattle.svg_tokens.proofs.Finds.{skipped, number-some, at-letter, at-value, at-none}
 
@@ -53,11 +54,6 @@ gap-tokens (G.Gap.plain g) = space-tokens g
 gap-tokens (G.Gap.comma {t = t} g h) = space-tokens g ∙ comma-off t ∙ space-tokens h
 
 -- ---- a run of digits
-both : (a b : Bool) → (a && b) ≡ true → (a ≡ true) × (b ≡ true)
-both true true h = (refl, refl)
-both true false h = absurd (false≢true h)
-both false b h = absurd (false≢true h)
-
 not-true : (b : Bool) → not b ≡ true → b ≡ false
 not-true true h = absurd (false≢true h)
 not-true false h = refl
@@ -76,7 +72,7 @@ run-is zero n k (d ∷ ds) r a h e = absurd (none (length ds) h)
     none : (n : ℕ) → suc n ≤ 0 → ⊥
     none n h = omega arith
 run-is (suc l) n k (d ∷ ds) r a h e =
-    let p = both (isDigit d) (allDigits ds) a in
+    let p = and-both (isDigit d) (allDigits ds) a in
     rw (p .0) (run-is l (n * 10 + (d - 48)) (suc k) ds r (p .1) (down (length ds) l h) e ∙ ap (λ (j : ℕ). record { n = valueOf (n * 10 + (d - 48)) ds; taken = j }) (shift k (length ds)))
   where
     down : (n l : ℕ) → suc n ≤ suc l → n ≤ l
@@ -107,7 +103,7 @@ value-of c s (x ∷ xs) r m n e l b v =
 no-point : (r : List ℕ) → noMore r ≡ true → (noDigit r ≡ true) × (pointAt r ≡ false)
 unfolding noMore noDigit pointAt
 no-point [] h = (refl, refl)
-no-point (c ∷ r) h = let p = both (not (isDigit c)) (not (eqb c 46)) h in (p .0, not-true (eqb c 46) (p .1))
+no-point (c ∷ r) h = let p = and-both (not (isDigit c)) (not (eqb c 46)) h in (p .0, not-true (eqb c 46) (p .1))
 
 -- what the digits of a body make, and the bytes that it takes
 pub record Ends (t ds fs r : List ℕ) : Type 0 where
@@ -169,7 +165,7 @@ Begun t = (c : ℕ) × (u : List ℕ) × (t ≡ c ∷ u) × (leb 65 c ≡ false)
 digit-begins : (c : ℕ) → isDigit c ≡ true → (leb 65 c ≡ false) × (beginsOf c ≡ true) × (signsOf c ≡ 0) × (eqb c 45 ≡ false)
 unfolding isDigit beginsOf signsOf isSign
 digit-begins c h =
-    let p = both (leb 48 c) (leb c 57) h in
+    let p = and-both (leb 48 c) (leb c 57) h in
     let lo : 48 ≤ c = leb-true 48 c (p .0) in
     let hi : c ≤ 57 = leb-true c 57 (p .1) in
     let a : eqb c 43 ≡ false = ne-eqb c 43 (λ (e : c ≡ 43). apart c 43 lo e (omega arith)) in
@@ -189,12 +185,12 @@ digits-begun [] r a h = absurd (none h)
   where
     none : 1 ≤ 0 → ⊥
     none h = omega arith
-digits-begun (d ∷ ds) r a h = let q = digit-begins d (both (isDigit d) (allDigits ds) a .0) in (d, ds ++ r, refl, q .0, q .1, q .2, q .3)
+digits-begun (d ∷ ds) r a h = let q = digit-begins d (and-both (isDigit d) (allDigits ds) a .0) in (d, ds ++ r, refl, q .0, q .1, q .2, q .3)
 
 point-begun : (ds u : List ℕ) → allDigits ds ≡ true → Begun (ds ++ 46 ∷ u)
 unfolding Begun beginsOf signsOf isSign isDigit allDigits
 point-begun [] u a = (46, u, refl, refl, refl, refl, refl)
-point-begun (d ∷ ds) u a = let q = digit-begins d (both (isDigit d) (allDigits ds) a .0) in (d, ds ++ 46 ∷ u, refl, q .0, q .1, q .2, q .3)
+point-begun (d ∷ ds) u a = let q = digit-begins d (and-both (isDigit d) (allDigits ds) a .0) in (d, ds ++ 46 ∷ u, refl, q .0, q .1, q .2, q .3)
 
 body-begun : {t ds fs r : List ℕ} → Body t ds fs r → Begun t
 body-begun {r = r} (G.Body.whole {ds = ds} g some e) = subst Begun (sym (g .text)) (digits-begun ds r (g .are) some)

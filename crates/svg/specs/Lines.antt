@@ -7,7 +7,7 @@ use lib.Dec.{eqb, leb}
 use lib.ListN.{length, replicate}
 use lib.Seq.{sets}
 use lib.Ieee.{Float}
-use Rattle.panel.specs.Refusals.{doneNo, notWhole, noRoom}
+use Rattle.panel.specs.Refusals.{doneNo, notWhole, noRoom, badText, tooDeep}
 use Rattle.panel.specs.Widths.{lineFloats}
 use Rattle.svg_path.specs.declared.State.the-variants.{Start}
 use Rattle.svg_path.specs.declared.Verdict.{Verdict}
@@ -19,21 +19,10 @@ use Rattle.svg_outline.specs.Counts.{textCount}
 use Rattle.svg.specs.declared.Answer.{Answer}
 use Rattle.svg.specs.declared.Answer.the-variants.{Done, Refused}
 
--- a text that is no path data
-abbrev pub badText : ℕ
-badText = 21
-
--- a curve halved too often
-abbrev pub tooDeep : ℕ
-tooDeep = 22
-
-abbrev pub svgNumbers : List ℕ
-svgNumbers = badText ∷ tooDeep ∷ []
-
--- an answer's number, and after it how many lines were written, or the text's place
+-- an answer's number, and after it how many lines were written; a refusal wrote none, and has the text's place last
 abbrev pub paperOf : Answer → List ℕ
 paperOf (Done n) = doneNo ∷ n ∷ []
-paperOf (Refused n at) = n ∷ at ∷ []
+paperOf (Refused n at) = n ∷ 0 ∷ at ∷ []
 
 -- an answer on paper, and what was lent
 pub record Left : Type 0 where
@@ -42,7 +31,7 @@ pub record Left : Type 0 where
   pub coords : List Float
 
 abbrev pub refused : ℕ → ℕ → List ℕ → List Float → Left
-refused n at ps cs = record { answer = n ∷ at ∷ []; paths = ps; coords = cs }
+refused n at ps cs = record { answer = n ∷ 0 ∷ at ∷ []; paths = ps; coords = cs }
 
 -- four coordinates to each path number
 unfoldable pub pairedOf : ℕ → ℕ → Bool

@@ -1,8 +1,10 @@
 // Lines from the path data of SVG, written where counting reads them. docs/RULES.md, "Outlines from SVG".
 // Which texts are path data is svg_path's specs/Grammar.antt, which lines they draw svg_outline's
 // specs/Outline.antt, and what a call answers specs/Lines.antt.
+use panel::refusals::BAD_TEXT;
 use panel::refusals::NO_ROOM;
 use panel::refusals::NOT_WHOLE;
+use panel::refusals::TOO_DEEP;
 use panel::widths::LINE_FLOATS;
 use svg_outline::count::Sum;
 use svg_outline::count::count;
@@ -16,26 +18,13 @@ ghost use lib.ListN.{length, replicate};
 ghost use lib.Seq.{sets};
 ghost use Rattle.panel.specs.Widths.{lineFloats};
 ghost use Rattle.svg_outline.specs.Outline.{depthMost};
-ghost use Rattle.svg.specs.Lines.{paperOf, drawnOf, LinesMet, pairedOf, svgNumbers};
-
-// 21: a text that is no path data
-pub const BAD_TEXT: u32 = 21;
-
-// 22: a curve halved too often
-pub const TOO_DEEP: u32 = 22;
+ghost use Rattle.svg.specs.Lines.{paperOf, drawnOf, LinesMet, pairedOf};
 
 // What a call answers: the number of lines; or the number of the refusal, and the text's place where it
 // is the text's fault.
 pub enum Answer {
     Done(usize),
     Refused(u32, usize),
-}
-
-// The two numbers, for the contracts.
-pub fn numbers() -> [u32; 2]
-    ensures { λ r. ⌜ r ≡ svgNumbers ⌝ }
-{
-    [BAD_TEXT, TOO_DEEP]
 }
 
 // Whether there are four coordinates to each path number.

@@ -1,3 +1,4 @@
 pub mod Pieces
 pub mod Draws
 pub mod Texts
+pub mod Examples

@@ -9,10 +9,10 @@ use lib.Dec.{eqb, leb}
 use lib.ListN.{length, drop, getD, drop-of-length-le, length-drop}
 use lib.Seq.{drop-cons, drop-drop, drop-nil}
 use borrow.Author.Tests.{le-leb, lt-leb}
-use Rattle.svg_path.specs.Chars.{isDigit, isSign}
+use Rattle.svg_path.specs.Chars.{wholeMost, partMost, isDigit, isSign}
 use Rattle.svg_tokens.specs.declared.Run.{Run}
 use Rattle.svg_tokens.specs.declared.Number.{Number}
-use Rattle.svg_tokens.specs.Run.{runOf, wholeMost, partMost}
+use Rattle.svg_tokens.specs.Run.{runOf}
 use Rattle.svg_tokens.specs.Tokens.{Tok, letter, value, beginsOf, signsOf, pointAt, headOf, partOf, numberOf, tokensOf}
 use Rattle.svg_tokens.proofs.Turn.{run-few, run-within, run-more}
 
@@ -28,7 +28,12 @@ part-more : (m : Bool) (n k : ℕ) (s : List ℕ) → k ≤ partOf m n k s .take
 unfolding partOf
 part-more m n k s = go (pointAt s)
   where
-    go : (b : Bool) → k ≤ cond {A = Number} b (record { minus = m; n = n * 1000 + runOf partMost 0 0 (drop 1 s) .n * 10 ^ (partMost - runOf partMost 0 0 (drop 1 s) .taken); taken = k + 1 + runOf partMost 0 0 (drop 1 s) .taken }) (record { minus = m; n = n * 1000; taken = k }) .taken
+    go : (b : Bool) → k ≤ cond {A = Number} b (record {
+      minus = m;
+      n = n * 1000 + runOf partMost 0 0 (drop 1 s) .n * 10 ^ (partMost - runOf partMost 0 0 (drop 1
+          s) .taken);
+      taken = k + 1 + runOf partMost 0 0 (drop 1 s) .taken;
+    }) (record { minus = m; n = n * 1000; taken = k }) .taken
     go true = omega arith
     go false = omega arith
 
@@ -38,7 +43,12 @@ part-within m n k [] = omega arith
 part-within m n k (c ∷ s) = go (eqb c 46) (run-within partMost 0 0 s)
   where
     go : (b : Bool) → runOf partMost 0 0 s .taken ≤ 0 + length s
-        → cond {A = Number} b (record { minus = m; n = n * 1000 + runOf partMost 0 0 s .n * 10 ^ (partMost - runOf partMost 0 0 s .taken); taken = k + 1 + runOf partMost 0 0 s .taken }) (record { minus = m; n = n * 1000; taken = k }) .taken ≤ k + suc (length s)
+        → cond {A = Number} b (record {
+          minus = m;
+          n = n * 1000 + runOf partMost 0 0 s .n * 10 ^ (partMost - runOf partMost 0 0 s .taken);
+          taken = k + 1 + runOf
+              partMost 0 0 s .taken;
+        }) (record { minus = m; n = n * 1000; taken = k }) .taken ≤ k + suc (length s)
     go true h = omega arith
     go false h = omega arith
 
@@ -101,7 +111,8 @@ number-some c s h = go (isSign c) (isDigit c) refl refl
     point a b d e f h = rw (e, f) at h
 
     go : (a b : Bool) → isSign c ≡ a → isDigit c ≡ b
-        → 1 ≤ partOf (eqb c 45) (runOf wholeMost 0 0 (drop (signsOf c) (c ∷ s)) .n) (signsOf c + runOf wholeMost 0 0 (drop (signsOf c) (c ∷ s)) .taken) (drop (signsOf c + runOf wholeMost 0 0 (drop (signsOf c) (c ∷ s)) .taken) (c ∷ s)) .taken
+        → 1 ≤ partOf (eqb c 45) (runOf wholeMost 0 0 (drop (signsOf c) (c ∷ s)) .n) (signsOf c + runOf wholeMost 0 0 (drop (signsOf c) (c ∷ s)) .taken) (drop
+        (signsOf c + runOf wholeMost 0 0 (drop (signsOf c) (c ∷ s)) .taken) (c ∷ s)) .taken
     go true b e f =
         rw (signed c e)
         (more 1 (runOf wholeMost 0 0 s .taken) _ (one _) (part-more (eqb c 45) (runOf wholeMost 0 0 s .n) (1 + runOf wholeMost 0 0 s .taken) (drop (1 + runOf wholeMost 0 0 s .taken) (c ∷ s))))
@@ -134,7 +145,8 @@ pub letter-found : (s : List ℕ) (i : ℕ) (ts : List Tok) → i < length s →
 letter-found s i ts h l e =
     ap (λ (k : ℕ). letter (getD s i 0) ∷ tokensOf 0 (drop k s)) (add-one i) ∙ sym (at-letter (getD s i 0) (drop (suc i) s) (le-leb 65 (getD s i 0) l)) ∙ sym (opened s i h) ∙ e
 
-pub none-found : (s : List ℕ) (i : ℕ) (b : Bool) (ts : List Tok) → i < length s → getD s i 0 < 65 → b ≡ beginsOf (getD s i 0) → b ≡ false → tokensOf 0 (drop i s) ≡ ts → tokensOf 0 (drop (i + 1) s) ≡ ts
+pub none-found : (s : List ℕ) (i : ℕ) (b : Bool) (ts : List Tok) → i < length s → getD s i 0 < 65 → b ≡ beginsOf (getD s i 0) → b ≡ false → tokensOf 0 (drop i
+    s) ≡ ts → tokensOf 0 (drop (i + 1) s) ≡ ts
 none-found s i b ts h l e f g =
     ap (λ (k : ℕ). tokensOf 0 (drop k s)) (add-one i) ∙ sym (at-none (getD s i 0) (drop (suc i) s) (lt-leb 65 (getD s i 0) l) (sym e ∙ f)) ∙ sym (opened s i h) ∙ g
 

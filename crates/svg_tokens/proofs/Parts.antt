@@ -8,10 +8,10 @@ use native.Mathlib.Omega.{arith}
 use lib.Dec.{eqb}
 use lib.ListN.{length, drop, getD, drop-of-length-le, length-drop}
 use lib.Seq.{drop-cons, drop-drop}
-use Rattle.svg_path.specs.Chars.{isSign}
+use Rattle.svg_path.specs.Chars.{wholeMost, partMost, isSign}
 use Rattle.svg_tokens.specs.declared.Run.{Run}
 use Rattle.svg_tokens.specs.declared.Number.{Number}
-use Rattle.svg_tokens.specs.Run.{runOf, wholeMost, partMost}
+use Rattle.svg_tokens.specs.Run.{runOf}
 use Rattle.svg_tokens.specs.Tokens.{signsOf, pointAt, headOf, partOf, numberOf}
 use Rattle.svg_tokens.proofs.Turn.{run-small, run-few, run-within, start}
 

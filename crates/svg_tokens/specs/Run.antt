@@ -5,13 +5,6 @@ use mathlib.Core.List.{List, [], _∷_}
 use Rattle.svg_path.specs.Chars.{isDigit}
 use Rattle.svg_tokens.specs.declared.Run.{Run}
 
--- a number's digits before its point, and after it, at the most
-abbrev pub wholeMost : ℕ
-wholeMost = 6
-
-abbrev pub partMost : ℕ
-partMost = 3
-
 unfoldable pub runOf : ℕ → ℕ → ℕ → List ℕ → Run
 runOf zero n k s = record { n = n; taken = k }
 runOf (suc l) n k [] = record { n = n; taken = k }

@@ -5,11 +5,11 @@ use mathlib.Core.Bool.{Bool, true, false, cond, _||_}
 use mathlib.Core.List.{List, [], _∷_}
 use lib.Dec.{eqb, leb}
 use lib.ListN.{drop}
-use Rattle.svg_path.specs.Chars.{isDigit, isSign}
+use Rattle.svg_path.specs.Chars.{wholeMost, partMost, isDigit, isSign}
 use Rattle.svg_tokens.specs.declared.Number.{Number}
 use Rattle.svg_tokens.specs.declared.Token.{Token}
 use Rattle.svg_tokens.specs.declared.Token.the-variants.{End, Letter, Value}
-use Rattle.svg_tokens.specs.Run.{runOf, wholeMost, partMost}
+use Rattle.svg_tokens.specs.Run.{runOf}
 
 -- a letter; or a number: whether it has a minus, and its size in thousandths
 pub data Tok : Type 0 where

@@ -1,11 +1,14 @@
 // The tokens of path data, one after another: letters, and numbers with their values. Which texts are
 // path data is svg_path's to say; this reads any text, and goes over what is no token.
+use svg_path::PART_MOST;
+use svg_path::WHOLE_MOST;
 use svg_path::digit;
 use svg_path::sign;
 ghost use mathlib.Core.Path.{_≡_};
 ghost use Prim.Native.Nat.{_+_, _-_, _*_, _^_, _≤_, _<_};
 ghost use lib.ListN.{length, drop};
-ghost use Rattle.svg_tokens.specs.Run.{runOf, wholeMost, partMost};
+ghost use Rattle.svg_path.specs.Chars.{wholeMost, partMost};
+ghost use Rattle.svg_tokens.specs.Run.{runOf};
 ghost use Rattle.svg_tokens.specs.Tokens.{beginsOf, signsOf, pointAt, partOf, numberOf, tokensOf, restOf, Within};
 
 const POINT: u8 = b'.';
@@ -14,11 +17,6 @@ const MINUS: u8 = b'-';
 
 // Bytes from here on are letters.
 const LETTERS: u8 = b'A';
-
-// A number's digits before its point, and after it, at the most.
-const WHOLE_MOST: u32 = 6;
-
-const PART_MOST: u32 = 3;
 
 // The number that digits make, and how many they are.
 pub struct Run {

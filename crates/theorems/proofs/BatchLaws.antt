@@ -41,7 +41,7 @@ length-marks : (ms : List (ℕ × ℤ)) (l : List ℤ) → length (Order.mark ms
 length-marks [] l = refl
 length-marks (m ∷ ms) l = length-marks ms (addAt (pos 0) _+ℤ_ m l) ∙ length-set l (m .0) (getD l (m .0) (pos 0) +ℤ m .1)
 
-length-all : (paths : List ℕ) (ds : List Drawn) (l : List ℤ) → length (actAll (λ d. Order.mark (marksOf paths d)) ds l) ≡ length l
+pub length-all : (paths : List ℕ) (ds : List Drawn) (l : List ℤ) → length (actAll (λ d. Order.mark (marksOf paths d)) ds l) ≡ length l
 length-all paths [] l = refl
 length-all paths (d ∷ ds) l = length-all paths ds (Order.mark (marksOf paths d) l) ∙ length-marks (marksOf paths d) l
 

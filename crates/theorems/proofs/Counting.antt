@@ -66,7 +66,7 @@ pub record Moved (es : List Event) (s u : St) : Type 0 where
   pub counts : u .counts ≡ tally (s .counts) (tilesEv es)
   pub refs : u .refs ≡ sets (s .refs) (refWords * s .made) (wordsEv es (slices (s .counts) (tilesEv es)))
 
-moved-append : (xs ys : List Event) (s t u : St) → Moved xs s t → Moved ys t u → Moved (xs ++ ys) s u
+pub moved-append : (xs ys : List Event) (s t u : St) → Moved xs s t → Moved ys t u → Moved (xs ++ ys) s u
 moved-append xs ys s t u p q =
     let ks = slices (s .counts) (tilesEv xs) in
     let len : length ks ≡ length xs = length-slices (s .counts) (tilesEv xs) ∙ length-tiles xs in

@@ -233,12 +233,12 @@ tiling-exact from to L segs n item = (why (Whole from to L segs) refl, halts)
 -- ---- coverage: 1, then 13
 
 pub fill-exact : (segs : List Float) (first m : ℕ) (evenOdd : Bool) (backdrop : ℤ) (x y : Float) (area : List Float) (n : ℕ)
-    → (fillOf segs first m evenOdd backdrop x y area .answer ≡ n ∷ 0 ∷ []) ↔ RowWhy n (fillChecks (length segs) (length area) first m)
+    → (fillOf segs first m evenOdd backdrop x y area .answer ≡ n ∷ 0 ∷ []) ↔ RowWhy n (fillChecks segs (length area) first m)
 unfolding fillOf
 fill-exact segs first m evenOdd backdrop x y area n = (why (firstNo row) refl, halts)
   where
     row : List Check
-    row = fillChecks (length segs) (length area) first m
+    row = fillChecks segs (length area) first m
 
     why : (v : Verdict) → firstNo row ≡ v → paperOf (unless v 0 Done) ≡ n ∷ 0 ∷ [] → RowWhy n row
     why Fine q e = no-clash cc

@@ -24,7 +24,7 @@ module _ (f : ℕ → St → Step St ℕ) where
     pub ran : batchOf f a at s ≡ done u
     pub halts : f (a + at) u ≡ halted (why .no)
 
-  batch-why : (n a : ℕ) (s u : St) (why : Refusal) → batchOf f a n s ≡ refused u why → Halted a n s u why
+  pub batch-why : (n a : ℕ) (s u : St) (why : Refusal) → batchOf f a n s ≡ refused u why → Halted a n s u why
   unfolding batchOf
   batch-why zero a s u why e = no-clash cc
   batch-why (suc n) a s u why e = go (f a s) refl e (batch-why n (suc a))
@@ -57,7 +57,7 @@ module _ (f : ℕ → St → Step St ℕ) where
   unfolding batchOf
   one-halts m a u k e = ap (λ (o : Step St ℕ). onStep (atLine a o) u (run (λ l t. atLine l (f l t)) (from (suc a) m))) e
 
-  batch-halts : (n a j : ℕ) (s u : St) (k : ℕ) → j < n → batchOf f a j s ≡ done u → f (a + j) u ≡ halted k → batchOf f a n s ≡ refused u (record { no = k; line = a + j })
+  pub batch-halts : (n a j : ℕ) (s u : St) (k : ℕ) → j < n → batchOf f a j s ≡ done u → f (a + j) u ≡ halted k → batchOf f a n s ≡ refused u (record { no = k; line = a + j })
   batch-halts n a j s u k h e g =
       let z : n ≡ j + suc (n - suc j) = omega arith in
       ap (λ (i : ℕ). batchOf f a i s) z

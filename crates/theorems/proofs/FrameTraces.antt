@@ -6,6 +6,7 @@ use Prim.Native.Nat.{ℕ}
 use lib.IntN.{pos, negsuc}
 use lib.ListN.{replicate}
 use lib.Ieee.{Float, binary32, ofBits}
+use Rattle.panel.specs.Paths.{boxed}
 use Rattle.panel.specs.Refusals.{notWhole, coordinate, noRoom, crooked}
 use Rattle.panel.specs.Kinds.{runningOf}
 use Rattle.backdrop.specs.Backdrop.{rowSums, rowFits, rowsSums, rowsFit, sumPaths, backdropOf}
@@ -18,7 +19,7 @@ use Rattle.theorems.proofs.StarredTable.{computing}
 -- with so many tally words and floats of segments; the tiles and the tally hold what an older frame left
 abbrev shot : (ends : List Float) (kept floats : ℕ) → Out
 shot ends kept floats =
-    frameOf (0 ∷ []) ends (0 ∷ 0 ∷ 2 ∷ 2 ∷ 0 ∷ []) (pos 5 ∷ negsuc 0 ∷ pos 0 ∷ pos 9 ∷ []) (3 ∷ 0 ∷ 4294967295 ∷ 7 ∷ []) (replicate kept 8) (0 ∷ 0 ∷ 0 ∷ 0 ∷ [])
+    frameOf (0 ∷ []) ends (boxed 0 0 2 2 0) (pos 5 ∷ negsuc 0 ∷ pos 0 ∷ pos 9 ∷ []) (3 ∷ 0 ∷ 4294967295 ∷ 7 ∷ []) (replicate kept 8) (0 ∷ 0 ∷ 0 ∷ 0 ∷ [])
     (replicate floats (ofBits binary32 0))
 
 abbrev down : List Float

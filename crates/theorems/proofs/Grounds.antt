@@ -21,16 +21,17 @@ use Rattle.panel.specs.declared.kinds.Path.{Path}
 use Rattle.walk.specs.Num.{insideOf}
 use Rattle.walk.specs.Lent.{reachedOf}
 use Rattle.walk.specs.Step.{tileIn, stepOf}
-use Rattle.walk.specs.declared.kinds.LineEnds.{LineEnds}
+use Rattle.panel.specs.declared.lines.LineEnds.{LineEnds}
 use Rattle.walk.specs.declared.kinds.Pace.{Pace}
 use Rattle.walk.specs.declared.kinds.Walk.{Walk}
 use Rattle.walk.specs.declared.step.Step.{Step}
 use Rattle.walk.specs.declared.step.Step.the-variants as On
 use Rattle.walk.proofs.Boxes.{okOf, tile-yes, tile-no}
-use Rattle.segment.specs.Clips.{InTile, heldOf, segmentOf, pieceOf}
+use Rattle.panel.specs.Segments.{InTile, heldOf}
+use Rattle.panel.proofs.HeldLaws.{in-held, held-not}
+use Rattle.segment.specs.Clips.{segmentOf, pieceOf}
 use Rattle.panel.specs.declared.segments.Segment.{Segment}
 use Rattle.segment.specs.declared.Piece.the-variants.{Kept, Crooked}
-use Rattle.segment.proofs.Within.{held-in}
 use Rattle.acts.specs.Acts.{St, Act, mark, visit, stop, Hit, on, off, rowActs, stepActs, stepsActs, act, runActs}
 use Rattle.acts.specs.Rows.{rowsActs}
 use Rattle.acts.specs.Line.{Plan, planActs}
@@ -318,19 +319,8 @@ plan-hit w b i = hit-exact (w .pace) b i
 
 -- ---- 12
 
-in-held : (p : Vec2) → InTile p → heldOf p ≡ true
-unfolding heldOf
-in-held p h = rw (h .left, h .right, h .top, h .bottom)
-
 not-held : (p : Vec2) → heldOf p ≡ false → InTile p → ⊥
 not-held p e h = false≢true (sym e ∙ in-held p h)
-
-held-not : (p : Vec2) → (InTile p → ⊥) → heldOf p ≡ false
-held-not p h = go (heldOf p) refl
-  where
-    go : (b : Bool) → heldOf p ≡ b → b ≡ false
-    go true e = absurd (h (held-in p e))
-    go false e = refl
 
 crooked-if : (b : Bool) (s : Segment) → cond b (Kept s) Crooked ≡ Crooked → b ≡ false
 crooked-if true s e = clash cc

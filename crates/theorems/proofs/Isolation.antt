@@ -56,12 +56,12 @@ marks-at t (m ∷ ms) l h =
     (r .0 ∙ ap (marksAt t ms) (add-at t m l h), r .1 ∙ e)
 
 -- marks elsewhere add nothing
-marks-none : (t : ℕ) (ms : List (ℕ × ℤ)) → All (λ m. m .0 ≢ t) ms → (w : ℤ) → marksAt t ms w ≡ w
+pub marks-none : (t : ℕ) (ms : List (ℕ × ℤ)) → All (λ m. m .0 ≢ t) ms → (w : ℤ) → marksAt t ms w ≡ w
 marks-none t [] h w = refl
 marks-none t (m ∷ ms) h w = rw (is-other (m .0) t (h .0)) (marks-none t ms (h .1) w)
 
 module _ (paths : List ℕ) (t : ℕ) where
-  count-seen : (ds : List Drawn) (c : List ℕ) → t < length c
+  pub count-seen : (ds : List Drawn) (c : List ℕ) → t < length c
       → getD (actAll (λ d c. tally c (tilesOf paths d)) ds c) t 0 ≡ actAll (λ d w. w + occ t (tilesOf paths d)) ds (getD c t 0)
   count-seen [] c h = refl
   count-seen (d ∷ ds) c h =
@@ -76,7 +76,7 @@ module _ (paths : List ℕ) (t : ℕ) where
       back-seen ds (Order.mark (marksOf paths d) b) (omega (arith, r .1)) ∙ ap (actAll (λ d. marksAt t (marksOf paths d)) ds) (r .0)
 
 -- records that do nothing where the test fails: then only the others count
-only : {A W : Type 0} (act : A → W → W) (keep : A → Bool) (xs : List A) → All (λ x. keep x ≡ false → (w : W) → act x w ≡ w) xs → (w : W)
+pub only : {A W : Type 0} (act : A → W → W) (keep : A → Bool) (xs : List A) → All (λ x. keep x ≡ false → (w : W) → act x w ≡ w) xs → (w : W)
     → actAll act xs w ≡ actAll act (sift keep xs) w
 only act keep [] h w = refl
 only {A} {W} act keep (x ∷ xs) h w = go (only act keep xs (h .1)) (keep x) refl
@@ -150,7 +150,7 @@ zero-at (suc k) (suc t) = zero-at k t
 
 module _ (b : ℕ) (nos : List ℕ) (coords : List Float) (paths : List ℕ) (n : ℕ) (refs : List ℕ) (bs : List ℤ) (cs rs : List ℕ) (m : ℕ)
     (all : AllCounted b nos coords paths n refs bs cs rs m) where
-  seen-count : (p t : ℕ) → InPath paths p t → t < n → getD cs t 0 ≡ actAll (λ d w. w + occ t (tilesOf paths d)) (ofPath p (drawn nos coords b)) 0
+  pub seen-count : (p t : ℕ) → InPath paths p t → t < n → getD cs t 0 ≡ actAll (λ d w. w + occ t (tilesOf paths d)) (ofPath p (drawn nos coords b)) 0
   seen-count p t i h =
       let r = counted-all b nos coords paths n refs bs cs rs m all in
       let c = checked paths n (passed b nos coords paths n refs bs cs rs m all) in
@@ -160,7 +160,7 @@ module _ (b : ℕ) (nos : List ℕ) (coords : List Float) (paths : List ℕ) (n 
       ∙ ap (actAll (λ d w. w + occ t (tilesOf paths d)) (drawn nos coords b)) z
       ∙ only (λ d w. w + occ t (tilesOf paths d)) (isOf p) (drawn nos coords b) (no-visits paths n c p t i (drawn nos coords b) (r .lines)) 0
 
-  seen-back : (p t : ℕ) → InPath paths p t → t < n → getD bs t (pos 0) ≡ actAll (λ d. marksAt t (marksOf paths d)) (ofPath p (drawn nos coords b)) (pos 0)
+  pub seen-back : (p t : ℕ) → InPath paths p t → t < n → getD bs t (pos 0) ≡ actAll (λ d. marksAt t (marksOf paths d)) (ofPath p (drawn nos coords b)) (pos 0)
   seen-back p t i h =
       let r = counted-all b nos coords paths n refs bs cs rs m all in
       let c = checked paths n (passed b nos coords paths n refs bs cs rs m all) in

@@ -11,6 +11,7 @@ use lib.IntN.{ℤ, pos, negsuc}
 use lib.Ieee.{Float}
 use Rattle.lists.specs.Sums.{sum}
 use Rattle.lists.specs.Tally.{zeros}
+use Rattle.panel.specs.Paths.{boxed}
 use Rattle.panel.specs.Kinds.{runningOf}
 use Rattle.panel.specs.declared.kinds.Running.{Running}
 use Rattle.panel.specs.declared.kinds.Answer.{Answer}
@@ -92,13 +93,13 @@ flat = pos 0 ∷ pos 0 ∷ pos 0 ∷ pos 0 ∷ []
 
 -- the first of these lines counted over the box 0,0,2,2, from zeroed tiles
 abbrev First : (nos ends : List ℕ) → Counted → (bs : List ℤ) (cs rs : List ℕ) → Type 0
-First nos ends r bs cs rs = CountMet (runningOf 0 0) 1 nos (floatsOf ends) (0 ∷ 0 ∷ 2 ∷ 2 ∷ 0 ∷ []) flat none none r bs cs rs
+First nos ends r bs cs rs = CountMet (runningOf 0 0) 1 nos (floatsOf ends) (boxed 0 0 2 2 0) flat none none r bs cs rs
 
 -- saving all work for the first or the last batch: (8,8)-(8,24) twice, and a batch of one line. What it leaves is the first line's
 abbrev Twice : Counted → (bs : List ℤ) (cs rs : List ℕ) → Type 0
 Twice r bs cs rs = First (0 ∷ 0 ∷ []) (8 ∷ 8 ∷ 8 ∷ 24 ∷ 8 ∷ 8 ∷ 8 ∷ 24 ∷ []) r bs cs rs
 
-first-told : counted (runningOf 0 0) 1 (0 ∷ 0 ∷ []) (floatsOf (8 ∷ 8 ∷ 8 ∷ 24 ∷ 8 ∷ 8 ∷ 8 ∷ 24 ∷ [])) (0 ∷ 0 ∷ 2 ∷ 2 ∷ 0 ∷ []) flat none none
+first-told : counted (runningOf 0 0) 1 (0 ∷ 0 ∷ []) (floatsOf (8 ∷ 8 ∷ 8 ∷ 24 ∷ 8 ∷ 8 ∷ 8 ∷ 24 ∷ [])) (boxed 0 0 2 2 0) flat none none
     ≡ record { paper = 0 ∷ 1 ∷ 2 ∷ []; backs = pos 0 ∷ pos 0 ∷ pos 0 ∷ negsuc 0 ∷ []; counts = 1 ∷ 0 ∷ 1 ∷ 0 ∷ []; refs = 0 ∷ 0 ∷ 0 ∷ 1 ∷ [] }
 unfolding computing
 first-told = refl

@@ -1,6 +1,6 @@
 -- What the theorems don't say, refuted: statements near theirs that are false, each shown so by an instance. Assumes nothing.
 use mathlib.Core.Path.{_≡_, refl, sym, ap, _∙_}
-use mathlib.Core.List.{List, [], _∷_, Perm, Perm·swap}
+use mathlib.Core.List.{List, [], _∷_, _++_, Perm, Perm·swap}
 use mathlib.Core.Bool.{true}
 use Prim.Native.Nat.{ℕ, suc, _/_, _≤_, _<_, _^_}
 use native.Mathlib.Omega.{arith}
@@ -12,6 +12,7 @@ use borrow.Author.Tests.{leb-true}
 use Rattle.util.specs.declared.Vec2.{Vec2}
 use Rattle.lists.specs.Run.{All}
 use Rattle.lists.specs.Tally.{zeros}
+use Rattle.panel.specs.Paths.{boxed}
 use Rattle.panel.specs.Limits.{coordMost}
 use Rattle.panel.specs.Refusals.{noRoom}
 use Rattle.panel.specs.Widths.{lineFloats}
@@ -36,7 +37,7 @@ use Rattle.theorems.proofs.FrameTraces.{no-slot}
 
 -- the box 0,0,2,2; (8,8)-(8,24), which makes two references there; (5,5)-(5,5), which makes none; and a line that is refused with 6
 abbrev box : List ℕ
-box = 0 ∷ 0 ∷ 2 ∷ 2 ∷ 0 ∷ []
+box = boxed 0 0 2 2 0
 
 abbrev none : List ℕ
 none = 0 ∷ 0 ∷ 0 ∷ 0 ∷ []
@@ -145,7 +146,7 @@ PathOfReference =
     → All (λ w. w .path ≡ getD nos (w .ref) 0) (callOf 0 m (lent nos coords paths ws rs) segs .writes)
 
 -- a point of path 1, then (8,8)-(8,24) of path 0
-two-paths : AllCounted 2 (1 ∷ 0 ∷ []) pointThenDown (0 ∷ 0 ∷ 2 ∷ 2 ∷ 0 ∷ 0 ∷ 0 ∷ 1 ∷ 1 ∷ 4 ∷ []) 5 none
+two-paths : AllCounted 2 (1 ∷ 0 ∷ []) pointThenDown (boxed 0 0 2 2 0 ++ boxed 0 0 1 1 4) 5 none
     (pos 0 ∷ pos 0 ∷ pos 0 ∷ negsuc 0 ∷ pos 0 ∷ []) (1 ∷ 0 ∷ 1 ∷ 0 ∷ 0 ∷ []) (1 ∷ 0 ∷ 1 ∷ 1 ∷ []) 2
 unfolding computing
 two-paths = refl
@@ -157,7 +158,7 @@ two-handed = refl
 pub path-of-the-line : PathOfReference → ⊥
 unfolding computing
 path-of-the-line f =
-    let h = f 2 (1 ∷ 0 ∷ []) pointThenDown (0 ∷ 0 ∷ 2 ∷ 2 ∷ 0 ∷ 0 ∷ 0 ∷ 1 ∷ 1 ∷ 4 ∷ []) 5 none (pos 0 ∷ pos 0 ∷ pos 0 ∷ negsuc 0 ∷ pos 0 ∷ []) (1 ∷ 0 ∷ 1 ∷ 0 ∷ 0 ∷ [])
+    let h = f 2 (1 ∷ 0 ∷ []) pointThenDown (boxed 0 0 2 2 0 ++ boxed 0 0 1 1 4) 5 none (pos 0 ∷ pos 0 ∷ pos 0 ∷ negsuc 0 ∷ pos 0 ∷ []) (1 ∷ 0 ∷ 1 ∷ 0 ∷ 0 ∷ [])
     (1 ∷ 0 ∷ 1 ∷ 1 ∷ []) 2 2 (0 ∷ 0 ∷ 0 ∷ 0 ∷ 0 ∷ []) (4294967295 ∷ 0 ∷ 4294967294 ∷ 0 ∷ 0 ∷ []) (1 ∷ 0 ∷ 1 ∷ 0 ∷ 0 ∷ []) (replicate 10 (ofBits binary32 0)) two-paths two-handed in
     let z : _≡_ {A = ℕ} 0 1 = h .0 in omega arith
 

@@ -20,7 +20,8 @@ use Rattle.acts.specs.Line.{planStep, batchOf}
 use Rattle.path_count.specs.Steps.{hitAt}
 use Rattle.path_count.specs.Count.{planOf, lineStep, callAnswer, counted}
 use Rattle.hand_out.specs.HandOut.{handOutOf}
-use Rattle.segment.specs.Clips.{cornerOf, farOf, atRowOf, atColOf, clipOf, makeOf, edgeOf, offOf, turnOf, heldOf, firstOf, lastOf, segmentOf, pieceOf}
+use Rattle.segment.specs.Clips.{cornerOf, farOf, atRowOf, atColOf, clipOf, makeOf, edgeOf, offOf, turnOf, firstOf, lastOf, segmentOf, pieceOf}
+use Rattle.panel.specs.Segments.{heldOf}
 use Rattle.path_tiling.specs.Look.{foundOf, pieceTo, wordTo, stepTo, foundTo, lookOf}
 use Rattle.path_tiling.specs.Tiling.{rangeOf, wholeOf, checksOf, callOf}
 use Rattle.coverage.specs.Coverage.{areaAfter, finishOf, sumOf, pixelOf}

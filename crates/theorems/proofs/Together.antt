@@ -9,7 +9,7 @@ use lib.Ieee.{Float}
 use Rattle.lists.specs.Tally.{zeros}
 use Rattle.panel.specs.Widths.{lineFloats, refWords}
 use Rattle.panel.specs.Kinds.{runningOf}
-use Rattle.panel.specs.Paths.{pathAt, pathCount, tileOf}
+use Rattle.panel.specs.Paths.{boxed, pathAt, pathCount, tileOf}
 use Rattle.panel.specs.declared.kinds.Answer.the-variants as Answer
 use Rattle.panel.proofs.PathLaws.{InBox}
 use Rattle.backdrop.specs.Backdrop.{Out, backdropAt, backdropOf}
@@ -69,6 +69,6 @@ isolated-after paths n b nos coords refs bs cs rs m b′ nos′ coords′ refs�
     ∙ sym (ap (λ (o : Out). backdropAt (o .tiles) t) (d′ .1))
 
 -- the premise is no empty one: (8,8)-(8,24) over the box 0,0,2,2
-pub an-instance : AllCounted 1 (0 ∷ []) (floatsOf (8 ∷ 8 ∷ 8 ∷ 24 ∷ [])) (0 ∷ 0 ∷ 2 ∷ 2 ∷ 0 ∷ []) 4 (0 ∷ 0 ∷ 0 ∷ 0 ∷ [])
+pub an-instance : AllCounted 1 (0 ∷ []) (floatsOf (8 ∷ 8 ∷ 8 ∷ 24 ∷ [])) (boxed 0 0 2 2 0) 4 (0 ∷ 0 ∷ 0 ∷ 0 ∷ [])
     (pos 0 ∷ pos 0 ∷ pos 0 ∷ negsuc 0 ∷ []) (1 ∷ 0 ∷ 1 ∷ 0 ∷ []) (0 ∷ 0 ∷ 0 ∷ 1 ∷ []) 2
 an-instance = starred .0

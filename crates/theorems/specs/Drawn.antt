@@ -11,7 +11,7 @@ use Rattle.lists.specs.Sums.{from}
 use Rattle.panel.specs.Refusals.{coordinate, noSuch}
 use Rattle.panel.specs.Paths.{pathAt, pathCount, endOf}
 use Rattle.walk.specs.Lent.{lineAt, reachedOf, walkedOf}
-use Rattle.walk.specs.declared.kinds.LineEnds.{LineEnds}
+use Rattle.panel.specs.declared.lines.LineEnds.{LineEnds}
 use Rattle.walk.specs.declared.kinds.Walked.{Walked}
 use Rattle.walk.specs.declared.kinds.Walked.the-variants.{Refused, Skipped, Line}
 use Rattle.acts.specs.Acts.{Act, mark, visit, stop, deltaOf}

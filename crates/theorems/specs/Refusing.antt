@@ -26,14 +26,15 @@ use Rattle.backdrop.specs.Backdrop as Backdrop
 use Rattle.hand_out.specs.HandOut.{Out}
 use Rattle.walk.specs.Num.{float}
 use Rattle.walk.specs.Lent.{lineAt, walkAt}
-use Rattle.walk.specs.declared.kinds.LineEnds.{LineEnds}
+use Rattle.panel.specs.declared.lines.LineEnds.{LineEnds}
 use Rattle.walk.specs.declared.kinds.Pace.{Pace}
 use Rattle.walk.specs.declared.kinds.Walk.{Walk}
 use Rattle.walk.specs.declared.kinds.Walked.the-variants.{Line, Skipped}
 use Rattle.walk.specs.Step.{zAt, stepOf}
 use Rattle.walk.specs.declared.step.Step.the-variants as On
 use Rattle.panel.specs.declared.kinds.TileNo.{TileNo}
-use Rattle.segment.specs.Clips.{InTile, segmentOf}
+use Rattle.panel.specs.Segments.{InTile}
+use Rattle.segment.specs.Clips.{segmentOf}
 use Rattle.panel.specs.declared.segments.Segment.{Segment}
 use Rattle.path_tiling.specs.Look as Look
 use Rattle.path_tiling.specs.declared.look.Look.the-variants as Looked

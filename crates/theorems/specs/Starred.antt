@@ -9,6 +9,7 @@ use lib.ListN.{replicate}
 use lib.Ieee.{Float, binary32, ofBits}
 use Rattle.float32.specs.Meaning.{roundOf}
 use Rattle.util.specs.Constants as Number
+use Rattle.panel.specs.Paths.{boxed}
 use Rattle.panel.specs.Refusals.{doneNo, countOver}
 use Rattle.panel.specs.Kinds.{runningOf}
 use Rattle.panel.specs.declared.kinds.Answer.the-variants.{Done}
@@ -61,10 +62,10 @@ Holding [] = Unit {0}
 Holding (r ∷ rs) = Claim r × Holding rs
 
 abbrev two : List ℕ
-two = 0 ∷ 0 ∷ 2 ∷ 2 ∷ 0 ∷ []
+two = boxed 0 0 2 2 0
 
 abbrev right : List ℕ
-right = 1 ∷ 0 ∷ 3 ∷ 2 ∷ 0 ∷ []
+right = boxed 1 0 3 2 0
 
 abbrev none : List ℕ
 none = 0 ∷ 0 ∷ 0 ∷ 0 ∷ []

@@ -16,7 +16,7 @@ use Rattle.walk.specs.Page.{by-parts}
 use Rattle.walk.specs.Skip.{flatOf, pastOf}
 use Rattle.walk.specs.Lent.{lineAt, reachedOf, Reached, walkedOf, walkAt}
 use Rattle.walk.specs.declared.kinds.Walk.{Walk}
-use Rattle.walk.specs.declared.kinds.LineEnds.{LineEnds}
+use Rattle.panel.specs.declared.lines.LineEnds.{LineEnds}
 use Rattle.walk.specs.declared.kinds.Walked.{Walked}
 use Rattle.walk.specs.declared.kinds.Walked.the-variants.{Refused, Skipped, Line}
 

@@ -1,32 +1,22 @@
 -- A line as it is lent: refused (6, then 7), skipped, or walked over the box of its path. Definitions only.
-use Prim.Native.Nat.{ℕ, _+_, _*_}
+use Prim.Native.Nat.{ℕ}
 use mathlib.Core.Path.{_≡_}
 use mathlib.Core.Bool.{Bool, true, cond, _&&_, _||_}
 use mathlib.Core.List.{List}
 use lib.Dec.{ltb}
 use lib.ListN.{getD}
-use lib.Ieee.{Float, nan}
+use lib.Ieee.{Float}
 use Rattle.util.specs.declared.Vec2.{Vec2}
 use Rattle.exact.specs.Reach.{inReach}
 use Rattle.panel.specs.Refusals.{coordinate, noSuch}
-use Rattle.panel.specs.Widths.{lineFloats}
+unfoldable pub use Rattle.panel.specs.Lines.{lineAt}
 use Rattle.panel.specs.Paths.{pathAt, pathCount}
 use Rattle.panel.specs.declared.kinds.Path.{Path}
 use Rattle.walk.specs.Setup.{endsOf}
 use Rattle.walk.specs.Page.{lineOf}
 use Rattle.walk.specs.Skip.{flatOf, pastOf}
-use Rattle.walk.specs.declared.kinds.LineEnds.{LineEnds}
 use Rattle.walk.specs.declared.kinds.Walked.{Walked}
 use Rattle.walk.specs.declared.kinds.Walked.the-variants.{Refused, Skipped, Line}
-
--- line l's two points
-unfoldable pub lineAt : List Float → ℕ → LineEnds
-lineAt fs l =
-    let at = l * lineFloats in
-    record {
-      p0 = record { x = getD fs at nan; y = getD fs (at + 1) nan };
-      p1 = record { x = getD fs (at + 2) nan; y = getD fs (at + 3) nan };
-    }
 
 -- check 6
 abbrev pub reachedOf : Vec2 → Vec2 → Bool

@@ -1,13 +1,7 @@
-// What a line is on its way over the tiles: as it is lent, its numbers, a struct for each stage of
+// What a line is on its way over the tiles: its numbers, a struct for each stage of
 // path_count.rs, lines 22 to 52, and what can become of it. `setup.rt` makes them.
 use panel::kinds::Path;
 use util::Vec2;
-
-// A line's two points, as they are lent.
-pub struct LineEnds {
-    pub p0: Vec2,
-    pub p1: Vec2,
-}
 
 // The ends in the order of y, as they are and in tiles.
 pub struct Ends {

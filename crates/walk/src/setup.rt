@@ -10,44 +10,27 @@ ghost use Rattle.float32.specs.Meaning.{floorOf};
 ghost use Rattle.panel.specs.Widths.{lineFloats};
 ghost use Rattle.walk.specs.Setup.{Scaled, endsOf, slopeOf, bOf, aOf, walkOn};
 ghost use Rattle.walk.specs.Skip.{flatOf, pastOf};
-ghost use Rattle.walk.specs.Lent.{Reached, lineAt, reachedOf, walkedOf, walkAt};
+ghost use Rattle.walk.specs.Lent.{Reached, reachedOf, walkedOf, walkAt};
 ghost use Rattle.walk.specs.Around.{tilesOf, Spans, countsBy, Around};
 use super::choose::pick_vec;
 use super::kinds::Counts;
 use super::kinds::Ends;
-use super::kinds::LineEnds;
 use super::kinds::Pace;
 use super::kinds::Slope;
 use super::kinds::Walk;
 use super::kinds::Walked;
-use panel::checks::path_at;
 use panel::kinds::Path;
 use panel::limits::COORD_MOST;
+use panel::lines::line_at;
+use panel::paths::path_at;
 use panel::refusals::COORDINATE;
 use panel::refusals::NO_SUCH;
-use panel::widths::LINE_FLOATS;
 use panel::widths::PATH_WORDS;
 use util::ONE_MINUS_ULP;
 use util::ROBUST_EPSILON;
 use util::TILE_SCALE;
 use util::Vec2;
 use util::pick;
-
-pub fn line_at(coords: &[f32], line_no: u32) -> LineEnds
-    requires { ⌜ «line_no» * lineFloats + lineFloats ≤ length (now coords) ⌝ }
-    ensures { λ r. ⌜ r ≡ lineAt (now (coords .entry)) «line_no» ⌝ }
-{
-    let at = (line_no as usize) * LINE_FLOATS;
-    let p0 = Vec2 {
-        x: coords[at],
-        y: coords[at + 1],
-    };
-    let p1 = Vec2 {
-        x: coords[at + 2],
-        y: coords[at + 3],
-    };
-    LineEnds { p0, p1 }
-}
 
 // Check 6: all four coordinates are finite and of magnitude up to the limit.
 pub fn reached(p0: Vec2, p1: Vec2) -> bool

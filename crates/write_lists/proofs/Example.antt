@@ -5,7 +5,7 @@ use Prim.Native.Nat.{ℕ, suc, _+_, _-_, _*_, _/_}
 use lib.IntN.{pos, negsuc}
 use lib.ListN.{length, replicate, drop}
 use Rattle.panel.specs.Limits.{edgeMost}
-use Rattle.panel.specs.Paths.{pathAt, pathsFrom, pathsAnswer}
+use Rattle.panel.specs.Paths.{boxed, pathAt, pathsFrom, pathsAnswer}
 use Rattle.commands.specs.Numbers.{endNo, encodeTo, jumpWords, tileWords, startOf}
 use Rattle.commands.specs.declared.steps.Act.the-variants.{Jump}
 use Rattle.write_lists.specs.Pairs.{tables, onTile, onPath, tilePairs}
@@ -20,7 +20,7 @@ abbrev filled : List ℕ → List ℕ
 filled ws = ws ++ replicate (tileWords - length ws) 9
 
 -- a screen of two tiles under one path, even-odd: the first is filled, the second covered by its backdrop -1
-pub example : writeListsOf (tables (0 ∷ 0 ∷ 2 ∷ 1 ∷ 0 ∷ []) (0x204060ff ∷ 1 ∷ []) (pos 0 ∷ negsuc 0 ∷ []) (0xffffffff ∷ 0 ∷ []) (3 ∷ 0 ∷ [])) 2 1 3 (replicate 128 9)
+pub example : writeListsOf (tables (boxed 0 0 2 1 0) (0x204060ff ∷ 1 ∷ []) (pos 0 ∷ negsuc 0 ∷ []) (0xffffffff ∷ 0 ∷ []) (3 ∷ 0 ∷ [])) 2 1 3 (replicate 128 9)
     ≡ left Done (filled (9 ∷ pairWords (Fill 3 1 0 0 0x204060ff) ++ (endNo ∷ [])) ++ filled (9 ∷ pairWords (Solid 0x204060ff) ++ (endNo ∷ [])))
 unfolding edgeMost pathAt pathsFrom pathsAnswer onTile onPath tilePairs callAnswer regionsOf answerOf listsOf writeListsOf
 example = refl

@@ -2,6 +2,7 @@
 pub mod Signed
 pub mod SizeLaws
 pub mod PairLaws
+pub mod NearLaws
 pub mod WeighLaws
 pub mod LayLaws
 pub mod TileLaws

@@ -55,32 +55,15 @@ from-end k n h = let none : n - k ≡ 0 = omega arith in ap (from k) none
 pub from-all : (n : ℕ) → from 0 (n - 0) ≡ from 0 n
 from-all n = let all : n - 0 ≡ n = omega arith in ap (from 0) all
 
-module _ (s : Tables) (x y n k : ℕ) where
-  pairs-turn : k < n → (hs : List Pair) → hs ≡ onPath s x y k → pairsOf s x y (from k (n - k)) ≡ hs ++ pairsOf s x y (from (k + 1) (n - (k + 1)))
-  pairs-turn h hs e = ap (pairsOf s x y) (from-turn k n h) ∙ ap (λ (l : List Pair). l ++ pairsOf s x y (from (k + 1) (n - (k + 1)))) (sym e)
+-- the next of the paths left, and what it puts there
+module _ (s : Tables) (x y p : ℕ) (rest ps : List ℕ) where
+  pub pairs-next : (hs : List Pair) → ps ≡ p ∷ rest → hs ≡ onPath s x y p → pairsOf s x y ps ≡ hs ++ pairsOf s x y rest
+  pairs-next hs q e = ap (pairsOf s x y) q ∙ ap (λ (l : List Pair). l ++ pairsOf s x y rest) (sym e)
 
-  pub pairs-end : n ≤ k → pairsOf s x y (from k (n - k)) ≡ []
-  pairs-end h = ap (pairsOf s x y) (from-end k n h)
-
-  pub weigh-turn : (room : ℕ) (hs : List Pair) (w w′ : Weight) → k < n → hs ≡ onPath s x y k → w′ ≡ weighAll room hs w
-      → weighAll room (pairsOf s x y (from (k + 1) (n - (k + 1)))) w′ ≡ weighAll room (pairsOf s x y (from k (n - k))) w
-  weigh-turn room hs w w′ h e f =
-      let rest = pairsOf s x y (from (k + 1) (n - (k + 1))) in
-      ap (weighAll room rest) f ∙ sym (actAll-append (weighPair room) hs rest w) ∙ ap (λ (l : List Pair). weighAll room l w) (sym (pairs-turn h hs e))
-
--- a loop that counts the paths still ahead, of n
-module _ (s : Tables) (x y n ahead : ℕ) where
-  pub pairs-next : 0 < ahead → ahead ≤ n → (hs : List Pair) → hs ≡ onPath s x y (n - ahead)
-      → pairsOf s x y (from (n - ahead) ahead) ≡ hs ++ pairsOf s x y (from (n - (ahead - 1)) (ahead - 1))
-  pairs-next h k hs e =
-      let more : ahead ≡ suc (ahead - 1) = omega arith in
-      let next : suc (n - ahead) ≡ n - (ahead - 1) = omega arith in
-      ap (λ (j : ℕ). pairsOf s x y (from (n - ahead) j)) more
-      ∙ ap (λ (j : ℕ). onPath s x y (n - ahead) ++ pairsOf s x y (from j (ahead - 1))) next
-      ∙ ap (λ (l : List Pair). l ++ pairsOf s x y (from (n - (ahead - 1)) (ahead - 1))) (sym e)
-
-  pub pairs-done : ahead ≤ 0 → pairsOf s x y (from (n - ahead) ahead) ≡ []
-  pairs-done h = let none : ahead ≡ 0 = omega arith in ap (λ (j : ℕ). pairsOf s x y (from (n - ahead) j)) none
+  pub weigh-next : (room : ℕ) (hs : List Pair) (w w′ : Weight) → ps ≡ p ∷ rest → hs ≡ onPath s x y p → w′ ≡ weighAll room hs w
+      → weighAll room (pairsOf s x y rest) w′ ≡ weighAll room (pairsOf s x y ps) w
+  weigh-next room hs w w′ q e f =
+      ap (weighAll room (pairsOf s x y rest)) f ∙ sym (actAll-append (weighPair room) hs (pairsOf s x y rest) w) ∙ ap (λ (l : List Pair). weighAll room l w) (sym (pairs-next hs q e))
 
 -- ---- what a weight comes to
 

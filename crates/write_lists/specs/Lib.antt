@@ -3,3 +3,4 @@ pub mod Pairs
 pub mod Layout
 pub mod Lists
 pub mod Ready
+pub mod Near

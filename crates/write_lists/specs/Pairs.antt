@@ -7,7 +7,7 @@ use lib.Dec.{eqb, leb, ltb}
 use lib.IntN.{ℤ, pos, negsuc, natAbs}
 use lib.ListN.{getD}
 use Rattle.lists.specs.Sums.{from}
-use Rattle.panel.specs.Widths.{paintWords, placeColour, placeRule}
+pub use Rattle.panel.specs.Paints.{colourAt, ruleAt}
 use Rattle.panel.specs.Paths.{pathAt, pathCount, tileOf}
 use Rattle.panel.specs.Slots.{not32}
 use Rattle.panel.specs.declared.kinds.Path.{Path}
@@ -29,13 +29,6 @@ pub record Tables : Type 0 where
 
 abbrev pub tables : List ℕ → List ℕ → List ℤ → List ℕ → List ℕ → Tables
 tables ps cs bs ss ks = record { paths = ps; paints = cs; backdrops = bs; stored = ss; tally = ks }
-
--- path p's colour, and its fill rule: even-odd where the lowest bit is set, as in a FILL
-abbrev pub colourAt : List ℕ → ℕ → ℕ
-colourAt paints p = getD paints (p * paintWords + placeColour) 0
-
-abbrev pub ruleAt : List ℕ → ℕ → ℕ
-ruleAt paints p = getD paints (p * paintWords + placeRule) 0
 
 -- whether the tile in column x and row y is one of the path's box
 abbrev pub inBox : Path → ℕ → ℕ → Bool

@@ -13,18 +13,18 @@ use commands::put::put_color;
 use commands::put::put_fill;
 use commands::put::put_jump;
 use commands::put::put_solid;
-use panel::widths::PATH_WORDS;
 ghost use mathlib.Core.Path.{_≡_};
 ghost use mathlib.Core.Bool.{true};
 ghost use mathlib.Core.List.{[], _∷_};
 ghost use Prim.Native.Nat.{_+_, _*_, _<_, _≤_};
-ghost use lib.ListN.{length};
+ghost use lib.ListN.{length, take};
 ghost use lib.Seq.{sets};
-ghost use Rattle.panel.specs.Limits.{mostSlots, mostTiles};
+ghost use Rattle.panel.specs.Limits.{mostPaths, mostSlots, mostTiles};
 ghost use Rattle.commands.specs.Numbers.{endNo, jumpWords, tileWords};
 ghost use Rattle.write_lists.specs.Pairs.{tables, tilePairs, putList};
 ghost use Rattle.write_lists.specs.Layout.{pairWords, pairSize, jumpIf, turned, after, pairChunks, jumpCount, begun, penAfter, laid, jumpsOf, ownWords, penOf, written};
 ghost use Rattle.write_lists.specs.Lists.{slotsFit, allFit};
+ghost use Rattle.write_lists.specs.Near.{Near};
 ghost use Rattle.write_lists.specs.Ready.{Ready, Room, wordsNamed};
 
 // The word of a fresh region that a list goes on at: its first. In a tile's own region it starts at
@@ -117,25 +117,27 @@ fn close(words: &mut [u32], at: usize)
     words[at] = END;
 }
 
-// Screen tile t's list; where the next fresh region is after it.
+// Screen tile t's list, of the n paths near; where the next fresh region is after it.
 pub(crate) fn lay_tile(
     paths: &[u32],
     paints: &[u32],
     backdrops: &[i32],
     stored: &[u32],
     tally: &[u32],
+    near: &[u32],
+    n: usize,
     cols: u32,
     t: u32,
     fresh: usize,
     words: &mut [u32],
 ) -> usize
-    requires { ⌜ (Ready (tables (now paths) (now paints) (now backdrops) (now stored) (now tally))) × (0 < cols) × (t < mostTiles)
+    requires { ⌜ (Ready (tables (now paths) (now paints) (now backdrops) (now stored) (now tally))) × (0 < cols) × (t < mostTiles) × (n ≤ mostPaths) × (length (now near) ≡ mostPaths)
+        × (Near (tables (now paths) (now paints) (now backdrops) (now stored) (now tally)) cols t (take n (now near)))
         × (Room (penOf t fresh) (tilePairs (tables (now paths) (now paints) (now backdrops) (now stored) (now tally)) cols t) (length (now words)))
         × (allFit mostSlots (tilePairs (tables (now paths) (now paints) (now backdrops) (now stored) (now tally)) cols t) ≡ true) ⌝ }
     ensures { λ r. ⌜ (now (words .exit) ≡ written (laid (penOf t fresh) (tilePairs (tables (now (paths .entry)) (now (paints .entry)) (now (backdrops .entry)) (now (stored .entry)) (now (tally .entry))) cols t)) (now (words .entry)))
         × (r ≡ fresh + tileWords * jumpsOf ownWords (tilePairs (tables (now (paths .entry)) (now (paints .entry)) (now (backdrops .entry)) (now (stored .entry)) (now (tally .entry))) cols t)) ⌝ }
 {
-    let n = (paths.len() / PATH_WORDS) as u32;
     let x = t % cols;
     let y = t / cols;
     let at = TILE_WORDS * (t as usize) + LIST_START;
@@ -147,7 +149,7 @@ pub(crate) fn lay_tile(
     let mut ahead = n;
     while ahead > 0 {
         let p = n - ahead;
-        let put = on_path(paths, paints, backdrops, stored, tally, x, y, p);
+        let put = on_path(paths, paints, backdrops, stored, tally, x, y, near[p]);
         pen = lay_put(words, pen, put);
         ahead -= 1;
     }

@@ -2,12 +2,16 @@
 // tables. docs/RULES.md, "Command lists" and refusals 1 to 4, 9 and 15. Added: it is in none of the
 // files ported.
 pub mod lay;
+pub mod near;
 pub mod pairs;
 pub mod sizes;
 pub mod weigh;
 
 use commands::numbers::TILE_WORDS;
 use lay::lay_tile;
+use near::look;
+use near::no_paths;
+use near::nothing_held;
 use panel::checks::check_paths;
 use panel::kinds::Answer;
 use panel::kinds::Verdict;
@@ -25,7 +29,7 @@ ghost use mathlib.Core.Bool.{true};
 ghost use Prim.Native.Nat.{_+_, _*_, _≤_, _<_, _^_};
 ghost use lib.ListN.{length};
 ghost use Rattle.lists.specs.Sums.{from};
-ghost use Rattle.panel.specs.Limits.{mostTiles, mostSlots};
+ghost use Rattle.panel.specs.Limits.{mostPaths, mostTiles, mostSlots};
 ghost use Rattle.panel.specs.Checks.{firstNo};
 ghost use Rattle.commands.specs.Numbers.{tileWords};
 ghost use Rattle.write_lists.specs.Pairs.{tables};
@@ -106,8 +110,9 @@ fn check_room(regions: u64, lent: usize, slots: bool) -> Verdict
     Verdict::Fine
 }
 
-// n screen tiles: 15 for the first that has too many commands, then 9.
-fn check_tiles(
+// n screen tiles: 15 for the first that has too many commands, then 9. The last three slices are room
+// to work in.
+fn check_by(
     paths: &[u32],
     paints: &[u32],
     backdrops: &[i32],
@@ -117,15 +122,32 @@ fn check_tiles(
     n: u32,
     room: u32,
     lent: usize,
+    row: &mut [u32],
+    wide: &mut [u32],
+    near: &mut [u32],
 ) -> Answer
-    requires { ⌜ (Ready (tables (now paths) (now paints) (now backdrops) (now stored) (now tally))) × (n ≤ mostTiles) × (0 < n → 0 < cols) ⌝ }
+    requires { ⌜ (Ready (tables (now paths) (now paints) (now backdrops) (now stored) (now tally))) × (n ≤ mostTiles) × (0 < n → 0 < cols)
+        × (length (now row) ≡ mostPaths) × (length (now wide) ≡ mostPaths) × (length (now near) ≡ mostPaths) ⌝ }
     ensures { λ r. ⌜ r ≡ tilesAnswer (tables (now (paths .entry)) (now (paints .entry)) (now (backdrops .entry)) (now (stored .entry)) (now (tally .entry))) cols room n lent 0 true (from 0 n) ⌝ }
 {
+    let mut held = nothing_held();
     let mut fresh: u64 = 0;
     let mut slots = true;
     let mut t = 0u32;
     while t < n {
-        let w = weigh(paths, paints, backdrops, stored, tally, cols, t, room);
+        held = look(paths, t % cols, t / cols, held, row, wide, near);
+        let w = weigh(
+            paths,
+            paints,
+            backdrops,
+            stored,
+            tally,
+            near,
+            held.narrow,
+            cols,
+            t,
+            room,
+        );
         let commands = 2 * (w.pairs as u64) + w.jumps as u64;
         if commands > MOST_COMMANDS as u64 {
             return Answer::Refused(TOO_LONG, t);
@@ -141,7 +163,85 @@ fn check_tiles(
     Answer::Done
 }
 
-// The lists of n screen tiles, where all has room.
+// The same with room of its own.
+fn check_tiles(
+    paths: &[u32],
+    paints: &[u32],
+    backdrops: &[i32],
+    stored: &[u32],
+    tally: &[u32],
+    cols: u32,
+    n: u32,
+    room: u32,
+    lent: usize,
+) -> Answer
+    requires { ⌜ (Ready (tables (now paths) (now paints) (now backdrops) (now stored) (now tally))) × (n ≤ mostTiles) × (0 < n → 0 < cols) ⌝ }
+    ensures { λ r. ⌜ r ≡ tilesAnswer (tables (now (paths .entry)) (now (paints .entry)) (now (backdrops .entry)) (now (stored .entry)) (now (tally .entry))) cols room n lent 0 true (from 0 n) ⌝ }
+{
+    let mut row = no_paths();
+    let mut wide = no_paths();
+    let mut near = no_paths();
+    check_by(
+        paths,
+        paints,
+        backdrops,
+        stored,
+        tally,
+        cols,
+        n,
+        room,
+        lent,
+        &mut row,
+        &mut wide,
+        &mut near,
+    )
+}
+
+// The lists of n screen tiles, where all has room. The three slices before the words are room to work
+// in.
+fn lay_by(
+    paths: &[u32],
+    paints: &[u32],
+    backdrops: &[i32],
+    stored: &[u32],
+    tally: &[u32],
+    cols: u32,
+    n: u32,
+    row: &mut [u32],
+    wide: &mut [u32],
+    near: &mut [u32],
+    words: &mut [u32],
+)
+    requires { ⌜ (Ready (tables (now paths) (now paints) (now backdrops) (now stored) (now tally))) × (n ≤ mostTiles) × (0 < n → 0 < cols)
+        × (tileWords * (n + freshOf (tables (now paths) (now paints) (now backdrops) (now stored) (now tally)) cols (from 0 n)) ≤ length (now words))
+        × (tileWords * (n + freshOf (tables (now paths) (now paints) (now backdrops) (now stored) (now tally)) cols (from 0 n)) ≤ wordsNamed)
+        × (fillsFit (tables (now paths) (now paints) (now backdrops) (now stored) (now tally)) cols mostSlots (from 0 n) ≡ true)
+        × (length (now row) ≡ mostPaths) × (length (now wide) ≡ mostPaths) × (length (now near) ≡ mostPaths) ⌝ }
+    ensures { λ _. ⌜ now (words .exit) ≡ written (listsFrom (tables (now (paths .entry)) (now (paints .entry)) (now (backdrops .entry)) (now (stored .entry)) (now (tally .entry))) cols (tileWords * n) (from 0 n)) (now (words .entry)) ⌝ }
+{
+    let mut held = nothing_held();
+    let mut fresh = TILE_WORDS * (n as usize);
+    let mut t = 0u32;
+    while t < n {
+        held = look(paths, t % cols, t / cols, held, row, wide, near);
+        fresh = lay_tile(
+            paths,
+            paints,
+            backdrops,
+            stored,
+            tally,
+            near,
+            held.narrow,
+            cols,
+            t,
+            fresh,
+            words,
+        );
+        t += 1;
+    }
+}
+
+// The same with room of its own.
 fn lay_tiles(
     paths: &[u32],
     paints: &[u32],
@@ -158,22 +258,22 @@ fn lay_tiles(
         × (fillsFit (tables (now paths) (now paints) (now backdrops) (now stored) (now tally)) cols mostSlots (from 0 n) ≡ true) ⌝ }
     ensures { λ _. ⌜ now (words .exit) ≡ written (listsFrom (tables (now (paths .entry)) (now (paints .entry)) (now (backdrops .entry)) (now (stored .entry)) (now (tally .entry))) cols (tileWords * n) (from 0 n)) (now (words .entry)) ⌝ }
 {
-    let mut fresh = TILE_WORDS * (n as usize);
-    let mut t = 0u32;
-    while t < n {
-        fresh = lay_tile(
-            paths,
-            paints,
-            backdrops,
-            stored,
-            tally,
-            cols,
-            t,
-            fresh,
-            words,
-        );
-        t += 1;
-    }
+    let mut row = no_paths();
+    let mut wide = no_paths();
+    let mut near = no_paths();
+    lay_by(
+        paths,
+        paints,
+        backdrops,
+        stored,
+        tally,
+        cols,
+        n,
+        &mut row,
+        &mut wide,
+        &mut near,
+        words,
+    );
 }
 
 // The public call: one list for each tile of a screen of cols times rows; `room` segments are named.

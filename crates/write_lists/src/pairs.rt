@@ -1,6 +1,6 @@
 // What a path puts on a screen tile: a command that covers and a COLOR, or nothing.
-use panel::checks::path_at;
 use panel::kinds::Path;
+use panel::paths::path_at;
 use panel::widths::PAINT_COLOUR;
 use panel::widths::PAINT_RULE;
 use panel::widths::PAINT_WORDS;

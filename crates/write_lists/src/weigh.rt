@@ -9,13 +9,14 @@ use crate::sizes::pair_size;
 use commands::numbers::LIST_START;
 use commands::numbers::TILE_WORDS;
 use panel::limits::MOST_SLOTS;
-use panel::widths::PATH_WORDS;
 ghost use mathlib.Core.Path.{_≡_};
 ghost use Prim.Native.Nat.{_<_, _≤_};
+ghost use lib.ListN.{length, take};
 ghost use Rattle.panel.specs.Limits.{mostPaths};
 ghost use Rattle.commands.specs.Numbers.{tileWords};
 ghost use Rattle.write_lists.specs.Pairs.{tables, tilePairs, putList};
 ghost use Rattle.write_lists.specs.Lists.{slotsFit};
+ghost use Rattle.write_lists.specs.Near.{Near};
 ghost use Rattle.write_lists.specs.Ready.{Ready, noWeight, weighPair, weighAll};
 
 // A tile's pairs so far: how many, how many JUMPs between them, the words left in the region, and
@@ -75,21 +76,23 @@ fn weigh_put(w: Weight, room: u32, put: Put) -> Weight
     }
 }
 
-// All that the paths put on screen tile t.
+// All that the paths put on screen tile t: n paths are near.
 pub(crate) fn weigh(
     paths: &[u32],
     paints: &[u32],
     backdrops: &[i32],
     stored: &[u32],
     tally: &[u32],
+    near: &[u32],
+    n: usize,
     cols: u32,
     t: u32,
     room: u32,
 ) -> Weight
-    requires { ⌜ (Ready (tables (now paths) (now paints) (now backdrops) (now stored) (now tally))) × (0 < cols) ⌝ }
+    requires { ⌜ (Ready (tables (now paths) (now paints) (now backdrops) (now stored) (now tally))) × (0 < cols) × (n ≤ mostPaths) × (length (now near) ≡ mostPaths)
+        × (Near (tables (now paths) (now paints) (now backdrops) (now stored) (now tally)) cols t (take n (now near))) ⌝ }
     ensures { λ r. ⌜ r ≡ weighAll room (tilePairs (tables (now (paths .entry)) (now (paints .entry)) (now (backdrops .entry)) (now (stored .entry)) (now (tally .entry))) cols t) noWeight ⌝ }
 {
-    let n = (paths.len() / PATH_WORDS) as u32;
     let x = t % cols;
     let y = t / cols;
     let mut w = Weight {
@@ -98,11 +101,11 @@ pub(crate) fn weigh(
         left: TILE_WORDS - LIST_START,
         slots: true,
     };
-    let mut p = 0u32;
-    while p < n {
-        let put = on_path(paths, paints, backdrops, stored, tally, x, y, p);
+    let mut j = 0usize;
+    while j < n {
+        let put = on_path(paths, paints, backdrops, stored, tally, x, y, near[j]);
         w = weigh_put(w, room, put);
-        p += 1;
+        j += 1;
     }
     w
 }

@@ -2,7 +2,7 @@
 use crate::raw;
 use crate::refusal::{answered, Refused, UNTOLD};
 use crate::stages::Running;
-use std::fmt;
+use core::fmt;
 
 /// The part of a frame that refused.
 #[derive(Clone, Copy, Debug, PartialEq, Eq, Hash)]
@@ -37,11 +37,31 @@ pub struct FrameStopped {
 
 impl fmt::Display for FrameStopped {
     fn fmt(&self, f: &mut fmt::Formatter<'_>) -> fmt::Result {
-        write!(f, "{:?}: {}", self.stage, self.refused)
+        let what = match self.stage {
+            Stage::Lent => "what was lent was refused; path",
+            Stage::Count => "counting stopped at line",
+            Stage::Sums => "the sums stopped at path",
+            Stage::HandOut => "hand-out stopped; item",
+            Stage::Tile => "tiling stopped at reference",
+        };
+        write!(f, "{what} {}: {}", self.refused.item, self.refused.refusal)
     }
 }
 
-impl std::error::Error for FrameStopped {}
+impl FrameStopped {
+    /// The line that was refused, if it was a line: the item in counting, and in tiling the line of the
+    /// item's reference. Its path number says whose it is: `path_nos[line]` is the channel to show as faulty.
+    pub fn line(&self, refs: &[u32]) -> Option<usize> {
+        let item = self.refused.item as usize;
+        match self.stage {
+            Stage::Count => Some(item),
+            Stage::Tile => refs.get(crate::REF_WORDS * item).map(|line| *line as usize),
+            _ => None,
+        }
+    }
+}
+
+impl core::error::Error for FrameStopped {}
 
 /// Draws all lines into tiles and segments: backdrops and counts are cleared, the lines counted, the
 /// backdrops summed, slots handed out with room for the segments lent, and every reference tiled.
@@ -65,6 +85,13 @@ impl std::error::Error for FrameStopped {}
 ///     &path_nos, &coords, &paths, &mut backdrops, &mut stored, &mut tally, &mut refs, &mut segments[..5],
 /// ).unwrap_err();
 /// assert_eq!((stopped.stage, stopped.refused.refusal), (Stage::HandOut, Refusal::NoRoom));
+///
+/// // A coordinate that is no number: counting stops, and says at which line.
+/// let stopped = frame(
+///     &path_nos, &[8.0, 8.0, f32::NAN, 24.0], &paths, &mut backdrops, &mut stored, &mut tally, &mut refs, &mut segments,
+/// ).unwrap_err();
+/// assert_eq!(stopped.to_string(), "counting stopped at line 0: refusal 6: a coordinate not finite, or over 65,536 in size");
+/// assert_eq!(stopped.line(&refs), Some(0));
 /// ```
 #[allow(clippy::too_many_arguments)]
 pub fn frame(

@@ -100,4 +100,26 @@ extern "C" {
         segments: *const f32, segments_len: usize,
         tile: u32, column: u32, row: u32, pixel: &mut u32,
     ) -> u32;
+
+    pub fn gp_recount(
+        path: u32,
+        line_nos: *const u32, line_nos_len: usize,
+        path_nos: *const u32, path_nos_len: usize,
+        coords: *const f32, coords_len: usize,
+        paths: *const u32, paths_len: usize,
+        backdrops: *mut i32, backdrops_len: usize,
+        counts: *mut u32, counts_len: usize,
+        refs: *mut u32, refs_len: usize,
+        kept_backdrops: *mut i32, kept_backdrops_len: usize,
+        kept_counts: *mut u32, kept_counts_len: usize,
+        made: &mut u32, item: &mut u32,
+    ) -> u32;
+
+    pub fn gp_svg_lines(
+        text: *const u8, text_len: usize,
+        depth: u32, path: u32,
+        path_nos: *mut u32, path_nos_len: usize,
+        coords: *mut f32, coords_len: usize,
+        lines: &mut usize, place: &mut usize,
+    ) -> u32;
 }

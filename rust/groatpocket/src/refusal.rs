@@ -1,5 +1,5 @@
 //! Why a call refuses, and of what.
-use std::fmt;
+use core::fmt;
 
 /// Why a call refused.
 #[derive(Clone, Copy, Debug, PartialEq, Eq, Hash)]
@@ -21,7 +21,7 @@ pub enum Refusal {
     NoSuch = 7,
     /// 8: a step number or a tile's count over its limit.
     CountOver = 8,
-    /// 9: no room for references, slots, regions of commands or a file.
+    /// 9: no room for references, slots, regions of commands, a file or lines.
     NoRoom = 9,
     /// 10: a step outside its path's box.
     Outside = 10,
@@ -43,23 +43,72 @@ pub enum Refusal {
     BadFile = 18,
     /// 19: a pixel's column or row over 15.
     OffTile = 19,
+    /// 20: a fill's segment with an end outside 0 to 16, or a y_edge not finite.
+    BadSegment = 20,
+    /// 21: a text that is no path data of SVG.
+    BadText = 21,
+    /// 22: a curve halved more than 6 times.
+    TooDeep = 22,
 }
 
 impl Refusal {
-    /// All of them; number n stands at n - 1.
+    /// All of them, by their numbers.
     #[rustfmt::skip]
-    pub const ALL: [Refusal; 19] = {
+    pub const ALL: [Refusal; 22] = {
         use Refusal::*;
         [
             NotWhole, TooMany, BadBox, BadRange, LineNumber, Coordinate, NoSuch, CountOver, NoRoom,
             Outside, SumOver, Crooked, PastEnd, Unknown, TooLong, BadScreen, BadSize, BadFile,
-            OffTile,
+            OffTile, BadSegment, BadText, TooDeep,
         ]
     };
 
     /// The rules' number.
     pub fn number(self) -> u32 {
         self as u32
+    }
+
+    /// What it is for, in words: the same as the header's `gp_refusal_text`.
+    #[rustfmt::skip]
+    pub fn text(self) -> &'static str {
+        use Refusal::*;
+        match self {
+            NotWhole => "no whole records, paired slices that differ, or a bad range",
+            TooMany => "too many paths, tiles or screen tiles",
+            BadBox => "a box edge over 4,096, or edges the wrong way round",
+            BadRange => "a path's first tile before the end of the path before it, or tiles past the end",
+            LineNumber => "counting: line number 65,536 or more",
+            Coordinate => "a coordinate not finite, or over 65,536 in size",
+            NoSuch => "no such path; in a reference, no such line or a skipped one",
+            CountOver => "a step number or a tile's count over its limit",
+            NoRoom => "no room for references, slots, regions of commands or a file",
+            Outside => "a step outside its path's box",
+            SumOver => "a backdrop or a running sum leaves 32 bits",
+            Crooked => "a segment end outside its tile",
+            PastEnd => "command words or segments past the end of those lent",
+            Unknown => "an unknown command",
+            TooLong => "over 4,096 commands on one tile",
+            BadScreen => "a screen too narrow, or too few pixels",
+            BadSize => "a picture's width or height outside 1 to 16,384",
+            BadFile => "no P6 file: another header, or bytes missing or left over",
+            OffTile => "a pixel's column or row over 15",
+            BadSegment => "a fill's segment with an end outside 0..16, or a y_edge not finite",
+            BadText => "a text that is no path data of SVG",
+            TooDeep => "a curve halved more than 6 times",
+        }
+    }
+
+    /// The refusal of that number; none for 0, which is done.
+    pub(crate) fn of(number: u32) -> Option<Refusal> {
+        let known = Refusal::ALL.into_iter().find(|r| r.number() == number);
+        assert!(known.is_some() || number == 0, "no refusal has number {number}");
+        known
+    }
+}
+
+impl fmt::Display for Refusal {
+    fn fmt(&self, f: &mut fmt::Formatter<'_>) -> fmt::Result {
+        write!(f, "refusal {}: {}", self.number(), self.text())
     }
 }
 
@@ -74,21 +123,20 @@ pub struct Refused {
 
 impl fmt::Display for Refused {
     fn fmt(&self, f: &mut fmt::Formatter<'_>) -> fmt::Result {
-        write!(f, "refused with {} ({:?}) at item {}", self.refusal.number(), self.refusal, self.item)
+        write!(f, "{}; item {}", self.refusal, self.item)
     }
 }
 
-impl std::error::Error for Refused {}
+impl core::error::Error for Refused {}
 
 /// What an item holds before a call: each call writes it, 0 where it is done.
 pub(crate) const UNTOLD: u32 = u32::MAX;
 
 /// A call's number and item as a result.
 pub(crate) fn answered(number: u32, item: u32) -> Result<(), Refused> {
-    let Some(place) = number.checked_sub(1) else {
+    let Some(refusal) = Refusal::of(number) else {
         debug_assert_eq!(item, 0, "an item where nothing is refused");
         return Ok(());
     };
-    let refusal = Refusal::ALL[place as usize];
     Err(Refused { refusal, item })
 }

@@ -1,7 +1,7 @@
 //! The stages of a frame, one call each: counting in batches, sums, slots, segments.
 use crate::raw;
 use crate::refusal::{answered, Refused, UNTOLD};
-use std::fmt;
+use core::fmt;
 
 /// The running numbers of counting: lines so far and references so far.
 #[derive(Clone, Copy, Debug, Default, PartialEq, Eq, Hash)]
@@ -23,11 +23,15 @@ pub struct Stopped {
 
 impl fmt::Display for Stopped {
     fn fmt(&self, f: &mut fmt::Formatter<'_>) -> fmt::Result {
-        write!(f, "{}, {} lines counted", self.refused, self.running.lines)
+        write!(
+            f,
+            "{}; {} lines and {} references counted",
+            self.refused, self.running.lines, self.running.references
+        )
     }
 }
 
-impl std::error::Error for Stopped {}
+impl core::error::Error for Stopped {}
 
 /// Counts the lines from `running.lines` up to `end` into `backdrops` and `counts`, and writes their
 /// references. It stops before the first line refused.

@@ -12,11 +12,36 @@ fn counted(coords: &[f32], paths: &[u32], refs: &mut [u32]) -> Result<Running, S
 
 #[test]
 fn numbers_and_names_agree() {
-    for (k, refusal) in Refusal::ALL.iter().enumerate() {
-        assert_eq!(refusal.number() as usize, k + 1);
-    }
+    let numbers: Vec<u32> = Refusal::ALL.iter().map(|r| r.number()).collect();
+    assert!(numbers.is_sorted_by(|a, b| a < b) && numbers[0] == 1, "{numbers:?}");
     let refused = Refused { refusal: Refusal::Outside, item: 3 };
-    assert_eq!(refused.to_string(), "refused with 10 (Outside) at item 3");
+    assert_eq!(refused.to_string(), "refusal 10: a step outside its path's box; item 3");
+}
+
+#[cfg(feature = "svg")]
+#[test]
+fn an_outline_is_read_or_refused_at_its_place() {
+    let (mut path_nos, mut coords) = ([7; 6], [0.5; 24]);
+    // a curve of two lines, then the line back, and a second outline that draws nothing
+    assert_eq!(svg_lines(b"M0,0 q8 16 16,0 M5 5", 1, 2, &mut path_nos, &mut coords), Ok(3));
+    assert_eq!(path_nos, [2, 2, 2, 7, 7, 7]);
+    assert_eq!(coords[..12], [0.0, 0.0, 8.0, 8.0, 8.0, 8.0, 16.0, 0.0, 16.0, 0.0, 0.0, 0.0]);
+    assert_eq!(coords[12..], [0.5; 12]);
+    let before = (path_nos, coords);
+    let mut refused = |text: &[u8], depth, room| {
+        let no =
+            svg_lines(text, depth, 2, &mut path_nos[..room], &mut coords[..LINE_FLOATS * room]).unwrap_err();
+        assert_eq!((path_nos, coords), before, "a refusal wrote");
+        (no.refusal.number(), no.place)
+    };
+    assert_eq!(refused(b"?", 7, 1), (22, 0));
+    assert_eq!(refused(b"M1 2,", 0, 6), (21, 5));
+    assert_eq!(refused(b"M1234567 2", 0, 6), (21, 7));
+    assert_eq!(refused(b"M0 0h1z", 0, 1), (9, 0));
+    let no = svg_lines(b"?", 0, 2, &mut path_nos, &mut coords[..23]).unwrap_err();
+    assert_eq!((no.refusal, no.place), (Refusal::NotWhole, 0));
+    let no = svg_lines(b"L", 0, 2, &mut path_nos, &mut coords).unwrap_err();
+    assert_eq!(no.to_string(), "refusal 21: a text that is no path data of SVG; byte 0");
 }
 
 #[test]
@@ -187,6 +212,42 @@ fn nineteen_comes_first() {
     assert_eq!(number(pixel_area(&[0.0], one, 16, 0)), 19);
     assert_eq!(number(pixel_area(&[0.0], one, 0, 0)), 1);
     assert_eq!(number(pixel_area(&[], one, 0, 0)), 13);
+}
+
+/// A fill of three segments, the second with one float altered: 20 in every call that takes it, and nothing changes.
+#[test]
+fn twenty_at_every_border() {
+    let within = [0.0, -0.0, f32::from_bits(1), 15.999999, 16.0];
+    let outside = [-f32::from_bits(1), 16.000002, f32::MAX, f32::NEG_INFINITY, f32::INFINITY, f32::NAN];
+    let edges = [f32::NEG_INFINITY, f32::INFINITY, f32::NAN];
+    let three = Fill { first: 0, number: 3, even_odd: false, backdrop: 0, x_tile: 0.0, y_tile: 0.0 };
+    let words = [0, 1, 6, 0, 0, 3, 0xffff_ffff, 0];
+    let screen = Screen { width: 16, cols: 1, rows: 1 };
+    let asked = |at: usize, v: f32| {
+        let mut segments = [1.0, 2.0, 3.0, 4.0, 1e9].repeat(3);
+        segments[5 + at] = v;
+        let (mut area, mut pixels) = ([7.0; 256], [7; 256]);
+        let number = |r: Result<(), Refused>| r.map_or_else(|no| no.refusal.number(), |()| 0);
+        let all = [
+            number(fill(&segments, three, &mut area)),
+            number(fine(&words, &segments, screen, 0, 1, &mut pixels)),
+            number(pixel_area(&segments, three, 3, 3).map(|_| ())),
+            number(pixel(&words, &segments, 0, 3, 3).map(|_| ())),
+        ];
+        assert_eq!(
+            fill(&segments, Fill { number: 1, ..three }, &mut [7.0; 256]),
+            Ok(()),
+            "one that the fill doesn't name"
+        );
+        let kept = area == [7.0; 256] && pixels == [7; 256];
+        (all, kept)
+    };
+    for at in 0..4 {
+        within.iter().for_each(|&v| assert_eq!(asked(at, v), ([0; 4], false), "float {at}: {v}"));
+        outside.iter().for_each(|&v| assert_eq!(asked(at, v), ([20; 4], true), "float {at}: {v}"));
+    }
+    edges.iter().for_each(|&v| assert_eq!(asked(4, v), ([20; 4], true), "y_edge {v}"));
+    [-f32::MAX, f32::MAX].iter().for_each(|&v| assert_eq!(asked(4, v), ([0; 4], false), "y_edge {v}"));
 }
 
 #[cfg(feature = "picture")]

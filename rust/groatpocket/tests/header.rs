@@ -44,6 +44,63 @@ fn refusals() {
     }
 }
 
+/// `gp_refusal_text` of the header says what `Refusal::text` says, of each refusal and of no other.
+#[test]
+fn texts() {
+    let header = text("include/groatpocket.h");
+    let said = header.lines().filter_map(|l| l.trim().strip_prefix("case GP_")?.split_once(": return \""));
+    let said: Vec<(&str, &str)> = said.map(|(name, words)| (name, words.trim_end_matches("\";"))).collect();
+    let ours = Refusal::ALL.iter().map(|r| (shouted(&format!("{r:?}")), r.text()));
+    let ours: Vec<(String, &str)> = [("DONE".to_string(), "done")].into_iter().chain(ours).collect();
+    assert_eq!(said.len(), ours.len());
+    for (said, ours) in said.iter().zip(&ours) {
+        assert_eq!(*said, (ours.0.as_str(), ours.1));
+    }
+}
+
+/// Each limit of the proved code is a GP_MAX_ of the header, and the header has no other.
+#[test]
+fn limits() {
+    let depth = text("crates/svg_outline/src/steps.rt");
+    let depth: String = depth.lines().filter(|l| l.starts_with("pub const DEPTH_MOST")).collect();
+    let code = text("crates/panel/src/limits.rt") + &depth;
+    let named = |name: &str| format!("MAX_{}", name.replace("MOST_", "").replace("_MOST", ""));
+    let header = header();
+    let (whole, float) = (numbers(&code, "pub const ", ": u32 = "), numbers(&code, "pub const ", ": f32 = "));
+    for (name, number) in whole.iter().chain(&float) {
+        assert_eq!(header.get(&named(name)), Some(number), "{name}");
+    }
+    let most = header.keys().filter(|n| n.starts_with("MAX_")).count();
+    assert_eq!(most, whole.len() + float.len());
+    assert_eq!(most, code.matches("pub const ").count(), "a limit of another type");
+}
+
+#[test]
+fn the_tile() {
+    let code = numbers(&text("crates/coverage/src/tile.rt"), "pub const ", ": usize = ");
+    let side = TILE_SIDE as u32;
+    assert_eq!((header()["TILE"], code["TILE_WIDTH"], code["TILE_HEIGHT"]), (side, side, side));
+    assert_eq!(code["TILE_SIZE"] as usize, TILE_PIXELS);
+}
+
+/// One version: the header's text and number, the archive's own, this crate's, and the newest of CHANGELOG.md.
+#[test]
+fn version() {
+    let own = env!("CARGO_PKG_VERSION");
+    let header_text = text("include/groatpocket.h");
+    assert!(header_text.contains(&format!("#define GP_VERSION \"{own}\"\n")), "{own}");
+    let parts: Vec<u32> = own.split('.').map(|p| p.parse().unwrap()).collect();
+    let number = 10_000 * parts[0] + 100 * parts[1] + parts[2];
+    let code = numbers(&text("crates/groatpocket/src/call_version.rt"), "pub const ", ": u32 = ");
+    assert_eq!(
+        (header()["VERSION_NUMBER"], code["VERSION_NUMBER"], groatpocket::version()),
+        (number, number, number)
+    );
+    let changes = text("CHANGELOG.md");
+    let newest = changes.lines().find_map(|l| l.strip_prefix("## ")).unwrap();
+    assert!(newest == own || newest.starts_with(&format!("{own},")), "CHANGELOG.md has {newest}");
+}
+
 #[test]
 fn widths_and_commands() {
     let header = header();

@@ -76,6 +76,12 @@ extern uint32_t gp_pixel_area(const float *segments, size_t segments_len, uint32
 #ifdef HAS_PIXEL
 extern uint32_t gp_pixel(const uint32_t *words, size_t words_len, const float *segments, size_t segments_len, uint32_t tile, uint32_t column, uint32_t row, uint32_t *pixel);
 #endif
+#ifdef HAS_RECOUNT
+extern uint32_t gp_recount(uint32_t path, const uint32_t *line_nos, size_t line_nos_len, const uint32_t *path_nos, size_t path_nos_len, const float *coords, size_t coords_len, const uint32_t *paths, size_t paths_len, int32_t *backdrops, size_t backdrops_len, uint32_t *counts, size_t counts_len, uint32_t *refs, size_t refs_len, int32_t *kept_backdrops, size_t kept_backdrops_len, uint32_t *kept_counts, size_t kept_counts_len, uint32_t *made, uint32_t *item);
+#endif
+#ifdef HAS_SVG
+extern uint32_t gp_svg_lines(const uint8_t *text, size_t text_len, uint32_t depth, uint32_t path, uint32_t *path_nos, size_t path_nos_len, float *coords, size_t coords_len, size_t *lines, size_t *place);
+#endif
 
 static uint32_t run(uint32_t which) {
     uint32_t *n = numbers;
@@ -156,6 +162,22 @@ static uint32_t run(uint32_t which) {
 #ifdef HAS_PIXEL
     case 12: { /* pixel */
         uint32_t answer = gp_pixel(SLICE(0, uint32_t), SLICE(1, float), (uint32_t)n[0], (uint32_t)n[1], (uint32_t)n[2], &n[3]);
+        return answer;
+    }
+#endif
+#ifdef HAS_RECOUNT
+    case 13: { /* recount */
+        uint32_t answer = gp_recount((uint32_t)n[0], SLICE(0, uint32_t), SLICE(1, uint32_t), SLICE(2, float), SLICE(3, uint32_t), SLICE(4, int32_t), SLICE(5, uint32_t), SLICE(6, uint32_t), SLICE(7, int32_t), SLICE(8, uint32_t), &n[1], &n[2]);
+        return answer;
+    }
+#endif
+#ifdef HAS_SVG
+    case 14: { /* svg_lines */
+        size_t lines = n[2];
+        size_t place = n[3];
+        uint32_t answer = gp_svg_lines(SLICE(0, uint8_t), (uint32_t)n[0], (uint32_t)n[1], SLICE(1, uint32_t), SLICE(2, float), &lines, &place);
+        n[2] = (uint32_t)lines;
+        n[3] = (uint32_t)place;
         return answer;
     }
 #endif

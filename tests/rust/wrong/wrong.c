@@ -136,6 +136,38 @@ uint32_t __wrap_gp_pixel(const uint32_t *words, size_t words_len, const float *s
     return answer;
 }
 
+uint32_t __real_gp_recount(uint32_t path, const uint32_t *line_nos, size_t line_nos_len, const uint32_t *path_nos, size_t path_nos_len, const float *coords, size_t coords_len, const uint32_t *paths, size_t paths_len, int32_t *backdrops, size_t backdrops_len, uint32_t *counts, size_t counts_len, uint32_t *refs, size_t refs_len, int32_t *kept_backdrops, size_t kept_backdrops_len, uint32_t *kept_counts, size_t kept_counts_len, uint32_t *made, uint32_t *item);
+uint32_t __wrap_gp_recount(uint32_t path, const uint32_t *line_nos, size_t line_nos_len, const uint32_t *path_nos, size_t path_nos_len, const float *coords, size_t coords_len, const uint32_t *paths, size_t paths_len, int32_t *backdrops, size_t backdrops_len, uint32_t *counts, size_t counts_len, uint32_t *refs, size_t refs_len, int32_t *kept_backdrops, size_t kept_backdrops_len, uint32_t *kept_counts, size_t kept_counts_len, uint32_t *made, uint32_t *item) {
+    uint32_t answer = __real_gp_recount(path, line_nos, line_nos_len, path_nos, path_nos_len, coords, coords_len, paths, paths_len, backdrops, backdrops_len, counts, counts_len, refs, refs_len, kept_backdrops, kept_backdrops_len, kept_counts, kept_counts_len, made, item);
+    if (strikes("recount backdrops", answer == 0 && backdrops_len > 0)) flip(backdrops + backdrops_len / 2);
+    if (strikes("recount backdrops refused", answer != 0 && backdrops_len > 0)) flip(backdrops + backdrops_len / 2);
+    if (strikes("recount counts", answer == 0 && counts_len > 0)) flip(counts + counts_len / 2);
+    if (strikes("recount counts refused", answer != 0 && counts_len > 0)) flip(counts + counts_len / 2);
+    if (strikes("recount refs", answer == 0 && refs_len > 0)) flip(refs + refs_len / 2);
+    if (strikes("recount refs refused", answer != 0 && refs_len > 0)) flip(refs + refs_len / 2);
+    if (strikes("recount kept_backdrops", answer == 0 && kept_backdrops_len > 0)) flip(kept_backdrops + kept_backdrops_len / 2);
+    if (strikes("recount kept_backdrops refused", answer != 0 && kept_backdrops_len > 0)) flip(kept_backdrops + kept_backdrops_len / 2);
+    if (strikes("recount kept_counts", answer == 0 && kept_counts_len > 0)) flip(kept_counts + kept_counts_len / 2);
+    if (strikes("recount kept_counts refused", answer != 0 && kept_counts_len > 0)) flip(kept_counts + kept_counts_len / 2);
+    if (strikes("recount made", 1)) *made += 1;
+    if (strikes("recount item", answer != 0)) *item += 1;
+    if (strikes("recount answer", 1)) answer ^= 1;
+    return answer;
+}
+
+uint32_t __real_gp_svg_lines(const uint8_t *text, size_t text_len, uint32_t depth, uint32_t path, uint32_t *path_nos, size_t path_nos_len, float *coords, size_t coords_len, size_t *lines, size_t *place);
+uint32_t __wrap_gp_svg_lines(const uint8_t *text, size_t text_len, uint32_t depth, uint32_t path, uint32_t *path_nos, size_t path_nos_len, float *coords, size_t coords_len, size_t *lines, size_t *place) {
+    uint32_t answer = __real_gp_svg_lines(text, text_len, depth, path, path_nos, path_nos_len, coords, coords_len, lines, place);
+    if (strikes("svg_lines path_nos", answer == 0 && path_nos_len > 0)) flip(path_nos + path_nos_len / 2);
+    if (strikes("svg_lines path_nos refused", answer != 0 && path_nos_len > 0)) flip(path_nos + path_nos_len / 2);
+    if (strikes("svg_lines coords", answer == 0 && coords_len > 0)) flip(coords + coords_len / 2);
+    if (strikes("svg_lines coords refused", answer != 0 && coords_len > 0)) flip(coords + coords_len / 2);
+    if (strikes("svg_lines lines", 1)) *lines += 1;
+    if (strikes("svg_lines place", 1)) *place += 1;
+    if (strikes("svg_lines answer", 1)) answer ^= 1;
+    return answer;
+}
+
 #ifndef BRIDGED /* over the bridge the helpers are no functions of their own */
 
 float __real_gp_floor(float x);

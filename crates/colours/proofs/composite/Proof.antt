@@ -5,7 +5,7 @@ use lib.ListN.{getD}
 use denote.Ref.{now}
 use lib.Ieee.{Float, nan}
 use Rattle.coverage.specs.Tile.{tileSize}
-use Rattle.coverage.proofs.Turn.{Done, begun, turned, ended}
+use Rattle.ranges.proofs.Turn.{Done, begun, turned, ended}
 use Rattle.colours.specs.Colour.{overOf, compositeOf}
 use native.Mathlib.Omega.{arith}
 use borrow.Author.Needs.{needs}

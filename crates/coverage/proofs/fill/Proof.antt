@@ -4,34 +4,34 @@ use mir.ValLaws.{toZ-ofZ}
 use mathlib.Core.Path.{_≡_, sym, ap, _∙_}
 use mathlib.Core.Bool.{Bool}
 use mathlib.Core.List.{List}
-use Prim.Native.Nat.{ℕ, _+_, _*_, _/_, _≤_}
-use native.Mathlib.Omega.{arith}
+use Prim.Native.Nat.{ℕ, _+_, _*_, _≤_}
 use lib.IntN.{ℤ}
 use lib.ListN.{length}
 use denote.Ref.{now}
 use lib.Ieee.{Float}
-use borrow.Author.Tests.{eqb-true, leb-true}
+use borrow.Author.Tests.{eqb-true}
 use Rattle.panel.specs.Widths.{segmentFloats}
 use Rattle.panel.specs.Checks.{firstNo}
-use Rattle.panel.proofs.CheckLaws.{all-ok}
+use Rattle.panel.proofs.CheckLaws.{all-ok, none-fails}
 use Rattle.panel.specs.declared.kinds.Answer.the-variants.{Done, Refused}
 use Rattle.panel.specs.declared.kinds.Verdict.{Verdict}
 use Rattle.panel.specs.declared.kinds.Verdict.the-variants.{Fine, Against}
 use Rattle.coverage.specs.Tile.{tileSize}
 use Rattle.coverage.specs.Coverage.{coverageOf}
+use Rattle.coverage.specs.Ground.{groundChecks}
 use Rattle.coverage.specs.Fill.{fillChecks, filled, fillOf}
+use Rattle.coverage.proofs.Grounds.{ground-room}
 use borrow.Author.Needs.{needs}
 use Rattle.coverage.proofs.fill.Statement.{statement}
 use Rattle.coverage.proofs.fill.Tie as tie
 
 -- what the checks say, where none fails
-checked : (s a first n : ℕ) → firstNo (fillChecks s a first n) ≡ Fine → (a ≡ tileSize) × (segmentFloats * (first + n) ≤ s)
-checked s a first n e =
-    let ok = all-ok (fillChecks s a first n) e in
-    let h : first + n ≤ s / segmentFloats = leb-true _ _ (ok .1 .1 .0) in
-    (eqb-true _ _ (ok .1 .0), omega arith)
+checked : (segs : List Float) (a first n : ℕ) → firstNo (fillChecks segs a first n) ≡ Fine → (a ≡ tileSize) × (segmentFloats * (first + n) ≤ length segs)
+checked segs a first n e =
+    let ok = all-ok (fillChecks segs a first n) e in
+    (eqb-true _ _ (ok .1 .0), ground-room segs first n (none-fails (groundChecks segs first n) (ok .1 .1)))
 
-module _ (segs : List Float) (first n : ℕ) (eo : Bool) (z : ℤ) (xt yt : Float) (area : List Float) (v : Verdict) (e : v ≡ firstNo (fillChecks (length segs) (length area) first n)) where
+module _ (segs : List Float) (first n : ℕ) (eo : Bool) (z : ℤ) (xt yt : Float) (area : List Float) (v : Verdict) (e : v ≡ firstNo (fillChecks segs (length area) first n)) where
   no : (k : ℕ) → v ≡ Against k → filled (Refused k 0) area ≡ fillOf segs first n eo z xt yt area
   unfolding fillOf
   no k f = rw (sym e ∙ f)
@@ -53,7 +53,7 @@ enum-told : tie.Need-enum-told
 enum-told c = search needs
 
 fill-path-requires : tie.Need-fill-path-requires
-fill-path-requires c κs = checked _ _ _ _ (sym (c .before .before .before .check-fill .ensures) ∙ c .before .enum-told .given .1)
+fill-path-requires c κs = checked (now (c .before .before .before .before .before .before .args .segments)) _ _ _ (sym (c .before .before .before .check-fill .ensures) ∙ c .before .enum-told .given .1)
 
 same-length : tie.Need-same-length
 same-length c = search needs

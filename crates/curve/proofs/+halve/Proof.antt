@@ -82,7 +82,11 @@ halve-halve-requires : (t : ℕ) → halve-lts.Need-halve-requires (
   halve-below t,
   halve.Post,
 ) (halve-at t) halve.Post
-halve-halve-requires t c κs = (falls-to _ _ (c .before .before .before .if1 .left) (c .before .before .before .before .before .pre .0), room _ _ _ (c .before .before .before .if1 .left) (c .before .before .before .before .before .pre .1))
+halve-halve-requires t c κs = (
+  falls-to _ _ (c .before .before .before .if1 .left) (c .before .before .before .before .before .pre .0),
+  room _ _ _ (c .before .before .before .if1 .left)
+      (c .before .before .before .before .before .pre .1),
+)
 
 halve-halve-requires-2 : (t : ℕ) → halve-lts.Need-halve-requires-2 (
   put-reads.Asked,
@@ -94,7 +98,11 @@ halve-halve-requires-2 : (t : ℕ) → halve-lts.Need-halve-requires-2 (
   halve-below t,
   halve.Post,
 ) (halve-at t) halve.Post
-halve-halve-requires-2 t c κs = (falls-to _ _ (c .before .before .before .before .before .before .before .if1 .left) (c .before .before .before .before .before .before .before .before .before .pre .0), room-after _ _ _ _ _ _ (c .before .before .before .before .before .before .before .if1 .left) (c .before .before .before .before .before .before .before .before .before .pre .1) (c .before .before .before .halve .ensures .0) (c .before .before .before .halve .ensures .1))
+halve-halve-requires-2 t c κs = (
+  falls-to _ _ (c .before .before .before .before .before .before .before .if1 .left) (c .before .before .before .before .before .before .before .before .before .pre .0),
+  room-after _ _ _ _ _ _ (c .before .before .before .before .before .before .before .if1 .left) (c .before .before .before .before .before .before .before .before .before .pre .1)
+      (c .before .before .before .halve .ensures .0) (c .before .before .before .halve .ensures .1),
+)
 
 halve-same-length : (t : ℕ) → halve-lts.Need-same-length (
   put-reads.Asked,
@@ -118,7 +126,11 @@ halve-returns : (t : ℕ) → halve-lts.Need-returns (
   halve-below t,
   halve.Post,
 ) (halve-at t) halve.Post
-halve-returns t c = (zero-next _ _ _ (c .before .before .before .before .if1 .taken) (c .before .before .put .ensures .0), zero-done _ _ _ _ _ (c .before .before .before .before .if1 .taken) (c .before .before .put .ensures .1))
+halve-returns t c = (
+  zero-next _ _ _ (c .before .before .before .before .if1 .taken) (c .before .before .put .ensures .0),
+  zero-done _ _ _ _ _ (c .before .before .before .before .if1 .taken)
+      (c .before .before .put .ensures .1),
+)
 
 halve-same-length-2 : (t : ℕ) → halve-lts.Need-same-length-2 (
   put-reads.Asked,
@@ -142,7 +154,13 @@ halve-returns-2 : (t : ℕ) → halve-lts.Need-returns-2 (
   halve-below t,
   halve.Post,
 ) (halve-at t) halve.Post
-halve-returns-2 t c = (next-is _ _ _ _ (c .before .before .before .before .before .before .before .before .before .before .if1 .left) (c .before .before .before .before .before .before .halve .ensures .0) (c .before .before .halve2 .ensures .0), done-is _ _ _ _ _ _ _ _ _ (c .before .before .before .before .before .before .before .before .before .before .if1 .left) (c .before .before .before .before .before .before .before .before .before .left .ensures) (c .before .before .before .before .before .before .before .before .right .ensures) (c .before .before .before .before .before .before .halve .ensures .0) (c .before .before .before .before .before .before .halve .ensures .1) (c .before .before .halve2 .ensures .1))
+halve-returns-2 t c = (
+  next-is _ _ _ _ (c .before .before .before .before .before .before .before .before .before .before .if1 .left) (c .before .before .before .before .before .before .halve .ensures .0)
+      (c .before .before .halve2 .ensures .0),
+  done-is _ _ _ _ _ _ _ _ _ (c .before .before .before .before .before .before .before .before .before .before .if1 .left)
+      (c .before .before .before .before .before .before .before .before .before .left .ensures) (c .before .before .before .before .before .before .before .before .right .ensures)
+      (c .before .before .before .before .before .before .halve .ensures .0) (c .before .before .before .before .before .before .halve .ensures .1) (c .before .before .halve2 .ensures .1),
+)
 
 pub +halve-spec : {M : Type 1} → statement M
 +halve-spec = close μ-halve λ t. halve-lts.spec (

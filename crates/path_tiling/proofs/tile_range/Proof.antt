@@ -25,17 +25,8 @@ slots-of-requires c κs = search needs
 loop-holds : tie.Need-loop-holds Inv-loop μ-loop
 loop-holds c = record { low = le-refl _; high = c .before .before .before .before .before .before .before .pre .forward; long = refl; left = refl }
 
-cast-at : tie.Need-cast-at Inv-loop μ-loop
-cast-at c = search needs
-
-mul-at : tie.Need-mul-at Inv-loop μ-loop
-mul-at c = search needs
-
-mul-named : tie.Need-mul-named Inv-loop μ-loop
-mul-named c = search needs
-
-shared-slice-read-named : tie.Need-shared-slice-read-named Inv-loop μ-loop
-shared-slice-read-named c = omega (arith, c .before .before .before .before .before .before .before .before .before .before .pre .there, c .before .loop-test .taken)
+named-at-requires : tie.Need-named-at-requires Inv-loop μ-loop
+named-at-requires c κs = omega (arith, c .before .before .before .before .before .before .before .before .before .pre .there, c .loop-test .taken)
 
 found-at-requires : tie.Need-found-at-requires Inv-loop μ-loop
 found-at-requires c κs = c .before .before .before .before .before .before .before .before .before .before .pre .lines
@@ -57,18 +48,18 @@ same-length : tie.Need-same-length Inv-loop μ-loop
 same-length c = search needs
 
 returns : tie.Need-returns Inv-loop μ-loop
-returns c = halted _ _ _ _ _ _ _ (c .before .before .before .before .before .before .before .before .before .before .loop .inv) _ _ _ (rw (c .before .before .before .before .before .before .before .found-at .ensures) at (c .before .before .before .before .before .tile-run .ensures)) (c .before .answer .given .1) (c .before .before .before .before .before .before .before .before .before .before .before .slots-of .ensures)
+returns c = halted _ _ _ _ _ _ _ (c .before .before .before .before .before .before .before .before .before .before .loop .inv) _ _ _ (rw (c .before .before .before .before .before .before .before .found-at .ensures, c .before .before .before .before .before .before .before .before .named-at .ensures) at (c .before .before .before .before .before .tile-run .ensures)) (c .before .answer .given .1) (c .before .before .before .before .before .before .before .before .before .before .before .slots-of .ensures)
 
 enum-told : tie.Need-enum-told Inv-loop μ-loop
 enum-told c = search needs
 
 loop-less : tie.Need-loop-less Inv-loop μ-loop
 loop-less c =
-    let l = less _ _ _ _ _ _ _ (c .before .before .before .before .before .before .before .before .before .loop .inv) _ (c .before .before .before .before .before .before .before .before .loop-test .taken) (rw (c .before .before .before .before .before .before .found-at .ensures) at (c .before .before .before .before .tile-run .ensures)) (c .enum-told .given .1) in
+    let l = less _ _ _ _ _ _ _ (c .before .before .before .before .before .before .before .before .before .loop .inv) _ (c .before .before .before .before .before .before .before .before .loop-test .taken) (rw (c .before .before .before .before .before .before .found-at .ensures, c .before .before .before .before .before .before .before .named-at .ensures) at (c .before .before .before .before .tile-run .ensures)) (c .enum-told .given .1) in
     omega (arith, l, c .before .before .before .before .before .before .before .before .loop-test .taken)
 
 loop-again : tie.Need-loop-again Inv-loop μ-loop
-loop-again c = on _ _ _ _ _ _ _ (c .before .before .before .before .before .before .before .before .before .loop .inv) _ (c .before .before .before .before .before .before .before .before .loop-test .taken) (rw (c .before .before .before .before .before .before .found-at .ensures) at (c .before .before .before .before .tile-run .ensures)) (c .enum-told .given .1)
+loop-again c = on _ _ _ _ _ _ _ (c .before .before .before .before .before .before .before .before .before .loop .inv) _ (c .before .before .before .before .before .before .before .before .loop-test .taken) (rw (c .before .before .before .before .before .before .found-at .ensures, c .before .before .before .before .before .before .before .named-at .ensures) at (c .before .before .before .before .tile-run .ensures)) (c .enum-told .given .1)
 
 same-length-2 : tie.Need-same-length-2 Inv-loop μ-loop
 same-length-2 c = search needs
@@ -84,10 +75,7 @@ tile-range-spec =
     μ-loop
     slots-of-requires
     loop-holds
-    cast-at
-    mul-at
-    mul-named
-    shared-slice-read-named
+    named-at-requires
     found-at-requires
     tile-run-requires
     enum-known-answer

@@ -4,9 +4,9 @@ use Prim.Native.Nat.{_-_}
 use native.Mathlib.Nat.{le-refl}
 use native.Mathlib.Omega.{arith}
 use mathlib.Core.Path.{_≡_, refl}
-use borrow.Author.Needs.{needs}
 use borrow.Author.Tests.{eq-eqb, ne-eqb}
 use Rattle.path_tiling.proofs.RunLaws.{Running, turned, stopped, other, over}
+use borrow.Author.Needs.{needs}
 use Rattle.path_tiling.proofs.tile_run.Statement.{statement}
 use Rattle.path_tiling.proofs.tile_run.Tie as tie
 
@@ -19,32 +19,17 @@ abbrev μ-loop : tie.MeasureT-loop
 loop-holds : tie.Need-loop-holds Inv-loop μ-loop
 loop-holds c = record { low = le-refl _; high = c .before .before .before .pre .2; long = refl; left = refl }
 
-cast-at : tie.Need-cast-at Inv-loop μ-loop
-cast-at c = search needs
-
-mul-at : tie.Need-mul-at Inv-loop μ-loop
-mul-at c = search needs
-
-mul-named : tie.Need-mul-named Inv-loop μ-loop
-mul-named c = search needs
-
-shared-slice-read-named : tie.Need-shared-slice-read-named Inv-loop μ-loop
-shared-slice-read-named c = omega (arith, c .before .before .before .before .before .before .pre .3, c .before .loop-test .taken)
+named-at-requires : tie.Need-named-at-requires Inv-loop μ-loop
+named-at-requires c κs = omega (arith, c .before .before .before .before .before .pre .3, c .loop-test .taken)
 
 same-length : tie.Need-same-length Inv-loop μ-loop
 same-length c = search needs
 
 returns : tie.Need-returns Inv-loop μ-loop
-returns c = other _ _ _ _ _ _ _ _ _ _ (c .before .before .before .before .loop .inv) (c .before .before .before .loop-test .taken) (ne-eqb _ _ (c .if1 .taken))
+returns c = other _ _ _ _ _ _ _ _ _ _ (c .before .before .before .before .loop .inv) (c .before .before .before .loop-test .taken) (ne-eqb _ _ (rw (c .before .before .named-at .ensures) at (c .if1 .taken)))
 
-add-packed : tie.Need-add-packed Inv-loop μ-loop
-add-packed c = search needs
-
-mul-packed : tie.Need-mul-packed Inv-loop μ-loop
-mul-packed c = search needs
-
-shared-slice-read-packed : tie.Need-shared-slice-read-packed Inv-loop μ-loop
-shared-slice-read-packed c = omega (arith, c .before .before .before .before .before .before .before .before .before .pre .3, c .before .before .before .before .loop-test .taken)
+packed-at-requires : tie.Need-packed-at-requires Inv-loop μ-loop
+packed-at-requires c κs = omega (arith, c .before .before .before .before .before .before .before .before .pre .3, c .before .before .before .loop-test .taken)
 
 tile-one-requires : tie.Need-tile-one-requires Inv-loop μ-loop
 tile-one-requires c κs = (c .before .before .before .before .before .before .before .before .before .before .pre .0, omega (arith, c .before .before .before .before .before .before .before .before .before .before .pre .1, c .before .before .before .before .before .before .loop .inv .long))
@@ -56,7 +41,7 @@ same-length-2 : tie.Need-same-length-2 Inv-loop μ-loop
 same-length-2 c = search needs
 
 returns-2 : tie.Need-returns-2 Inv-loop μ-loop
-returns-2 c = stopped _ _ _ _ _ _ _ _ _ _ (c .before .before .before .before .before .before .before .before .before .before .before .before .loop .inv) _ _ _ (c .before .before .before .before .before .before .before .before .before .before .before .loop-test .taken) (eq-eqb _ _ (c .before .before .before .before .before .before .before .before .if1 .left)) (c .before .before .before .before .before .tile-one .ensures) (c .before .v .given .1)
+returns-2 c = stopped _ _ _ _ _ _ _ _ _ _ (c .before .before .before .before .before .before .before .before .before .before .before .before .loop .inv) _ _ _ (c .before .before .before .before .before .before .before .before .before .before .before .loop-test .taken) (eq-eqb _ _ (rw (c .before .before .before .before .before .before .before .before .before .before .named-at .ensures) at (c .before .before .before .before .before .before .before .before .if1 .left))) (rw (c .before .before .before .before .before .before .before .packed-at .ensures) at (c .before .before .before .before .before .tile-one .ensures)) (c .before .v .given .1)
 
 enum-told : tie.Need-enum-told Inv-loop μ-loop
 enum-told c = search needs
@@ -68,7 +53,7 @@ loop-less : tie.Need-loop-less Inv-loop μ-loop
 loop-less c = omega arith
 
 loop-again : tie.Need-loop-again Inv-loop μ-loop
-loop-again c = turned _ _ _ _ _ _ _ _ _ _ (c .before .before .before .before .before .before .before .before .before .before .before .loop .inv) _ _ (c .before .before .before .before .before .before .before .before .before .before .loop-test .taken) (eq-eqb _ _ (c .before .before .before .before .before .before .before .if1 .left)) (c .before .before .before .before .tile-one .ensures) (c .enum-told .given .1)
+loop-again c = turned _ _ _ _ _ _ _ _ _ _ (c .before .before .before .before .before .before .before .before .before .before .before .loop .inv) _ _ (c .before .before .before .before .before .before .before .before .before .before .loop-test .taken) (eq-eqb _ _ (rw (c .before .before .before .before .before .before .before .before .before .named-at .ensures) at (c .before .before .before .before .before .before .before .if1 .left))) (rw (c .before .before .before .before .before .before .packed-at .ensures) at (c .before .before .before .before .tile-one .ensures)) (c .enum-told .given .1)
 
 same-length-3 : tie.Need-same-length-3 Inv-loop μ-loop
 same-length-3 c = search needs
@@ -83,15 +68,10 @@ tile-run-spec =
     Inv-loop
     μ-loop
     loop-holds
-    cast-at
-    mul-at
-    mul-named
-    shared-slice-read-named
+    named-at-requires
     same-length
     returns
-    add-packed
-    mul-packed
-    shared-slice-read-packed
+    packed-at-requires
     tile-one-requires
     enum-known-v
     same-length-2

@@ -4,21 +4,21 @@ use mir.ValLaws.{toZ-ofZ}
 use mathlib.Core.Path.{_≡_, sym, ap, _∙_}
 use mathlib.Core.Bool.{Bool}
 use mathlib.Core.List.{List}
-use Prim.Native.Nat.{ℕ, _+_, _*_, _/_, _<_, _≤_}
-use native.Mathlib.Omega.{arith}
+use Prim.Native.Nat.{ℕ, _+_, _*_, _<_, _≤_}
 use lib.IntN.{ℤ}
 use lib.ListN.{length}
 use denote.Ref.{now}
 use lib.Ieee.{Float}
-use borrow.Author.Tests.{leb-true}
 use Rattle.panel.specs.Widths.{segmentFloats}
 use Rattle.panel.specs.Checks.{firstNo}
-use Rattle.panel.proofs.CheckLaws.{all-ok}
+use Rattle.panel.proofs.CheckLaws.{all-ok, none-fails}
 use Rattle.panel.specs.declared.kinds.Verdict.{Verdict}
 use Rattle.panel.specs.declared.kinds.Verdict.the-variants.{Fine, Against}
 use Rattle.coverage.specs.Tile.{tileWidth, tileHeight, tileSize}
 use Rattle.coverage.specs.Coverage.{pixelOf}
+use Rattle.coverage.specs.Ground.{groundChecks}
 use Rattle.coverage.specs.Fill.{fillChecks}
+use Rattle.coverage.proofs.Grounds.{ground-room}
 use Rattle.pixel.specs.Place.{placeAt, placeChecks}
 use Rattle.pixel.specs.Answers.{answered, refusedBy}
 use Rattle.pixel.specs.Coverage.{coverageAtOf}
@@ -28,20 +28,19 @@ use Rattle.pixel.proofs.coverage_at.Statement.{statement}
 use Rattle.pixel.proofs.coverage_at.Tie as tie
 
 -- what the checks say, where none fails
-checked : (s first n column row : ℕ) → firstNo (placeChecks column row) ≡ Fine → firstNo (fillChecks s tileSize first n) ≡ Fine
-    → (segmentFloats * (first + n) ≤ s) × (column < tileWidth) × (row < tileHeight)
-checked s first n column row e f =
-    let ok = all-ok (fillChecks s tileSize first n) f in
-    let h : first + n ≤ s / segmentFloats = leb-true _ _ (ok .1 .1 .0) in
+checked : (segs : List Float) (first n column row : ℕ) → firstNo (placeChecks column row) ≡ Fine → firstNo (fillChecks segs tileSize first n) ≡ Fine
+    → (segmentFloats * (first + n) ≤ length segs) × (column < tileWidth) × (row < tileHeight)
+checked segs first n column row e f =
+    let ok = all-ok (fillChecks segs tileSize first n) f in
     let on = on-tile column row e in
-    (omega arith, on .0, on .1)
+    (ground-room segs first n (none-fails (groundChecks segs first n) (ok .1 .1)), on .0, on .1)
 
 module _ (segs : List Float) (first n : ℕ) (eo : Bool) (z : ℤ) (xt yt : Float) (column row : ℕ) (p : Verdict) (e : p ≡ firstNo (placeChecks column row)) where
   off : (k : ℕ) → p ≡ Against k → refusedBy k ≡ coverageAtOf segs first n eo z xt yt column row
   unfolding coverageAtOf
   off k f = rw (sym e ∙ f)
 
-  module _ (f : p ≡ Fine) (v : Verdict) (g : v ≡ firstNo (fillChecks (length segs) tileSize first n)) where
+  module _ (f : p ≡ Fine) (v : Verdict) (g : v ≡ firstNo (fillChecks segs tileSize first n)) where
     no : (k : ℕ) → v ≡ Against k → refusedBy k ≡ coverageAtOf segs first n eo z xt yt column row
     unfolding coverageAtOf
     no k h = rw (sym e ∙ f, sym g ∙ h)
@@ -69,14 +68,14 @@ enum-known-v : tie.Need-enum-known-v
 enum-known-v c = search needs
 
 returns-2 : tie.Need-returns-2
-returns-2 c = no _ _ _ _ _ _ _ _ _ _ (c .before .before .before .before .before .before .check-place .ensures) (c .before .before .before .before .enum-told .given .1) _
+returns-2 c = no (now (c .before .before .before .before .before .before .before .before .args .segments)) _ _ _ _ _ _ _ _ _ (c .before .before .before .before .before .before .check-place .ensures) (c .before .before .before .before .enum-told .given .1) _
     (c .before .before .before .check-fill .ensures) _ (c .before .v .given .1)
 
 enum-told-2 : tie.Need-enum-told-2
 enum-told-2 c = search needs
 
 coverage-of-requires : tie.Need-coverage-of-requires
-coverage-of-requires c κs = checked _ _ _ _ _ (sym (c .before .before .before .before .before .check-place .ensures) ∙ c .before .before .before .enum-told .given .1)
+coverage-of-requires c κs = checked (now (c .before .before .before .before .before .before .before .args .segments)) _ _ _ _ (sym (c .before .before .before .before .before .check-place .ensures) ∙ c .before .before .before .enum-told .given .1)
     (sym (c .before .before .check-fill .ensures) ∙ c .enum-told2 .given .1)
 
 returns-3 : tie.Need-returns-3

@@ -20,13 +20,21 @@ enum-told : tie.Need-enum-told
 enum-told c = search needs
 
 returns : tie.Need-returns
-returns c = over-drawn (now (c .before .before .before .before .before .before .args .text)) (c .before .before .before .before .before .before .args .depth) (c .before .before .before .before .before .before .args .path) (now (c .before .before .before .before .before .before .args .paths)) (now (c .before .before .before .before .before .before .args .coords)) (c .before .before .count .result) (c .before .before .count .ensures) (c .enum-told .given .1)
+returns c =
+    let a = c .before .before .before .before .before .before .args in
+    over-drawn (now (a .text)) (a .depth) (a .path) (now (a .paths)) (now (a .coords)) (c .before .before .count .result) (c .before .before .count .ensures) (c .enum-told .given .1)
 
 write-requires : tie.Need-write-requires
-write-requires c κs = lines-fit (now (c .before .before .before .before .before .before .before .before .args .text)) (c .before .before .before .before .before .before .before .before .args .depth) (c .before .before .before .before .before .before .before .before .args .path) (now (c .before .before .before .before .before .before .before .before .args .paths)) (now (c .before .before .before .before .before .before .before .before .args .coords)) (c .before .before .before .before .count .result) (c .before .before .before .before .count .ensures) _ (c .before .before .n .given .1) (c .before .before .before .before .before .before .before .before .pre .1)
+write-requires c κs =
+    let a = c .before .before .before .before .before .before .before .before .args in
+    lines-fit (now (a .text)) (a .depth) (a .path) (now (a .paths)) (now (a .coords)) (c .before .before .before .before .count .result) (c .before .before .before .before .count .ensures)
+    _ (c .before .before .n .given .1) (c .before .before .before .before .before .before .before .before .pre .1)
 
 name-lines-requires : tie.Need-name-lines-requires
-name-lines-requires c κs = count-is (now (c .before .before .before .before .before .before .before .before .before .before .before .before .args .text)) (c .before .before .before .before .before .before .before .before .before .before .before .before .args .depth) (c .before .before .before .before .before .before .before .before .before .before .before .before .args .path) (now (c .before .before .before .before .before .before .before .before .before .before .before .before .args .paths)) (now (c .before .before .before .before .before .before .before .before .before .before .before .before .args .coords)) (c .before .before .before .before .before .before .before .before .count .result) (c .before .before .before .before .before .before .before .before .count .ensures) _ (c .before .before .before .before .before .before .n .given .1) .1
+name-lines-requires c κs =
+    let a = c .before .before .before .before .before .before .before .before .before .before .before .before .args in
+    count-is (now (a .text)) (a .depth) (a .path) (now (a .paths)) (now (a .coords)) (c .before .before .before .before .before .before .before .before .count .result)
+    (c .before .before .before .before .before .before .before .before .count .ensures) _ (c .before .before .before .before .before .before .n .given .1) .1
 
 same-length : tie.Need-same-length
 same-length c = search needs
@@ -35,7 +43,13 @@ same-length-2 : tie.Need-same-length-2
 same-length-2 c = search needs
 
 returns-2 : tie.Need-returns-2
-returns-2 c = lines-drawn (now (c .before .before .before .before .before .before .before .before .before .before .before .before .before .before .before .args .text)) (c .before .before .before .before .before .before .before .before .before .before .before .before .before .before .before .args .depth) (c .before .before .before .before .before .before .before .before .before .before .before .before .before .before .before .args .path) (now (c .before .before .before .before .before .before .before .before .before .before .before .before .before .before .before .args .paths)) (now (c .before .before .before .before .before .before .before .before .before .before .before .before .before .before .before .args .coords)) (c .before .before .before .before .before .before .before .before .before .before .before .count .result) (c .before .before .before .before .before .before .before .before .before .before .before .count .ensures) _ (c .before .before .before .before .before .before .before .before .before .n .given .1) _ _ (c .before .before .name-lines .ensures) (c .before .before .before .before .before .before .write .ensures)
+returns-2 c =
+    let a = c .before .before .before .before .before .before .before .before .before .before .before .before .before .before .before .args in
+    lines-drawn (now (a .text)) (a .depth) (a .path) (now (a .paths)) (now (a .coords))
+    (c .before .before .before .before .before .before .before .before .before .before .before .count .result)
+    (c .before .before .before .before .before .before .before .before .before .before .before .count .ensures) _
+    (c .before .before .before .before .before .before .before .before .before .n .given .1)
+    _ _ (c .before .before .name-lines .ensures) (c .before .before .before .before .before .before .write .ensures)
 
 pub drawn-spec : {M : Type 1} → statement M
 drawn-spec = tie.close (tie.spec count-requires enum-known-n enum-told returns write-requires name-lines-requires same-length same-length-2 returns-2)

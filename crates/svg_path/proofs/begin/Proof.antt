@@ -25,11 +25,23 @@ returns-2 c = rw (sym (c .before .before .digit .ensures) ∙ c .before .if1 .le
 
 returns-3 : tie.Need-returns-3
 unfolding beginOf
-returns-3 c = rw (sym (c .before .before .before .before .digit .ensures) ∙ c .before .before .before .if1 .left, ne-eqb _ 46 (c .before .before .if2 .left), sym (c .before .sign .ensures) ∙ c .if3 .taken)
+returns-3 c =
+    rw (
+      sym (c .before .before .before .before .digit .ensures) ∙ c .before .before .before .if1 .left,
+      ne-eqb _ 46 (c .before .before .if2 .left),
+      sym (c .before .sign .ensures)
+          ∙ c .if3 .taken,
+    )
 
 returns-4 : tie.Need-returns-4
 unfolding beginOf
-returns-4 c = rw (sym (c .before .before .before .before .digit .ensures) ∙ c .before .before .before .if1 .left, ne-eqb _ 46 (c .before .before .if2 .left), sym (c .before .sign .ensures) ∙ c .if3 .left)
+returns-4 c =
+    rw (
+      sym (c .before .before .before .before .digit .ensures) ∙ c .before .before .before .if1 .left,
+      ne-eqb _ 46 (c .before .before .if2 .left),
+      sym (c .before .sign .ensures)
+          ∙ c .if3 .left,
+    )
 
 pub begin-spec : {M : Type 1} → statement M
 begin-spec =

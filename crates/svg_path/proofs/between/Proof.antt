@@ -68,11 +68,23 @@ returns c = rw (c .before .before .enum-told .given .1, sym (c .before .space .e
 
 returns-2 : tie.Need-returns-2
 unfolding betweenOf
-returns-2 c = rw (c .before .before .before .before .enum-told .given .1, sym (c .before .before .before .space .ensures) ∙ c .before .before .if1 .left, sym (c .before .movement .ensures) ∙ c .if2 .taken)
+returns-2 c =
+    rw (
+      c .before .before .before .before .enum-told .given .1,
+      sym (c .before .before .before .space .ensures) ∙ c .before .before .if1 .left,
+      sym (c .before .movement .ensures)
+          ∙ c .if2 .taken,
+    )
 
 returns-3 : tie.Need-returns-3
 unfolding betweenOf
-returns-3 c = rw (c .before .before .before .before .enum-told .given .1, sym (c .before .before .before .space .ensures) ∙ c .before .before .if1 .left, sym (c .before .movement .ensures) ∙ c .if2 .left)
+returns-3 c =
+    rw (
+      c .before .before .before .before .enum-told .given .1,
+      sym (c .before .before .before .space .ensures) ∙ c .before .before .if1 .left,
+      sym (c .before .movement .ensures)
+          ∙ c .if2 .left,
+    )
 
 returns-4 : tie.Need-returns-4
 unfolding betweenOf
@@ -92,11 +104,25 @@ returns-7 c = rw (c .before .before .before .before .q .given .1, sym (c .before
 
 returns-8 : tie.Need-returns-8
 unfolding betweenOf
-returns-8 c = rw (c .letter2 .ensures, c .before .before .before .before .before .before .q .given .1, sym (c .before .before .before .before .space3 .ensures) ∙ c .before .before .before .if4 .left, ne-eqb _ 44 (c .before .before .if5 .left), le-leb 65 _ (c .before .if6 .taken))
+returns-8 c =
+    rw (
+      c .letter2 .ensures,
+      c .before .before .before .before .before .before .q .given .1,
+      sym (c .before .before .before .before .space3 .ensures) ∙ c .before .before .before .if4 .left,
+      ne-eqb _ 44 (c .before .before .if5 .left),
+      le-leb 65 _ (c .before .if6 .taken),
+    )
 
 returns-9 : tie.Need-returns-9
 unfolding betweenOf
-returns-9 c = rw (c .begin .ensures, c .before .before .before .before .before .before .q .given .1, sym (c .before .before .before .before .space3 .ensures) ∙ c .before .before .before .if4 .left, ne-eqb _ 44 (c .before .before .if5 .left), lt-leb 65 _ (c .before .if6 .left))
+returns-9 c =
+    rw (
+      c .begin .ensures,
+      c .before .before .before .before .before .before .q .given .1,
+      sym (c .before .before .before .before .space3 .ensures) ∙ c .before .before .before .if4 .left,
+      ne-eqb _ 44 (c .before .before .if5 .left),
+      lt-leb 65 _ (c .before .if6 .left),
+    )
 
 returns-10 : tie.Need-returns-10
 unfolding betweenOf

@@ -33,15 +33,37 @@ returns-2 c = rw (sym (c .before .before .before .pair .ensures) ∙ c .before .
 
 returns-3 : tie.Need-returns-3
 unfolding letterOf
-returns-3 c = rw (sym (c .before .before .before .before .before .pair .ensures) ∙ c .before .before .before .before .if1 .left, sym (c .before .before .before .axis .ensures) ∙ c .before .before .if2 .left, sym (c .before .quad .ensures) ∙ c .if3 .taken)
+returns-3 c =
+    rw (
+      sym (c .before .before .before .before .before .pair .ensures) ∙ c .before .before .before .before .if1 .left,
+      sym (c .before .before .before .axis .ensures)
+          ∙ c .before .before .if2 .left,
+      sym (c .before .quad .ensures) ∙ c .if3 .taken,
+    )
 
 returns-4 : tie.Need-returns-4
 unfolding letterOf
-returns-4 c = rw (sym (c .before .before .before .before .before .before .before .pair .ensures) ∙ c .before .before .before .before .before .before .if1 .left, sym (c .before .before .before .before .before .axis .ensures) ∙ c .before .before .before .before .if2 .left, sym (c .before .before .before .quad .ensures) ∙ c .before .before .if3 .left, sym (c .before .close .ensures) ∙ c .if4 .taken)
+returns-4 c =
+    rw (
+      sym (c .before .before .before .before .before .before .before .pair .ensures) ∙ c .before .before .before .before .before .before .if1 .left,
+      sym (c .before .before .before .before .before .axis .ensures)
+          ∙ c .before .before .before .before .if2 .left,
+      sym (c .before .before .before .quad .ensures) ∙ c .before .before .if3 .left,
+      sym (c .before .close .ensures)
+          ∙ c .if4 .taken,
+    )
 
 returns-5 : tie.Need-returns-5
 unfolding letterOf
-returns-5 c = rw (sym (c .before .before .before .before .before .before .before .pair .ensures) ∙ c .before .before .before .before .before .before .if1 .left, sym (c .before .before .before .before .before .axis .ensures) ∙ c .before .before .before .before .if2 .left, sym (c .before .before .before .quad .ensures) ∙ c .before .before .if3 .left, sym (c .before .close .ensures) ∙ c .if4 .left)
+returns-5 c =
+    rw (
+      sym (c .before .before .before .before .before .before .before .pair .ensures) ∙ c .before .before .before .before .before .before .if1 .left,
+      sym (c .before .before .before .before .before .axis .ensures)
+          ∙ c .before .before .before .before .if2 .left,
+      sym (c .before .before .before .quad .ensures) ∙ c .before .before .if3 .left,
+      sym (c .before .close .ensures)
+          ∙ c .if4 .left,
+    )
 
 pub letter-spec : {M : Type 1} → statement M
 letter-spec =

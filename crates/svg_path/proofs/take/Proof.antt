@@ -110,7 +110,15 @@ returns-8 c = rw (c .before .before .before .before .q3 .given .1, sym (c .befor
 
 returns-9 : tie.Need-returns-9
 unfolding stepOf
-returns-9 c = rw (c .between .ensures, c .before .after .ensures, c .before .before .before .before .before .before .q3 .given .1, sym (c .before .before .before .before .digit3 .ensures) ∙ c .before .before .before .if4 .left, ne-eqb _ 46 (c .before .before .if6 .left))
+returns-9 c =
+    rw (
+      c .between .ensures,
+      c .before .after .ensures,
+      c .before .before .before .before .before .before .q3 .given .1,
+      sym (c .before .before .before .before .digit3 .ensures)
+          ∙ c .before .before .before .if4 .left,
+      ne-eqb _ 46 (c .before .before .if6 .left),
+    )
 
 returns-10 : tie.Need-returns-10
 unfolding stepOf
@@ -122,7 +130,14 @@ returns-11 c = rw (c .before .before .before .before .q4 .given .1, sym (c .befo
 
 returns-12 : tie.Need-returns-12
 unfolding stepOf
-returns-12 c = rw (c .between2 .ensures, c .before .after2 .ensures, c .before .before .before .before .before .q4 .given .1, sym (c .before .before .before .digit4 .ensures) ∙ c .before .before .if7 .left)
+returns-12 c =
+    rw (
+      c .between2 .ensures,
+      c .before .after2 .ensures,
+      c .before .before .before .before .before .q4 .given .1,
+      sym (c .before .before .before .digit4 .ensures)
+          ∙ c .before .before .if7 .left,
+    )
 
 returns-13 : tie.Need-returns-13
 unfolding stepOf

@@ -48,7 +48,9 @@ sub-n : tie.Need-sub-n Inv-loop μ-loop
 sub-n c = let h = low _ _ (c .before .before .digit .ensures) (c .before .if2 .taken) in let e = c .wide .ensures in omega (arith, h .0, e)
 
 add-n : tie.Need-add-n Inv-loop μ-loop
-add-n c = let g = small _ _ (c .before .before .before .before .before .before .loop .inv .1) in let h = low _ _ (c .before .before .digit .ensures) (c .before .if2 .taken) in let e = c .wide .ensures in omega (arith, g, h .0, h .1, e)
+add-n c =
+    let g = small _ _ (c .before .before .before .before .before .before .loop .inv .1) in let h = low _ _ (c .before .before .digit .ensures) (c .before .if2 .taken)
+    in let e = c .wide .ensures in omega (arith, g, h .0, h .1, e)
 
 add-taken : tie.Need-add-taken Inv-loop μ-loop
 add-taken c = search needs
@@ -60,7 +62,15 @@ loop-less : tie.Need-loop-less Inv-loop μ-loop
 loop-less c = search needs
 
 loop-again : tie.Need-loop-again Inv-loop μ-loop
-loop-again c = let h = low _ _ (c .before .before .digit .ensures) (c .before .if2 .taken) in let e = c .wide .ensures in (omega arith, room _ _ _ (c .before .before .before .before .before .loop-test .taken) (omega (arith, h .0, h .1, e)) (c .before .before .before .before .before .before .loop .inv .1), one-digit _ _ _ _ _ _ _ _ (c .before .before .before .before .before .loop-test .taken) (c .before .before .before .before .if1 .left) (c .before .before .digit .ensures) (c .before .if2 .taken) (c .wide .ensures) (c .before .before .before .before .before .before .loop .inv .2))
+loop-again c =
+    let h = low _ _ (c .before .before .digit .ensures) (c .before .if2 .taken) in let e = c .wide .ensures in (
+      omega arith,
+      room _ _ _ (c .before .before .before .before .before .loop-test .taken)
+          (omega (arith, h .0, h .1, e)) (c .before .before .before .before .before .before .loop .inv .1),
+      one-digit _ _ _ _ _ _ _ _ (c .before .before .before .before .before .loop-test .taken)
+          (c .before .before .before .before .if1 .left) (c .before .before .digit .ensures) (c .before .if2 .taken) (c .wide .ensures)
+          (c .before .before .before .before .before .before .loop .inv .2),
+    )
 
 returns-2 : tie.Need-returns-2 Inv-loop μ-loop
 returns-2 c = no-digit _ _ _ _ _ _ _ (c .before .before .before .if1 .left) (c .before .digit .ensures) (c .if2 .left) (c .before .before .before .before .before .loop .inv .2)

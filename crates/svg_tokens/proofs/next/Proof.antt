@@ -38,10 +38,18 @@ read-requires : tie.Need-read-requires Inv-loop μ-loop
 read-requires c κs = search needs
 
 add-t12 : tie.Need-add-t12 Inv-loop μ-loop
-add-t12 c = let h = value-past _ _ _ _ (c .before .before .before .before .before .before .loop-test .taken) (c .before .before .before .begins .ensures) (c .before .before .if2 .taken) (c .before .read .ensures) in omega (arith, h .1)
+add-t12 c =
+    let h = value-past _ _ _ _ (c .before .before .before .before .before .before .loop-test .taken) (c .before .before .before .begins .ensures) (c .before .before .if2 .taken)
+    (c .before .read .ensures) in omega (arith, h .1)
 
 returns-2 : tie.Need-returns-2 Inv-loop μ-loop
-returns-2 c = let h = value-past _ _ _ _ (c .before .before .before .before .before .before .loop-test .taken) (c .before .before .before .begins .ensures) (c .before .before .if2 .taken) (c .before .read .ensures) in (value-found _ _ _ _ _ (c .before .before .before .before .before .before .loop-test .taken) (c .before .before .before .before .if1 .left) (c .before .before .before .begins .ensures) (c .before .before .if2 .taken) (c .before .read .ensures) (c .before .before .before .before .before .before .before .loop .inv .2), (omega (arith, h .0), h .1))
+returns-2 c =
+    let h = value-past _ _ _ _ (c .before .before .before .before .before .before .loop-test .taken) (c .before .before .before .begins .ensures) (c .before .before .if2 .taken)
+    (c .before .read .ensures) in (
+      value-found _ _ _ _ _ (c .before .before .before .before .before .before .loop-test .taken) (c .before .before .before .before .if1 .left)
+          (c .before .before .before .begins .ensures) (c .before .before .if2 .taken) (c .before .read .ensures) (c .before .before .before .before .before .before .before .loop .inv .2),
+      (omega (arith, h .0), h .1),
+    )
 
 add-i : tie.Need-add-i Inv-loop μ-loop
 add-i c = search needs
@@ -50,7 +58,12 @@ loop-less : tie.Need-loop-less Inv-loop μ-loop
 loop-less c = search needs
 
 loop-again : tie.Need-loop-again Inv-loop μ-loop
-loop-again c = (omega arith, omega arith, none-found _ _ _ _ (c .before .before .before .before .loop-test .taken) (c .before .before .if1 .left) (c .before .begins .ensures) (c .if2 .left) (c .before .before .before .before .before .loop .inv .2))
+loop-again c = (
+  omega arith,
+  omega arith,
+  none-found _ _ _ _ (c .before .before .before .before .loop-test .taken) (c .before .before .if1 .left) (c .before .begins .ensures)
+      (c .if2 .left) (c .before .before .before .before .before .loop .inv .2),
+)
 
 returns-3 : tie.Need-returns-3 Inv-loop μ-loop
 returns-3 c = (end-found _ _ _ (c .loop-test .left) (c .before .loop .inv .2), omega arith)

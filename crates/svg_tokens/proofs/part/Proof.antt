@@ -18,7 +18,9 @@ add-digits : tie.Need-add-digits
 add-digits c = search needs
 
 digits-requires : tie.Need-digits-requires
-digits-requires c κs = let h = point-in (now (c .before .before .before .args .s)) (c .before .before .before .args .at) _ (c .before .point-at .ensures) (c .if1 .taken) in (omega (arith, h), omega arith)
+digits-requires c κs =
+    let a = c .before .before .before .args in
+    let h = point-in (now (a .s)) (a .at) _ (c .before .point-at .ensures) (c .if1 .taken) in (omega (arith, h), omega arith)
 
 mul-thousandths : tie.Need-mul-thousandths
 mul-thousandths c = search needs
@@ -27,16 +29,25 @@ padded-requires : tie.Need-padded-requires
 padded-requires c κs = let h = run-bounds _ (c .before .before .before .before .args .at + 1) (now (c .before .before .before .before .args .s)) _ (omega arith) (c .digits .ensures) in (h .1, h .0)
 
 add-thousandths : tie.Need-add-thousandths
-add-thousandths c = let h = run-bounds _ (c .before .before .before .before .before .args .at + 1) (now (c .before .before .before .before .before .args .s)) _ (omega arith) (c .before .digits .ensures) in let g = padded-few _ _ _ (h .0) (c .padded .ensures) in omega (arith, g, c .before .before .before .before .before .pre .1)
+add-thousandths c =
+    let a = c .before .before .before .before .before .args in
+    let h = run-bounds _ (a .at + 1) (now (a .s)) _ (omega arith) (c .before .digits .ensures) in let g = padded-few _ _ _ (h .0) (c .padded .ensures) in omega
+    (arith, g, c .before .before .before .before .before .pre .1)
 
 add-t9 : tie.Need-add-t9
 add-t9 c = search needs
 
 add-t12 : tie.Need-add-t12
-add-t12 c = let h = run-bounds _ (c .before .before .before .before .before .before .args .at + 1) (now (c .before .before .before .before .before .before .args .s)) _ (omega arith) (c .before .before .digits .ensures) in let g = point-in (now (c .before .before .before .before .before .before .args .s)) (c .before .before .before .before .before .before .args .at) _ (c .before .before .before .before .point-at .ensures) (c .before .before .before .if1 .taken) in omega (arith, h .2, g, c .before .before .before .before .before .before .pre .2)
+add-t12 c =
+    let a = c .before .before .before .before .before .before .args in
+    let h = run-bounds _ (a .at + 1) (now (a .s)) _ (omega arith) (c .before .before .digits .ensures) in let g = point-in (now (a .s)) (a .at) _ (c .before .before .before .before .point-at .ensures)
+    (c .before .before .before .if1 .taken) in omega (arith, h .2, g, c .before .before .before .before .before .before .pre .2)
 
 returns : tie.Need-returns
-returns c = pointed (now (c .before .before .before .before .before .before .args .s)) (c .before .before .before .before .before .before .args .at) _ _ _ _ _ _ (c .before .before .before .before .point-at .ensures) (c .before .before .before .if1 .taken) (c .before .before .digits .ensures) (c .before .padded .ensures)
+returns c =
+    let a = c .before .before .before .before .before .before .args in
+    pointed (now (a .s)) (a .at) _ _ _ _ _ _ (c .before .before .before .before .point-at .ensures) (c .before .before .before .if1 .taken) (c .before .before .digits .ensures)
+    (c .before .padded .ensures)
 
 mul-t13 : tie.Need-mul-t13
 mul-t13 c = search needs

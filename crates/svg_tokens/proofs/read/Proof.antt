@@ -24,16 +24,28 @@ digits-requires : tie.Need-digits-requires
 digits-requires c κs = let h = sign-few _ _ (c .signs .ensures) in (omega (arith, h), omega arith)
 
 add-past : tie.Need-add-past
-add-past c = let h = run-bounds _ (c .before .before .before .before .before .args .at + c .before .before .signs .result) (now (c .before .before .before .before .before .args .s)) _ (omega arith) (c .before .digits .ensures) in let g = sign-few _ _ (c .before .before .signs .ensures) in omega (arith, h .1, g)
+add-past c =
+    let a = c .before .before .before .before .before .args in
+    let h = run-bounds _ (a .at + c .before .before .signs .result) (now (a .s)) _ (omega arith) (c .before .digits .ensures) in let g = sign-few _ _ (c .before .before .signs .ensures)
+    in omega (arith, h .1, g)
 
 add-part : tie.Need-add-part
-add-part c = let h = run-bounds _ (c .before .before .before .before .before .args .at + c .before .before .signs .result) (now (c .before .before .before .before .before .args .s)) _ (omega arith) (c .before .digits .ensures) in let g = sign-few _ _ (c .before .before .signs .ensures) in omega (arith, h .2, g, c .before .before .before .before .before .pre)
+add-part c =
+    let a = c .before .before .before .before .before .args in
+    let h = run-bounds _ (a .at + c .before .before .signs .result) (now (a .s)) _ (omega arith) (c .before .digits .ensures) in let g = sign-few _ _ (c .before .before .signs .ensures)
+    in omega (arith, h .2, g, c .before .before .before .before .before .pre)
 
 part-requires : tie.Need-part-requires
-part-requires c κs = let h = run-bounds _ (c .before .before .before .before .before .args .at + c .before .before .signs .result) (now (c .before .before .before .before .before .args .s)) _ (omega arith) (c .before .digits .ensures) in let g = sign-few _ _ (c .before .before .signs .ensures) in (omega (arith, h .2, g, c .before .before .before .before .before .pre), h .0, omega arith)
+part-requires c κs =
+    let a = c .before .before .before .before .before .args in
+    let h = run-bounds _ (a .at + c .before .before .signs .result) (now (a .s)) _ (omega arith) (c .before .digits .ensures) in let g = sign-few _ _ (c .before .before .signs .ensures)
+    in (omega (arith, h .2, g, c .before .before .before .before .before .pre), h .0, omega arith)
 
 returns : tie.Need-returns
-returns c = read-is (now (c .before .before .before .before .before .before .args .s)) (c .before .before .before .before .before .before .args .at) _ _ _ (c .before .before .before .before .before .before .pre) (c .before .before .before .signs .ensures) (c .before .before .digits .ensures) (c .part .ensures)
+returns c =
+    let a = c .before .before .before .before .before .before .args in
+    read-is (now (a .s)) (a .at) _ _ _ (c .before .before .before .before .before .before .pre) (c .before .before .before .signs .ensures) (c .before .before .digits .ensures)
+    (c .part .ensures)
 
 pub read-spec : {M : Type 1} → statement M
 read-spec =

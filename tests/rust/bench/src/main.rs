@@ -1,6 +1,6 @@
 //! Every stage beside the unchanged Rust: same machine, same run, release builds, buffers cleared beforehand.
 //!
-//!     tests/rust/run bench [ROUNDS] [pixel]
+//!     tests/rust/run bench [ROUNDS] [lists|pixel|recount]
 //!
 //! Runs of the two are interleaved; a row has a stage at its sizes, the median time of each side for one unit of work, and
 //! the ratios of ours to the Rust's. A ratio under 1 is faster than the Rust.
@@ -75,10 +75,20 @@ fn main() {
         println!("The archive is for another processor and would run under an emulator: times would say nothing.");
         return;
     }
-    if std::env::args().nth(2).is_none_or(|only| only != "pixel") {
+    let only = std::env::args().nth(2);
+    let wanted = |what: &str| only.as_deref().is_none_or(|only| only == what);
+    if only.is_none() {
         beside_the_rust(rounds);
     }
-    if ours::has::PIXEL && ours::has::FINE {
+    if ours::has::RECOUNT && ours::has::COUNT && wanted("recount") {
+        println!("\n| One path beside a frame of 64 | Lines of each | the frame's count, ns | the recount, ns | ratio | 64 ratios |\n|---|---|---|---|---|---|");
+        stages::recount(rounds);
+    }
+    if ours::has::LISTS && wanted("lists") {
+        println!("\n| Lists of a screen | Paths | Covered tiles | ms | a screen tile, ns | a covered tile, ns |\n|---|---|---|---|---|---|");
+        stages::lists(rounds);
+    }
+    if ours::has::PIXEL && ours::has::FINE && wanted("pixel") {
         println!("\n| One pixel beside a whole tile by fine | Fills | a tile, ns | a pixel, ns | ratio | 256 ratios |\n|---|---|---|---|---|---|");
         stages::pixel(rounds);
     }

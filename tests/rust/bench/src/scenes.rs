@@ -2,6 +2,8 @@
 
 use cases::Rng;
 use oracle::{PathSegment, SegmentCount, Tile};
+use rules::limits::SEGMENT;
+use rules::records::path;
 
 pub const COLS: u32 = 50;
 pub const ROWS: u32 = 40;
@@ -55,7 +57,7 @@ fn line(rng: &mut Rng, kind: Kind) -> [f32; 4] {
 impl Scene {
     pub fn new(kind: Kind, n: usize) -> Scene {
         let mut rng = Rng::new(n as u64 + 1);
-        let paths = vec![0, 0, COLS, ROWS, 0];
+        let paths = path([0, 0, COLS, ROWS], 0).to_vec();
         let mut scene = Scene { path_nos: vec![0; n], coords: vec![], paths, tiles: (COLS * ROWS) as usize, room: 0 };
         while scene.coords.len() < 4 * n {
             let line = line(&mut rng, kind);
@@ -116,7 +118,7 @@ pub fn segments(rng: &mut Rng, n: usize) -> Vec<f32> {
 pub fn moved(segments: &[f32], x: f32, y: f32) -> Vec<PathSegment> {
     let edge = |e: f32| if e < 1e9 { e + y } else { e };
     segments
-        .chunks_exact(5)
+        .chunks_exact(SEGMENT)
         .map(|s| PathSegment { point0: [s[0] + x, s[1] + y], point1: [s[2] + x, s[3] + y], y_edge: edge(s[4]), _padding: 0 })
         .collect()
 }

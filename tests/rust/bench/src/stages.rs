@@ -6,6 +6,8 @@ use cases::commands::{Command, OURS, RUST};
 use cases::memory::one_zero;
 use cases::Rng;
 use oracle::{BumpAllocators, PathSegment, SegmentCount, Tile};
+use rules::limits::{REF, SEGMENT};
+use rules::records::path;
 use std::hint::black_box;
 
 /// The sizes that show the growth.
@@ -16,18 +18,35 @@ macro_rules! std_helper {
 }
 std_helper!(floor, ceil, round);
 
+/// The Rust's helpers over many operands as `ours::many` has ours: three operands are read, and the number chooses.
+fn std_many(helper: u32, xs: [&[u32]; 3], out: &mut [u32]) {
+    for (k, o) in out.iter_mut().enumerate() {
+        *o = std_one(helper, [xs[0][k], xs[1][k], xs[2][k]]);
+    }
+}
+
+fn std_one(helper: u32, [x, y, z]: [u32; 3]) -> u32 {
+    let answer = match helper {
+        0x01 => std_helpers::floor(f32::from_bits(x)),
+        0x02 => std_helpers::ceil(f32::from_bits(x)),
+        0x03 => std_helpers::round(f32::from_bits(x)),
+        0x10 => f32::from_bits(x).min(f32::from_bits(y)),
+        0x20 => f32::from_bits(x).max(f32::from_bits(y)).min(f32::from_bits(z)),
+        _ => panic!("no helper {helper:02x}"),
+    };
+    answer.to_bits()
+}
+
 pub fn floats(rounds: usize) {
     let mut rng = Rng::new(5);
     let xs: Vec<u32> = (0..100_000).map(|_| rng.between(-2_000.0, 2_000.0).to_bits()).collect();
-    let helpers: [(&str, u32, fn(f32) -> f32); 3] =
-        [("floor", 1, std_helpers::floor), ("ceil", 2, std_helpers::ceil), ("round", 3, std_helpers::round)];
-    for (name, number, std) in helpers {
+    for (name, number) in [("floor", 0x01), ("ceil", 0x02), ("round", 0x03)] {
         let (mut theirs, mut mine) = (vec![0; xs.len()], vec![0; xs.len()]);
-        let std = black_box(std);
+        let number = black_box(number);
         let times = measured(
             xs.len(),
             rounds,
-            || timed(|| theirs.iter_mut().zip(&xs).for_each(|(o, &x)| *o = std(f32::from_bits(x)).to_bits())),
+            || timed(|| std_many(number, [&xs, &xs, &xs], &mut theirs)),
             || timed(|| ours::many(number, [&xs, &xs, &xs], &mut mine)),
         );
         assert_eq!(theirs, mine);
@@ -41,7 +60,7 @@ pub fn backdrop(rounds: usize) {
 }
 
 fn sums(n: u32, rounds: usize) -> Times {
-    let paths: Vec<u32> = (0..n).flat_map(|k| [0, 0, 50, 40, 2_000 * k]).collect();
+    let paths: Vec<u32> = (0..n).flat_map(|k| path([0, 0, 50, 40], 2_000 * k)).collect();
     let before: Vec<i32> = (0..2_000 * n as i32).map(|k| k % 7 - 3).collect();
     let records = oracle::paths_of(&paths);
     let cleared: Vec<Tile> = before.iter().map(|&backdrop| Tile { backdrop, segment_count_or_ix: 0 }).collect();
@@ -74,7 +93,7 @@ fn count_scene(kind: Kind, n: usize, rounds: usize) -> Times {
     let paths = oracle::paths_of(&scene.paths);
     let mut tiles = vec![Tile::default(); scene.tiles];
     let mut records = vec![SegmentCount::default(); scene.room];
-    let (mut backs, mut counts, mut refs) = (vec![0; scene.tiles], vec![0; scene.tiles], vec![0; 2 * scene.room]);
+    let (mut backs, mut counts, mut refs) = (vec![0; scene.tiles], vec![0; scene.tiles], vec![0; REF * scene.room]);
     let times = measured(
         n,
         rounds,
@@ -115,7 +134,7 @@ fn tile_scene(kind: Kind, n: usize, rounds: usize) -> Times {
     let paths = oracle::paths_of(&scene.paths);
     let tiles: Vec<Tile> = counted.stored.iter().map(|&i| Tile { backdrop: 0, segment_count_or_ix: i }).collect();
     let mut records = vec![PathSegment::default(); scene.room];
-    let mut mine = vec![0.0f32; 5 * scene.room];
+    let mut mine = vec![0.0f32; SEGMENT * scene.room];
     let all = scene.room as u32;
     let times = measured(
         scene.room,
@@ -187,7 +206,7 @@ fn fine_screen(cols: u32, rows: u32, rounds: usize) -> Times {
             their_at = RUST.put(&mut theirs, their_at, command, 0);
         };
         for (k, n) in FILLS.into_iter().enumerate() {
-            let first = (list.len() / 5) as u32;
+            let first = (list.len() / SEGMENT) as u32;
             let more = segments(&mut rng, n as usize);
             records.extend(moved(&more, 16.0 * (t % cols) as f32, 16.0 * (t / cols) as f32));
             list.extend(more);
@@ -234,7 +253,7 @@ fn frame_scene(kind: Kind, n: usize, rounds: usize) -> Times {
     let mut refs = vec![SegmentCount::default(); scene.room];
     let mut records = vec![PathSegment::default(); scene.room];
     let (mut backs, mut stored, mut tally) = (vec![0; scene.tiles], vec![0; scene.tiles], vec![0; scene.tiles]);
-    let (mut mine_refs, mut mine) = (vec![0; 2 * scene.room], vec![0.0f32; 5 * scene.room]);
+    let (mut mine_refs, mut mine) = (vec![0; REF * scene.room], vec![0.0f32; SEGMENT * scene.room]);
     let times = measured(
         n,
         rounds,
@@ -278,6 +297,74 @@ fn hand_out(tiles: &mut [Tile], counts: &mut [u32]) {
     }
 }
 
+/// A recount of one path beside a count of the whole frame: 64 paths, each with as many lines over as many tiles.
+pub fn recount(rounds: usize) {
+    for (kind, name) in KINDS {
+        for n in [20, 300] {
+            let times = one_path(kind, n, rounds);
+            let ratio = times.ours / times.rust;
+            println!("| lines {name} | {n} | {:.0} | {:.0} | {ratio:.4} | {:.2} |", times.rust, times.ours, PATHS as f64 * ratio);
+        }
+    }
+}
+
+const PATHS: usize = 64;
+
+fn one_path(kind: Kind, n: usize, rounds: usize) -> Times {
+    let (scene, words) = (Scene::new(kind, n), rules::limits::PATH);
+    let paths: Vec<u32> = (0..PATHS)
+        .flat_map(|p| {
+            let mut path = scene.paths.clone();
+            path[FIRST] = (p * scene.tiles) as u32;
+            path
+        })
+        .collect();
+    assert_eq!(paths.len(), PATHS * words);
+    let path_nos: Vec<u32> = (0..PATHS as u32).flat_map(|p| vec![p; n]).collect();
+    let coords = scene.coords.repeat(PATHS);
+    let (tiles, lines) = (PATHS * scene.tiles, (PATHS * n) as u32);
+    let (mut backs, mut counts, mut refs) = (vec![0; tiles], vec![0; tiles], vec![0; 2 * scene.room * PATHS]);
+    let mut count = |backs: &mut [i32], counts: &mut [u32]| {
+        backs.fill(0);
+        counts.fill(0);
+        timed(|| assert_eq!(ours::count(&path_nos, &coords, &paths, backs, counts, &mut refs, lines, &mut 0, &mut 0, &mut 0), 0))
+    };
+    count(&mut backs, &mut counts);
+    let (mut again, mut tally) = (backs.clone(), counts.clone());
+    let (mut own, mut kept_backs, mut kept_counts) = (vec![0; 2 * scene.room], vec![0; scene.tiles], vec![0; scene.tiles]);
+    let path = PATHS as u32 / 2;
+    let (line_nos, own_nos): (Vec<u32>, Vec<u32>) = ((0..n as u32).map(|l| path * n as u32 + l).collect(), vec![path; n]);
+    let times = measured(
+        1,
+        rounds,
+        || count(&mut backs, &mut counts),
+        || {
+            timed(|| {
+                let no = ours::recount(
+                    path,
+                    &line_nos,
+                    &own_nos,
+                    &scene.coords,
+                    &paths,
+                    &mut again,
+                    &mut tally,
+                    &mut own,
+                    &mut kept_backs,
+                    &mut kept_counts,
+                    &mut 0,
+                    &mut 0,
+                );
+                assert_eq!(no, 0);
+            })
+        },
+    );
+    assert_eq!((backs, counts), (again, tally));
+    times
+}
+
+/// The place of a path's first tile.
+const FIRST: usize = 4;
+
 /// The pixels of a tile under a list of so many fills of 10 segments each, one call a pixel, beside the tile by one call of fine.
 pub fn pixel(rounds: usize) {
     for fills in [1, 10, 100] {
@@ -318,4 +405,62 @@ fn one_pixel(fills: usize, rounds: usize) -> Times {
     let both = measured(1, rounds, whole, each);
     assert_eq!(tile, mine);
     Times { rust: both.rust / again as f64, ours: both.ours / 256.0 }
+}
+
+/// A screen of so many tiles, and so many boxes of so many columns and rows that are laid over it: how far each lies from the one before, in
+/// columns and in rows, when a row of the screen is full.
+struct Cover {
+    screen: [u32; 2],
+    paths: u32,
+    size: [u32; 2],
+    down: u32,
+}
+
+fn path_over(cover: &Cover, p: u32) -> [u32; rules::limits::PATH] {
+    let [w, h] = cover.size;
+    let across = cover.screen[0] / w;
+    let (x, y) = (p % across * w, p / across * cover.down);
+    path([x, y, x + w, y + h], p * w * h)
+}
+
+/// The lists of whole screens, which the Rust here lacks: nanoseconds a screen tile, and a covered tile, a tile for each path that lies over
+/// it.
+pub fn lists(rounds: usize) {
+    let (most, side) = (rules::limits::PATHS_MOST as u32, 1_024);
+    let covers = [
+        Cover { screen: [20, 12], paths: 12, size: [20, 1], down: 1 },
+        Cover { screen: [120, 68], paths: 64, size: [120, 1], down: 1 },
+        Cover { screen: [120, 68], paths: 64, size: [120, 68], down: 0 },
+        Cover { screen: [side, side], paths: most, size: [16, 16], down: 16 },
+        Cover { screen: [side, side], paths: most, size: [1, 256], down: 256 },
+    ];
+    for cover in covers {
+        let [cols, rows] = cover.screen;
+        let covered = (cover.paths * cover.size[0] * cover.size[1]) as usize;
+        let seconds = lists_of(&cover, covered, if covered > 1 << 20 >> 1 { rounds.min(3) } else { rounds });
+        let each = |n: usize| 1e9 * seconds / n as f64;
+        let (tiles, [w, h]) = ((cols * rows) as usize, cover.size);
+        println!(
+            "| {cols} by {rows} | {} of {w} by {h} | {covered} | {:.3} | {:.0} | {:.0} |",
+            cover.paths,
+            1e3 * seconds,
+            each(tiles),
+            each(covered)
+        );
+    }
+}
+
+fn lists_of(cover: &Cover, covered: usize, rounds: usize) -> f64 {
+    let [cols, rows] = cover.screen;
+    let paths: Vec<u32> = (0..cover.paths).flat_map(|p| path_over(cover, p)).collect();
+    let paints: Vec<u32> = (0..cover.paths).flat_map(|p| [0x2040_60ff + p, 0]).collect();
+    let backs: Vec<i32> = (0..covered as i32).map(|t| t % 3 - 1).collect();
+    let tally: Vec<u32> = (0..covered as u32).map(|t| t % 2).collect();
+    let stored: Vec<u32> = (0..covered as u32).map(|t| if t % 2 == 1 { !(t / 2) } else { 0 }).collect();
+    let over = (covered as u32).div_ceil(cols * rows);
+    let mut words = vec![0; 64 * (cols * rows * (1 + over.div_ceil(10))) as usize];
+    let room = covered as u32 / 2;
+    let mut once = || timed(|| assert_eq!(ours::write_lists(&paths, &paints, &backs, &stored, &tally, cols, rows, room, &mut words, &mut 0), 0));
+    once();
+    crate::median((0..rounds).map(|_| once()).collect())
 }

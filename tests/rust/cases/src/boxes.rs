@@ -1,7 +1,8 @@
 //! Boxes of nine kinds, and tables of paths.
 
 use crate::Rng;
-use rules::limits::EDGE_MOST;
+use rules::limits::{EDGE_MOST, PATH};
+use rules::records::path;
 
 pub const KINDS: u64 = 9;
 
@@ -40,12 +41,11 @@ pub fn any(rng: &mut Rng, most: i64) -> [i64; 4] {
 
 /// A table of `n` good paths with gaps now and then, and the number of tiles.
 pub fn table(rng: &mut Rng, n: usize, most: i64) -> (Vec<u32>, usize) {
-    let mut paths = Vec::with_capacity(5 * n);
+    let mut paths = Vec::with_capacity(PATH * n);
     let mut next = if rng.one_in(4) { rng.range(0, 5) } else { 0 };
     for _ in 0..n {
         let b = any(rng, most);
-        paths.extend(b.map(|v| v as u32));
-        paths.push(next as u32);
+        paths.extend(path(b.map(|v| v as u32), next as u32));
         next += (b[2] - b[0]) * (b[3] - b[1]);
         if rng.one_in(4) {
             next += rng.range(0, 5);

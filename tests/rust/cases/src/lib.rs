@@ -9,5 +9,6 @@ pub mod lines;
 pub mod memory;
 pub mod rng;
 pub mod segments;
+pub mod texts;
 
 pub use rng::Rng;

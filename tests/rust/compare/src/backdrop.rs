@@ -4,7 +4,8 @@ use crate::stage::{hex, same, same_words, Sides, Stage};
 use crate::table::Table;
 use cases::memory::Lent;
 use cases::{boxes, Rng};
-use rules::limits::{EDGE_MOST, PATHS_MOST};
+use rules::limits::{EDGE_MOST, PATH, PATHS_MOST};
+use rules::records::{no_tiles, paths_in, words_of};
 
 #[derive(Clone, Debug)]
 pub struct Case {
@@ -35,7 +36,7 @@ impl Stage for Backdrop {
     fn make(&self, rng: &mut Rng) -> Case {
         if rng.one_in(30) {
             let n = PATHS_MOST + rng.range(-1, 3);
-            return Case { paths: [0, 0, 0, 0, 0].repeat(n as usize), backdrops: vec![1; rng.below(4) as usize] };
+            return Case { paths: no_tiles(n as usize), backdrops: vec![1; rng.below(4) as usize] };
         }
         let n = rng.range(0, 5) as usize;
         let most = if rng.one_in(60) { EDGE_MOST } else { rng.pick(&[2, 4, 24]) };
@@ -70,9 +71,9 @@ impl Stage for Backdrop {
             same("guards", by_ours.guards_stand() && paths.guards_stand(), true)?;
         }
         if sides.rust && (number == 0 || number == 11) {
-            let summed = if number == 0 { case.paths.len() / 5 } else { item as usize };
+            let summed = if number == 0 { paths_in(&case.paths) } else { item as usize };
             let mut by_rust = Lent::new(&case.backdrops);
-            let ran = oracle::backdrop(&case.paths[..5 * summed], by_rust.i32s_mut());
+            let ran = oracle::backdrop(&case.paths[..PATH * summed], by_rust.i32s_mut());
             same("the Rust panicked", ran.is_err(), false)?;
             same_words("beside the Rust: backdrops", by_rules.u32s(), by_rust.u32s())?;
             table.add("paths the Rust summed too", summed as u64);
@@ -82,9 +83,9 @@ impl Stage for Backdrop {
 
     fn smaller(&self, case: &Case) -> Vec<Case> {
         let mut out = vec![];
-        for k in 0..(case.paths.len() / 5).min(8) {
+        for k in 0..(paths_in(&case.paths)).min(8) {
             let mut c = case.clone();
-            c.paths.drain(5 * k..5 * k + 5);
+            c.paths.drain(words_of(k));
             out.push(c);
         }
         if case.backdrops.iter().any(|&b| b > 1) {

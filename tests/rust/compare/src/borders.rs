@@ -2,6 +2,8 @@
 
 use crate::calls::{Call, NAMES};
 use cases::Rng;
+use rules::limits::{COUNT_MOST, SIDE_MOST};
+use rules::records::path;
 
 /// The answers that a call of a kind can give, all of which the hostile runs want to meet.
 pub fn answers(kind: u32) -> &'static [u32] {
@@ -14,7 +16,7 @@ fn bits(line: [f32; 4]) -> Vec<u32> {
 
 /// Paths, one more than are allowed or a few.
 fn many_paths(rng: &mut Rng) -> Vec<u32> {
-    vec![0; 5 * (rules::limits::PATHS_MOST as usize + rng.range(0, 2) as usize)]
+    rules::records::no_tiles(rules::limits::PATHS_MOST as usize + rng.range(0, 2) as usize)
 }
 
 /// Line numbers at the end of those allowed: the path numbers, the coordinates, the lines so far.
@@ -32,7 +34,7 @@ fn one_line(line: [f32; 4], paths: &[u32], backdrop: u32, count: u32, refs: usiz
 }
 
 fn count(rng: &mut Rng) -> Call {
-    let (down, square) = ([8.0, 8.0, 8.0, 24.0], [0, 0, 2, 2, 0]);
+    let (down, square) = ([8.0, 8.0, 8.0, 24.0], path([0, 0, 2, 2], 0));
     match rng.below(12) {
         0 => one_line(down, &many_paths(rng), 0, 0, 8),
         1 => {
@@ -40,10 +42,10 @@ fn count(rng: &mut Rng) -> Call {
             let numbers = vec![path_nos.len() as u32, lines, 0];
             Call { kind: 1, numbers, slices: vec![path_nos, coords, square.to_vec(), vec![0; 4], vec![0; 4], vec![9; 8]] }
         }
-        2..=4 => one_line(down, &square, 0, rng.pick(&[65_535, 65_536, u32::MAX]), 8),
+        2..=4 => one_line(down, &square, 0, rng.pick(&[COUNT_MOST as u32, COUNT_MOST as u32 + 1, u32::MAX]), 8),
         5 | 6 => one_line(down, &square, rng.pick(&[i32::MIN as u32, i32::MIN as u32 + 1, i32::MAX as u32]), 0, 8),
         7 | 8 => one_line([8.0, 24.0, 8.0, 8.0], &square, i32::MAX as u32, 0, 8),
-        _ => one_line([80.0, 0.0, 80.0, f32::from_bits(rng.range(1, 2_000) as u32)], &[0, 0, 6, 1, 0], 0, 0, 8),
+        _ => one_line([80.0, 0.0, 80.0, f32::from_bits(rng.range(1, 2_000) as u32)], &path([0, 0, 6, 1], 0), 0, 0, 8),
     }
 }
 
@@ -54,11 +56,18 @@ fn off_its_tile(rng: &mut Rng) -> [f32; 4] {
 
 fn tile(rng: &mut Rng) -> Call {
     let slices = match rng.below(3) {
-        0 => vec![vec![0], bits([8.0, 8.0, 8.0, 24.0]), many_paths(rng), vec![u32::MAX; 4], vec![0, 0], vec![0; 10]],
+        0 => vec![vec![0], bits([8.0, 8.0, 8.0, 24.0]), many_paths(rng), vec![u32::MAX; 4], vec![0, 0], vec![0; 2 * rules::limits::SEGMENT]],
         1 => {
-            vec![vec![0], bits(off_its_tile(rng)), vec![0, 0, 1, 1, 0], vec![u32::MAX], vec![0, 0], vec![0; 5]]
+            vec![vec![0], bits(off_its_tile(rng)), path([0, 0, 1, 1], 0).to_vec(), vec![u32::MAX], vec![0, 0], vec![0; 5]]
         }
-        _ => vec![vec![0], bits([8.0, 8.0, 8.0, 24.0]), vec![0, 0, 2, 2, 0], vec![!rng.range(0, 2) as u32; 4], vec![0, 0], vec![0; 5]],
+        _ => vec![
+            vec![0],
+            bits([8.0, 8.0, 8.0, 24.0]),
+            rules::records::path([0, 0, 2, 2], 0).to_vec(),
+            vec![!rng.range(0, 2) as u32; 4],
+            vec![0, 0],
+            vec![0; 5],
+        ],
     };
     Call { kind: 4, numbers: vec![0, 1], slices }
 }
@@ -66,12 +75,12 @@ fn tile(rng: &mut Rng) -> Call {
 fn frame(rng: &mut Rng) -> Call {
     let (path_nos, coords, paths, tiles) = match rng.below(12) {
         0 => (vec![0], bits([8.0, 8.0, 8.0, 24.0]), many_paths(rng), 4),
-        2..=6 => (vec![0], bits(off_its_tile(rng)), vec![0, 0, 1, 1, 0], 1),
+        2..=6 => (vec![0], bits(off_its_tile(rng)), path([0, 0, 1, 1], 0).to_vec(), 1),
         1 => {
             let (path_nos, coords, _) = many_lines(rng);
-            (path_nos, coords, vec![0, 0, 2, 2, 0], 4)
+            (path_nos, coords, rules::records::path([0, 0, 2, 2], 0).to_vec(), 4)
         }
-        _ => (vec![0], bits([80.0, 0.0, 80.0, f32::from_bits(rng.range(1, 2_000) as u32)]), vec![0, 0, 6, 1, 0], 6),
+        _ => (vec![0], bits([80.0, 0.0, 80.0, f32::from_bits(rng.range(1, 2_000) as u32)]), path([0, 0, 6, 1], 0).to_vec(), 6),
     };
     let slices = vec![path_nos, coords, paths, vec![7; tiles], vec![7; tiles], vec![7; tiles], vec![9; 8], vec![0; 20]];
     Call { kind: 7, numbers: vec![], slices }
@@ -80,7 +89,7 @@ fn frame(rng: &mut Rng) -> Call {
 /// Paths over the one screen tile, all of which its backdrop covers, about as many as its commands allow.
 fn write_lists(rng: &mut Rng) -> Call {
     let n = rules::limits::COMMANDS_MOST / 2 - rng.below(160) as u32;
-    let paths = (0..n).flat_map(|k| [0, 0, 1, 1, k]).collect();
+    let paths = (0..n).flat_map(|k| rules::records::path([0, 0, 1, 1], k)).collect();
     let words = 64 * (n as usize / 10 + 1);
     let slices = vec![paths, vec![0; 2 * n as usize], vec![1; n as usize], vec![0; n as usize], vec![0; n as usize], vec![7; words]];
     Call { kind: 8, numbers: vec![1, 1, 0], slices }
@@ -101,12 +110,44 @@ fn pixel(rng: &mut Rng, kind: u32) -> Call {
     Call { kind, numbers: vec![0, rng.range(14, 16) as u32, rng.range(14, 16) as u32, rng.u32()], slices: vec![words, vec![]] }
 }
 
+/// A recount of the last path: paths at the limit, a step off its box, a line number at the limit, or a tile so often taken, by
+/// lines of one number, that its count is at the limit.
+fn recount(rng: &mut Rng, kind: u32) -> Call {
+    let down = bits([8.0, 4.0, 8.0, 12.0]);
+    let (paths, wide) = (many_paths(rng), [80.0, 0.0, 80.0, f32::from_bits(rng.range(1, 2_000) as u32)]);
+    let boxed = |columns: u32| {
+        let mut path = vec![0; rules::limits::PATH];
+        (path[2], path[3]) = (columns, 1);
+        path
+    };
+    let often = rules::limits::COUNT_MOST as usize + rng.range(0, 2) as usize;
+    let (line_no, coords, paths, tiles) = match rng.below(12) {
+        0 => (0, down, paths, 0),
+        1 | 2 => (0, down.repeat(often), boxed(1), 1),
+        3..=5 => (rules::limits::LINES_MOST as u32 - rng.below(2) as u32, down, boxed(1), 1),
+        _ => (0, bits(wide), boxed(6), 6),
+    };
+    let lines = coords.len() / 4;
+    let slices = vec![
+        vec![line_no; lines],
+        vec![0; lines],
+        coords,
+        paths,
+        vec![7; tiles],
+        vec![7; tiles],
+        vec![9; 2 * lines + 8],
+        vec![5; tiles],
+        vec![5; tiles],
+    ];
+    Call { kind, numbers: vec![0], slices }
+}
+
 /// A call that leads to a rare answer of the kind, where it has one.
 pub fn toward(rng: &mut Rng, kind: u32) -> Option<Call> {
     Some(match NAMES[kind as usize] {
         "count" => count(rng),
         "backdrop" => {
-            let paths = if rng.coin() { many_paths(rng) } else { vec![0, 0, 2, 2, 0] };
+            let paths = if rng.coin() { many_paths(rng) } else { rules::records::path([0, 0, 2, 2], 0).to_vec() };
             let ends = rng.pick(&[[i32::MAX as u32, 1], [i32::MIN as u32, u32::MAX], [i32::MAX as u32, 0]]);
             Call { kind, numbers: vec![], slices: vec![paths, [ends, ends].concat()] }
         }
@@ -116,9 +157,10 @@ pub fn toward(rng: &mut Rng, kind: u32) -> Option<Call> {
         }
         "tile" => tile(rng),
         "frame" => frame(rng),
+        "recount" => recount(rng, kind),
         "write_lists" if rng.one_in(4) => write_lists(rng),
         "ppm_read" => {
-            let (width, height) = (rng.pick(&[0, 1, 16_384, 16_385, 99_999]), rng.pick(&[0, 1, 16_385]));
+            let (width, height) = (rng.pick(&[0, 1, SIDE_MOST, SIDE_MOST + 1, u32::MAX]), rng.pick(&[0, 1, SIDE_MOST + 1]));
             let file = format!("P6\n{width} {height}\n255\nabc").bytes().map(u32::from).collect();
             Call { kind, numbers: vec![], slices: vec![file, vec![7; 9]] }
         }

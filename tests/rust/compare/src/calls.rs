@@ -18,6 +18,26 @@ pub struct Outcome {
     pub slices: Vec<Lent>,
 }
 
+/// The kind of the call with this name.
+pub const fn kind_of(name: &str) -> u32 {
+    let mut kind = 1;
+    while kind < NAMES.len() {
+        if same_bytes(NAMES[kind].as_bytes(), name.as_bytes()) {
+            return kind as u32;
+        }
+        kind += 1;
+    }
+    panic!("no call has this name")
+}
+
+const fn same_bytes(a: &[u8], b: &[u8]) -> bool {
+    let mut k = 0;
+    while k < a.len() && k < b.len() && a[k] == b[k] {
+        k += 1;
+    }
+    k == a.len() && k == b.len()
+}
+
 /// The slices that a call of this kind may change.
 pub fn changed(kind: u32) -> &'static [usize] {
     CHANGED[kind as usize]

@@ -5,6 +5,7 @@ use crate::table::Table;
 use cases::memory::{as_f32, Lent};
 use cases::{boxes, floats, lines, Rng};
 use rules::limits::{COUNT_MOST, EDGE_MOST, LINES_MOST, PATHS_MOST, ROOM_MOST};
+use rules::records::{box_at, no_tiles, path, paths_in};
 
 #[derive(Clone, Debug)]
 pub struct Case {
@@ -24,12 +25,12 @@ pub struct Count;
 
 /// The box of a path.
 pub fn box_of(paths: &[u32], n: usize) -> [i64; 4] {
-    [0, 1, 2, 3].map(|k| paths[5 * n + k] as i64)
+    box_at(paths, n).map(|v| v as i64)
 }
 
 /// Lines of all families among the paths: their path numbers and coordinates' bits.
 pub fn some_lines(rng: &mut Rng, paths: &[u32], n: usize) -> (Vec<u32>, Vec<u32>) {
-    let among = paths.len() / 5;
+    let among = paths_in(paths);
     let one_family = rng.coin().then(|| rng.below(lines::FAMILIES.len() as u64) as usize);
     let mut path_nos = Vec::with_capacity(n);
     let mut coords = Vec::with_capacity(4 * n);
@@ -73,7 +74,7 @@ pub fn spoil_line(rng: &mut Rng, path_nos: &mut [u32], coords: &mut [u32], paths
     if rng.coin() {
         let n = path_nos.len().max(1) as u64;
         if let Some(p) = path_nos.get_mut(rng.below(n) as usize) {
-            *p = rng.pick(&[(paths.len() / 5) as u32, u32::MAX, PATHS_MOST as u32, 1 << 31]);
+            *p = rng.pick(&[paths_in(paths) as u32, u32::MAX, PATHS_MOST as u32, 1 << 31]);
         }
     } else {
         let n = coords.len().max(1) as u64;
@@ -128,7 +129,7 @@ fn past_limits(rng: &mut Rng) -> Case {
     let mut case = Case {
         path_nos: vec![],
         coords: vec![],
-        paths: vec![0, 0, 2, 2, 0],
+        paths: path([0, 0, 2, 2], 0).to_vec(),
         backdrops: vec![0; 4],
         counts: vec![0; 4],
         refs: vec![0; 16],
@@ -137,15 +138,15 @@ fn past_limits(rng: &mut Rng) -> Case {
         ends: vec![],
     };
     if rng.below(3) > 0 {
-        case.paths = [0, 0, 0, 0, 0].repeat((PATHS_MOST + over) as usize);
-        (case.path_nos, case.coords) = some_lines(rng, &[0, 0, 2, 2, 0], 2);
+        case.paths = no_tiles((PATHS_MOST + over) as usize);
+        (case.path_nos, case.coords) = some_lines(rng, &path([0, 0, 2, 2], 0), 2);
         case.ends = vec![2];
     } else {
         let n = LINES_MOST as usize + 3;
         case.path_nos = vec![0; n];
         case.coords = vec![0; 4 * n];
         case.lines = LINES_MOST as u32 - 3;
-        let (_, coords) = some_lines(rng, &[0, 0, 2, 2, 0], 6);
+        let (_, coords) = some_lines(rng, &path([0, 0, 2, 2], 0), 6);
         case.coords[4 * (n - 6)..].copy_from_slice(&coords);
         case.ends = vec![n as u32];
         case.refs = vec![9; 400];
@@ -171,7 +172,7 @@ impl Stage for Count {
         let (mut paths, mut tiles) = boxes::table(rng, n_paths, most);
         if rng.one_in(60) {
             // a box at the limit's edge, many tiles
-            paths = vec![0, 0, EDGE_MOST as u32, rng.range(1, 3) as u32, 0];
+            paths = path([0, 0, EDGE_MOST as u32, rng.range(1, 3) as u32], 0).to_vec();
             tiles = EDGE_MOST as usize * paths[3] as usize;
         }
         tiles += rng.below(4) as usize;
@@ -283,7 +284,7 @@ impl Stage for Count {
 
     fn show(&self, case: &Case) -> String {
         if case.path_nos.len() > 200 || case.paths.len() > 200 {
-            return format!("{} lines, {} paths, lines so far {}, ends {:?}", case.path_nos.len(), case.paths.len() / 5, case.lines, case.ends);
+            return format!("{} lines, {} paths, lines so far {}, ends {:?}", case.path_nos.len(), paths_in(&case.paths), case.lines, case.ends);
         }
         format!(
             "  lines so far {}, references so far {}, ends {:?}, room {} words\n  paths {:?}\n  path numbers {:?}\n  coordinates {}\n  backdrops {}\n  counts {}",
@@ -293,16 +294,16 @@ impl Stage for Count {
 }
 
 /// What is lent to be changed, and the running numbers.
-struct Memory {
-    backdrops: Lent,
-    counts: Lent,
-    refs: Lent,
+pub struct Memory {
+    pub backdrops: Lent,
+    pub counts: Lent,
+    pub refs: Lent,
     lines: u32,
-    made: u32,
+    pub made: u32,
 }
 
 impl Memory {
-    fn of(case: &Case) -> Memory {
+    pub fn of(case: &Case) -> Memory {
         Memory {
             backdrops: Lent::new(&case.backdrops),
             counts: Lent::new(&case.counts),
@@ -312,11 +313,11 @@ impl Memory {
         }
     }
 
-    fn lend(&mut self, call: impl FnOnce(&mut [i32], &mut [u32], &mut [u32], &mut u32, &mut u32) -> u32) -> u32 {
+    pub fn lend(&mut self, call: impl FnOnce(&mut [i32], &mut [u32], &mut [u32], &mut u32, &mut u32) -> u32) -> u32 {
         call(self.backdrops.i32s_mut(), self.counts.u32s_mut(), self.refs.u32s_mut(), &mut self.lines, &mut self.made)
     }
 
-    fn same_as(&self, wanted: &Memory) -> Result<(), String> {
+    pub fn same_as(&self, wanted: &Memory) -> Result<(), String> {
         same("lines so far", self.lines, wanted.lines)?;
         same("references so far", self.made, wanted.made)?;
         same_words("backdrops", self.backdrops.u32s(), wanted.backdrops.u32s())?;
@@ -341,7 +342,7 @@ fn uncut(case: &Case, path_nos: &Lent, coords: &Lent, paths: &Lent, wanted: &Mem
 }
 
 /// The lines that the rules accepted, run by the unchanged Rust.
-fn by_the_rust(case: &Case, wanted: &Memory) -> Result<(), String> {
+pub fn by_the_rust(case: &Case, wanted: &Memory) -> Result<(), String> {
     let mut memory = Memory::of(case);
     let mut made = 0;
     let (from, to, so_far) = (case.lines as usize, wanted.lines as usize, case.made);

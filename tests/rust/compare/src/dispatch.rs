@@ -22,6 +22,8 @@ pub const NAMES: &[&str] = &[
     "ppm_read",
     "pixel_area",
     "pixel",
+    "recount",
+    "svg_lines",
 ];
 
 /// The slices that a call of a kind may change.
@@ -39,6 +41,8 @@ pub const CHANGED: &[&[usize]] = &[
     &[1],
     &[],
     &[],
+    &[4, 5, 6, 7, 8],
+    &[1, 2],
 ];
 
 /// The slices that are bytes, a word for each.
@@ -56,6 +60,8 @@ pub const BYTES: &[&[usize]] = &[
     &[0, 1],
     &[],
     &[],
+    &[],
+    &[0],
 ];
 
 /// How many slices and numbers a call of a kind takes.
@@ -73,6 +79,8 @@ pub const SHAPES: &[(usize, usize)] = &[
     (2, 0),
     (1, 9),
     (2, 4),
+    (9, 1),
+    (3, 2),
 ];
 
 /// Whether a call of a kind is linked.
@@ -90,6 +98,8 @@ pub const LINKED: &[bool] = &[
     ours::has::PICTURE,
     ours::has::PIXEL,
     ours::has::PIXEL,
+    ours::has::RECOUNT,
+    ours::has::SVG,
 ];
 
 macro_rules! answered_by {
@@ -268,6 +278,41 @@ macro_rules! answered_by {
                         &mut pixel,
                     );
                     vec![no, 0, pixel]
+                }
+                (13, [line_nos, path_nos, coords, paths, backdrops, counts, refs, kept_backdrops, kept_counts]) => {
+                    let mut made = UNTOLD;
+                    let mut item = UNTOLD;
+                    let no = $side::recount(
+                        n[0],
+                        line_nos.u32s(),
+                        path_nos.u32s(),
+                        coords.f32s(),
+                        paths.u32s(),
+                        backdrops.i32s_mut(),
+                        counts.u32s_mut(),
+                        refs.u32s_mut(),
+                        kept_backdrops.i32s_mut(),
+                        kept_counts.u32s_mut(),
+                        &mut made,
+                        &mut item,
+                    );
+                    vec![no, item, made]
+                }
+                (14, [text, path_nos, coords]) => {
+                    let mut lines = UNTOLD as usize;
+                    let mut place = UNTOLD as usize;
+                    let text_bytes = LentBytes::of(text.u32s());
+                    let no = $side::svg_lines(
+                        text_bytes.u8s(),
+                        n[0],
+                        n[1],
+                        path_nos.u32s_mut(),
+                        coords.f32s_mut(),
+                        &mut lines,
+                        &mut place,
+                    );
+                    text_bytes.give_back(text.u32s_mut());
+                    vec![no, 0, lines as u32, place as u32]
                 }
                 _ => panic!("no call of kind {}", call.kind),
             };

@@ -5,6 +5,7 @@ use crate::stage::{hex, same, same_words, Sides, Stage};
 use crate::table::Table;
 use cases::memory::{as_f32, one_nan, one_zero, Lent};
 use cases::{floats, segments, Rng};
+use rules::limits::SEGMENT;
 
 #[derive(Clone, Debug)]
 pub struct Case {
@@ -37,7 +38,7 @@ fn held(words: usize) -> Vec<u32> {
 impl Stage for Fill {
     type Case = Case;
     const NAME: &'static str = "fill";
-    const REACHED: &'static [u32] = &[0, 1, 13];
+    const REACHED: &'static [u32] = &[0, 1, 13, 20];
     const LEAST: u64 = 20_000;
 
     fn make(&self, rng: &mut Rng) -> Case {
@@ -110,16 +111,16 @@ impl Stage for Fill {
 
     fn smaller(&self, case: &Case) -> Vec<Case> {
         let mut out = vec![];
-        if case.segments.len() % 5 == 0 && case.first == 0 && case.number as usize == case.segments.len() / 5 {
+        if case.segments.len() % SEGMENT == 0 && case.first == 0 && case.number as usize == case.segments.len() / SEGMENT {
             for k in 0..case.number as usize {
                 let mut c = case.clone();
-                c.segments.drain(5 * k..5 * k + 5);
+                c.segments.drain(SEGMENT * k..SEGMENT * (k + 1));
                 c.number -= 1;
                 out.push(c);
             }
-        } else if case.first > 0 && (case.first as usize) <= case.segments.len() / 5 {
+        } else if case.first > 0 && (case.first as usize) <= case.segments.len() / SEGMENT {
             let mut c = case.clone();
-            c.segments.drain(..5 * c.first as usize);
+            c.segments.drain(..SEGMENT * c.first as usize);
             c.first = 0;
             out.push(c);
         }

@@ -405,7 +405,7 @@ fn roomy(input: Input) -> Input {
 }
 
 /// A line at 16 or more, its ends anywhere or a few ulps from tiles' corners, in the box that reaches one tile further than their
-/// tiles on every side: there no step is outside (docs/THEOREMS.md, 14).
+/// tiles on every side: there no step is outside (docs/THEOREMS.md, 16).
 fn margined(rng: &mut Rng) -> Input {
     let most = rng.pick(&[3, 24, 300, EDGE_MOST - 2]);
     let place = |rng: &mut Rng| {

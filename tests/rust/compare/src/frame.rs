@@ -6,7 +6,8 @@ use crate::table::Table;
 use cases::memory::{as_f32, Lent};
 use cases::{boxes, lines, Rng};
 use rules::frame::{COUNTING, HAND_OUT, LENT, TILING};
-use rules::limits::{EDGE_MOST, PATHS_MOST};
+use rules::limits::{EDGE_MOST, PATHS_MOST, SEGMENT};
+use rules::records::{box_at, no_tiles, path, paths_in};
 
 #[derive(Clone, Debug)]
 pub struct Case {
@@ -32,7 +33,7 @@ const SHORT: [u32; 4] = [0x42a0_0000, 0, 0x42a0_0000, 1_000];
 fn lines_of(rng: &mut Rng, families: &[usize], paths: &[u32], n: usize) -> (Vec<u32>, Vec<u32>) {
     let (mut path_nos, mut coords) = (vec![], vec![]);
     for _ in 0..n {
-        let path = rng.below(paths.len() as u64 / 5) as usize;
+        let path = rng.below(paths_in(&paths) as u64) as usize;
         let family = rng.pick(families);
         path_nos.push(path as u32);
         coords.extend(lines::of_family(rng, family, &box_of(paths, path)).map(f32::to_bits));
@@ -44,7 +45,7 @@ fn lines_of(rng: &mut Rng, families: &[usize], paths: &[u32], n: usize) -> (Vec<
 /// room for all or nearly all.
 pub fn over(rng: &mut Rng, paths: Vec<u32>, tiles: usize, n: usize, families: &[usize]) -> Case {
     let (path_nos, coords) = if families.is_empty() { some_lines(rng, &paths, n) } else { lines_of(rng, families, &paths, n) };
-    let reach = paths.chunks_exact(5).map(|p| (p[2] - p[0] + p[3] - p[1]) as usize).max().unwrap_or(0);
+    let reach = (0..paths_in(&paths)).map(|k| box_at(&paths, k)).map(|[x0, y0, x1, y1]| (x1 - x0 + y1 - y0) as usize).max().unwrap_or(0);
     let (mut b, mut c, mut r) = (vec![0; tiles], vec![0; tiles], vec![0; 2 * n * (120 + reach)]);
     let (mut lines, mut made) = (0, 0);
     rules::count(&path_nos, as_f32(&coords), &paths, &mut b, &mut c, &mut r, n as u32, &mut lines, &mut made, &mut 0);
@@ -57,7 +58,7 @@ pub fn over(rng: &mut Rng, paths: Vec<u32>, tiles: usize, n: usize, families: &[
     let mut any = |n: usize| (0..n).map(|_| rng.u32()).collect::<Vec<u32>>();
     let (backdrops, counts, tally, refs) = (any(tiles), any(tiles), any(tiles), any(2 * refs));
     // NaNs with payloads, so that a word left alone is seen to be
-    let segments = (0..5 * slots).map(|k| 0x7fb0_0000 + k as u32).collect();
+    let segments = (0..SEGMENT * slots).map(|k| 0x7fb0_0000 + k as u32).collect();
     Case { path_nos, coords, paths, backdrops, tiles: counts, tally, refs, segments }
 }
 
@@ -72,7 +73,7 @@ fn spoil(rng: &mut Rng, case: &mut Case) {
         6 => _ = case.refs.pop(),
         7 => case.segments.push(1),
         8..=10 => spoil_line(rng, &mut case.path_nos, &mut case.coords, &case.paths),
-        11 => case.paths = [0, 0, 0, 0, 0].repeat(PATHS_MOST as usize + rng.below(3) as usize),
+        11 => case.paths = no_tiles(PATHS_MOST as usize + rng.below(3) as usize),
         _ => boxes::spoil(rng, &mut case.paths, case.tiles.len()),
     }
 }
@@ -93,7 +94,7 @@ impl Stage for Frame {
         let families: &[usize] = rng.pick(&[&CALM[..], &CALM, &CALM, &ODD, &[]]);
         let mut case = over(rng, paths, tiles, n, families);
         if rng.one_in(40) {
-            case = over(rng, vec![0, 0, 6, 1, 0], 6, n + 1, &CALM);
+            case = over(rng, path([0, 0, 6, 1], 0).to_vec(), 6, n + 1, &CALM);
             let k = rng.below(n as u64 + 1) as usize;
             case.coords[4 * k..4 * k + 4].copy_from_slice(&SHORT);
         }
@@ -157,7 +158,7 @@ impl Stage for Frame {
 
     fn show(&self, case: &Case) -> String {
         if case.paths.len() > 200 {
-            return format!("  {} paths", case.paths.len() / 5);
+            return format!("  {} paths", paths_in(&case.paths));
         }
         format!(
             "  paths {:?}\n  path numbers {:?}\n  coordinates {}\n  tiles {}, {} and {}, words of references {}, of segments {}",
@@ -187,7 +188,7 @@ impl Memory {
     }
 
     fn same_as(&self, wanted: &Memory) -> Result<(), String> {
-        let names = ["backdrops", "tiles", "tally", "references", "segments"];
+        let names = ["backdrops", "stored", "tally", "references", "segments"];
         for ((got, wanted), name) in self.0.iter().zip(&wanted.0).zip(names) {
             same_words(name, got.u32s(), wanted.u32s())?;
             same(name, got.guards_stand(), true)?;
@@ -212,7 +213,7 @@ fn by_the_rust(case: &Case, told: [u32; 4], wanted: &Memory) -> Result<(), Strin
         if stage == HAND_OUT {
             return Ok(made);
         }
-        rules::hand_out(t, tally, (s.len() / 5) as u32);
+        rules::hand_out(t, tally, (s.len() / SEGMENT) as u32);
         let to = if stage == TILING { item } else { made };
         oracle::tile(&case.path_nos, coords, &case.paths, t, r, 0, to as usize, s)?;
         Ok(made)

@@ -2,11 +2,13 @@
 //! altered, and now and then a call that leads to a rare answer (`borders`).
 
 use crate::borders;
-use crate::calls::{by_ours, by_rules, linked, same_outcome, shape, Call, BYTES, NAMES};
+use crate::calls::{by_ours, by_rules, kind_of, linked, same_outcome, shape, Call, BYTES, NAMES};
 use crate::stage::{hex, Sides, Stage};
 use crate::table::Table;
-use cases::{boxes, floats, lines, segments, Rng};
-use rules::limits::{COORD_MOST, COUNT_MOST, EDGE_MOST, LINES_MOST, PATHS_MOST, ROOM_MOST, STEP_RANGE};
+use cases::{boxes, floats, lines, segments, texts, Rng};
+use rules::limits::{COORD_MOST, COUNT_MOST, EDGE_MOST, LINE, LINES_MOST, PATH, PATHS_MOST, REF, ROOM_MOST, SEGMENT, STEP_RANGE};
+use rules::records::box_at;
+use rules::walk::Place;
 
 /// Words at the ends of what a word holds, and at the limits.
 const LIMITS: [u32; 11] = [
@@ -28,8 +30,13 @@ const FINE: u32 = 6;
 const PIXEL: u32 = 12;
 const LISTS: [u32; 2] = [FINE, PIXEL];
 
+const SVG_LINES: u32 = kind_of("svg_lines");
+
 /// The kind of a call of a float helper: its number is the helper's place, its slices the operands.
 const HELPER: u32 = 0;
+
+/// A call that is lent NULL for a slice of no elements.
+const NULL_ROW: &str = "lent NULL for none";
 
 /// How often each answer of each call is wanted, and each helper.
 const LEAST: u64 = if ours::BRIDGED { 1 } else { 50 };
@@ -37,12 +44,15 @@ const LEAST: u64 = if ours::BRIDGED { 1 } else { 50 };
 /// The calls whose stage is linked; all of them where only the rules are run.
 pub struct Hostile {
     pub kinds: Vec<u32>,
+    /// Whether NULL is lent for none: where the archive's own functions are called.
+    null: bool,
 }
 
 impl Hostile {
     pub fn new(all: bool) -> Hostile {
         let helpers = (!all && ours::has::FLOATS).then_some(HELPER);
-        Hostile { kinds: (1..NAMES.len() as u32).filter(|&k| all || linked(k)).chain(helpers).collect() }
+        let kinds = (1..NAMES.len() as u32).filter(|&k| all || linked(k)).chain(helpers).collect();
+        Hostile { kinds, null: !all && !ours::BRIDGED }
     }
 }
 
@@ -74,7 +84,7 @@ fn good(rng: &mut Rng, kind: u32) -> Call {
     let n_paths = rng.range(0, 3) as usize;
     let (paths, tiles) = boxes::table(rng, n_paths, 5);
     let n = rng.range(0, 5) as usize;
-    let b = if paths.is_empty() { [0, 0, 2, 2] } else { [0, 1, 2, 3].map(|k| paths[k] as i64) };
+    let b = if paths.is_empty() { [0, 0, 2, 2] } else { box_at(&paths, 0).map(|v| v as i64) };
     let path_nos: Vec<u32> = (0..n).map(|_| rng.below(n_paths.max(1) as u64) as u32).collect();
     let coords: Vec<u32> = (0..n).flat_map(|_| lines::any(rng, &b).1.map(f32::to_bits)).collect();
     let words = |rng: &mut Rng, n: usize| -> Vec<u32> { (0..n).map(|_| rng.below(4) as u32).collect() };
@@ -90,7 +100,7 @@ fn good(rng: &mut Rng, kind: u32) -> Call {
             let made = rng.below(6) as usize;
             let refs = (0..made).flat_map(|_| [rng.below(n.max(1) as u64) as u32, rng.below(3) as u32 * STEP_RANGE + rng.below(4) as u32]).collect();
             let stored = (0..tiles).map(|_| if rng.one_in(4) { 0 } else { !(rng.below(20) as u32) }).collect();
-            let room = 5 * rng.below(30) as usize;
+            let room = SEGMENT * rng.below(30) as usize;
             (vec![0, made as u32], vec![path_nos, coords, paths, stored, refs, words(rng, room)])
         }
         5 => {
@@ -98,7 +108,7 @@ fn good(rng: &mut Rng, kind: u32) -> Call {
             (numbers, vec![list, words(rng, 256)])
         }
         7 => {
-            let (refs, room) = (2 * rng.below(60) as usize, 5 * rng.below(60) as usize);
+            let (refs, room) = (REF * rng.below(60) as usize, SEGMENT * rng.below(60) as usize);
             let tables = [words(rng, tiles), words(rng, tiles), words(rng, tiles), words(rng, refs), words(rng, room)];
             (vec![], [path_nos, coords, paths].into_iter().chain(tables).collect())
         }
@@ -134,11 +144,28 @@ fn good(rng: &mut Rng, kind: u32) -> Call {
             let list_words = (0..64 * tiles).map(|k| if k % 64 == 0 { 0 } else { rng.below(6) as u32 }).collect();
             (vec![rng.below(3) as u32, rng.below(17) as u32, rng.below(17) as u32, any_word(rng)], vec![list_words, list])
         }
+        _ if NAMES[kind as usize] == "recount" => {
+            let path = rng.below(n_paths.max(1) as u64) as u32;
+            let kept = paths.chunks_exact(PATH).nth(path as usize).map(Place::of).map_or(0, |b| ((b.x1 - b.x0) * (b.y1 - b.y0)) as usize);
+            let of = path_nos.iter().map(|&p| if rng.one_in(8) { p } else { path }).collect();
+            let (refs, line_nos) = (2 * rng.below(60) as usize, (0..n).map(|_| rng.below(9) as u32).collect());
+            let tables = [words(rng, tiles), words(rng, tiles), words(rng, refs), words(rng, kept), words(rng, kept)];
+            (vec![path], [line_nos, of, coords, paths].into_iter().chain(tables).collect())
+        }
         FINE => {
             let (cols, rows) = (rng.below(3) as u32, rng.below(2) as u32);
             let list_words = (0..64 * cols * rows).map(|k| if k % 64 == 0 { 0 } else { rng.below(6) as u32 }).collect();
             let pixels = words(rng, (256 * cols * rows) as usize);
             (vec![16 * cols, cols, rows, 0, cols * rows], vec![list_words, list, pixels])
+        }
+        SVG_LINES => {
+            let commands = rng.below(6);
+            let text = texts::valid(rng, commands);
+            let depth = rng.below(3) as u32;
+            let needed = rules::svg::outline(&text, depth).map_or(0, |lines| lines.len());
+            let room = needed.saturating_add_signed(rng.range(-1, 2) as isize);
+            let text = text.into_iter().map(u32::from).collect();
+            (vec![depth, any_word(rng)], vec![text, words(rng, room), words(rng, LINE * room)])
         }
         _ => panic!("no good call of kind {kind}, {}: write one", NAMES[kind as usize]),
     };
@@ -218,6 +245,10 @@ impl Stage for Hostile {
         let wanted = by_rules(call);
         table.add(&row(call.kind, wanted.answer[0]), 1);
         if sides.ours {
+            let lengths: Vec<usize> = call.slices.iter().map(Vec::len).collect();
+            if self.null && ours::null::is_lent(&lengths) {
+                table.add(NULL_ROW, 1);
+            }
             same_outcome(call, &by_ours(call), &wanted)?;
         }
         Ok(())
@@ -252,6 +283,7 @@ impl Stage for Hostile {
                 rows.extend(borders::answers(kind).iter().map(|&answer| row(kind, answer)));
             }
         }
+        rows.extend(self.null.then(|| NULL_ROW.to_string()));
         rows.into_iter().map(|row| (row, LEAST)).collect()
     }
 }

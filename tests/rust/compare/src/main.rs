@@ -6,7 +6,7 @@
 //! `rules-vs-oracle` (no archive needed: build with --no-default-features), `findings` (what was found in the Rust,
 //! with the smallest inputs), `lists` (the gate's lists replayed),
 //! `limits` (those that need long slices, some hundreds of megabytes), `all-floats` (every bit pattern of the
-//! one-argument helpers).
+//! one-argument helpers), `all-numbers` (every number of six digits and three in a text of SVG; `--cases N`: one in N).
 //! `--as-found` leaves a difference as it was found, and doesn't make it smaller.
 //! Ends with a status other than 0 where anything differed or an answer was met too seldom: 1; 3 where nothing differed, but
 //! the Rust's source isn't at hand.
@@ -28,7 +28,9 @@ mod limits;
 mod lists;
 mod order;
 mod pixel;
+mod recount;
 mod stage;
+mod svg_lines;
 mod table;
 mod tiling;
 mod write_lists;
@@ -101,8 +103,22 @@ fn run<S: Stage>(stage: &S, args: &Args, linked: bool, seconds: f64) -> bool {
     stage::run(stage, Sides { ours, rust: oracle::AT_HAND }, budget)
 }
 
-const STAGES: [&str; 12] =
-    ["floats", "backdrop", "hand_out", "count", "tile", "fill", "fine", "frame", "write_lists", "pixel", "order", hostile::Hostile::NAME];
+const STAGES: [&str; 14] = [
+    "floats",
+    "backdrop",
+    "hand_out",
+    "count",
+    "tile",
+    "fill",
+    "fine",
+    "frame",
+    "write_lists",
+    "pixel",
+    "recount",
+    "svg_lines",
+    "order",
+    hostile::Hostile::NAME,
+];
 
 fn stages(args: &Args) -> bool {
     if let Some(only) = args.only.as_deref().filter(|only| !STAGES.contains(only)) {
@@ -121,6 +137,11 @@ fn stages(args: &Args) -> bool {
     well &= run(&frame::Frame, args, ours::has::FRAME, 12.0);
     well &= run(&write_lists::WriteLists, args, ours::has::LISTS, 12.0);
     well &= run(&pixel::Pixel, args, ours::has::PIXEL && ours::has::FILL && ours::has::FINE, 8.0);
+    well &= run(&recount::Recount, args, ours::has::RECOUNT && ours::has::COUNT, 6.0);
+    well &= run(&svg_lines::SvgLines, args, ours::has::SVG, 6.0);
+    if ours::has::SVG && args.mode != "rules-vs-oracle" && args.cases.is_none() && args.only.as_deref().is_none_or(|o| o == "svg_lines") {
+        well &= svg_lines::fixed();
+    }
     if ours::has::COUNT && ours::has::BACKDROP && args.mode != "rules-vs-oracle" && args.only.as_deref().is_none_or(|o| o == "order") {
         well &= order::run(args.seconds.unwrap_or(3.0 * args.longer), args.seed);
     }
@@ -164,6 +185,7 @@ fn main() {
     let well = match args.mode.as_str() {
         "all" | "rules-vs-oracle" => stages(&args),
         "all-floats" => floats::all_patterns(args.threads),
+        "all-numbers" => svg_lines::all_numbers(args.cases.unwrap_or(1), args.seed),
         "lists" => lists::run(),
         "limits" => limits::run(true, true),
         "findings" => findings::run(args.cases.unwrap_or(2_000_000), args.seed, args.threads),

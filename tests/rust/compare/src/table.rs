@@ -21,7 +21,7 @@ impl Table {
 
     /// An answer of a call.
     pub fn answer(&mut self, number: u32) {
-        const NAMES: [&str; 20] = [
+        const NAMES: [&str; 23] = [
             "answer  0",
             "answer  1",
             "answer  2",
@@ -42,6 +42,9 @@ impl Table {
             "answer 17",
             "answer 18",
             "answer 19",
+            "answer 20",
+            "answer 21",
+            "answer 22",
         ];
         self.add(NAMES.get(number as usize).copied().unwrap_or("answer of no meaning"), 1);
     }

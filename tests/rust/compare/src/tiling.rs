@@ -5,7 +5,8 @@ use crate::stage::{hex, same, same_words, Sides, Stage};
 use crate::table::Table;
 use cases::memory::{as_f32, Lent};
 use cases::{boxes, Rng};
-use rules::limits::{EDGE_MOST, PATHS_MOST, ROOM_MOST, STEP_RANGE};
+use rules::limits::{EDGE_MOST, PATHS_MOST, ROOM_MOST, SEGMENT, STEP_RANGE};
+use rules::records::{no_tiles, paths_in};
 
 #[derive(Clone, Debug)]
 pub struct Case {
@@ -108,7 +109,7 @@ impl Stage for Tile {
             _ => made as usize,
         };
         // NaNs with payloads, so that a word left alone is seen to be
-        case.segments = (0..5 * room).map(|k| 0x7fb0_0000 + k as u32).collect();
+        case.segments = (0..SEGMENT * room).map(|k| 0x7fb0_0000 + k as u32).collect();
         if rng.one_in(3) {
             case.counted = false;
             invent(rng, &mut case);
@@ -128,7 +129,7 @@ impl Stage for Tile {
         if rng.one_in(70) {
             case.counted = false;
             let n = PATHS_MOST + rng.range(0, 2);
-            case.paths = [0, 0, 0, 0, 0].repeat(n as usize);
+            case.paths = no_tiles(n as usize);
         }
         case
     }
@@ -204,7 +205,7 @@ impl Stage for Tile {
 
     fn show(&self, case: &Case) -> String {
         if case.paths.len() > 200 {
-            return format!("  {} paths", case.paths.len() / 5);
+            return format!("  {} paths", paths_in(&case.paths));
         }
         format!(
             "  paths {:?}\n  path numbers {:?}\n  coordinates {}\n  stored {}\n  references {}\n  room {} words, ranges {:?}",

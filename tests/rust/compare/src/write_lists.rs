@@ -7,8 +7,9 @@ use crate::table::Table;
 use cases::commands::{color, Command, Lists};
 use cases::memory::{as_f32, Lent};
 use cases::{boxes, segments, Rng};
-use rules::limits::{EDGE_MOST, PATHS_MOST, ROOM_MOST};
+use rules::limits::{BAD_SEGMENT, EDGE_MOST, LINE, PATH, PATHS_MOST, ROOM_MOST, SEGMENT};
 use rules::lists::{Pair, Tables};
+use rules::records::{box_at, first_at, no_tiles, path, paths_in, words_of};
 
 #[derive(Clone, Debug)]
 pub struct Case {
@@ -40,7 +41,7 @@ fn near_boxes(rng: &mut Rng, n: usize, most: i64) -> (Vec<u32>, usize) {
         if n < 8 && rng.one_in(200) {
             w = EDGE_MOST - x; // as far right as a box may reach, most of it off the screen
         }
-        paths.extend([x, y, x + w, y + h, next].map(|v| v as u32));
+        paths.extend(path([x, y, x + w, y + h].map(|v| v as u32), next as u32));
         next += w * h + rng.one_in(6) as i64;
     }
     (paths, next as usize)
@@ -73,7 +74,7 @@ fn left_by(f: frame::Case, paints: Vec<u32>) -> Option<Case> {
         tally,
         cols: 0,
         rows: 0,
-        room: segments.len() as u32 / 5,
+        room: (segments.len() / SEGMENT) as u32,
         words: 0,
         segments,
         frame: Some(f),
@@ -165,7 +166,7 @@ fn spoil(rng: &mut Rng, case: &mut Case) {
         6 | 7 => (case.cols, case.rows) = rng.pick(&OVER),
         8 => {
             let n = PATHS_MOST as usize + rng.below(3) as usize;
-            case.paths = [0, 0, 0, 0, 0].repeat(n);
+            case.paths = no_tiles(n);
             case.paints = vec![1; 2 * n];
         }
         _ => boxes::spoil(rng, &mut case.paths, case.stored.len()),
@@ -256,9 +257,9 @@ impl Case {
 /// The frame less a path and its lines; the tiles of that path lie between others then.
 fn without_path(f: &frame::Case, k: usize) -> frame::Case {
     let mut less = f.clone();
-    less.paths.drain(5 * k..5 * k + 5);
+    less.paths.drain(words_of(k));
     (less.path_nos, less.coords) = (vec![], vec![]);
-    for (&path, line) in f.path_nos.iter().zip(f.coords.chunks_exact(4)).filter(|(&path, _)| path as usize != k) {
+    for (&path, line) in f.path_nos.iter().zip(f.coords.chunks_exact(LINE)).filter(|(&path, _)| path as usize != k) {
         less.path_nos.push(path - (path as usize > k) as u32);
         less.coords.extend(line);
     }
@@ -318,7 +319,7 @@ impl Stage for WriteLists {
             same("answer and item", told, (number, item))?;
             by_ours.same_as(&by_rules)?;
         }
-        if number == 0 && case.segments.len() == 5 * case.room as usize {
+        if number == 0 && case.segments.len() == SEGMENT * case.room as usize {
             let lists = if sides.ours { &by_ours } else { &by_rules };
             draw(case, lists, &by_rules, sides, table)?;
         }
@@ -333,10 +334,10 @@ impl Stage for WriteLists {
             low.rows -= 1;
             out.extend([narrow, low]);
         }
-        if case.paths.len() % 5 == 0 && case.paints.len() == 2 * (case.paths.len() / 5) {
-            for k in (0..case.paths.len() / 5).take(100) {
+        if case.paths.len() % PATH == 0 && case.paints.len() == 2 * (paths_in(&case.paths)) {
+            for k in (0..paths_in(&case.paths)).take(100) {
                 let mut c = case.clone();
-                c.paths.drain(5 * k..5 * k + 5);
+                c.paths.drain(words_of(k));
                 c.paints.drain(2 * k..2 * k + 2);
                 out.extend(match &case.frame {
                     Some(f) => case.framed(without_path(f, k), c.paints),
@@ -352,7 +353,7 @@ impl Stage for WriteLists {
 
     fn show(&self, case: &Case) -> String {
         if case.paths.len() > 600 {
-            return format!("  {} paths, screen {} by {}, room {}, {} words", case.paths.len() / 5, case.cols, case.rows, case.room, case.words);
+            return format!("  {} paths, screen {} by {}, room {}, {} words", paths_in(&case.paths), case.cols, case.rows, case.room, case.words);
         }
         let paths = || format!("  paths {:?}, tables that no frame made", case.paths);
         let from = case.frame.as_ref().map_or_else(paths, |f| frame::Frame.show(f));
@@ -370,7 +371,8 @@ impl Stage for WriteLists {
     }
 }
 
-/// Fine over the lists, and each tile painted without a list from the rules' tables: by the rules, and by the Rust.
+/// Fine over the lists, and each tile painted without a list from the rules' tables: by the rules, and by the Rust. It stops at the first tile
+/// on which a fill has a crooked segment, and only there.
 fn draw(case: &Case, lists: &Memory, by_rules: &Memory, sides: Sides, table: &mut Table) -> Result<(), String> {
     let (cols, rows) = (case.cols, case.rows);
     let width = 16 * cols as usize;
@@ -378,11 +380,18 @@ fn draw(case: &Case, lists: &Memory, by_rules: &Memory, sides: Sides, table: &mu
     let mut item = 0;
     let fine = if sides.ours && ours::has::FINE { ours::fine } else { rules::fine };
     let number = fine(lists.words.u32s(), lists.segments.f32s(), width as u32, cols, rows, 0, cols * rows, &mut pixels, &mut item);
-    same("fine's answer over the written lists", (number, item), (0, 0))?;
     let (tables, segments) = (by_rules.read(), by_rules.segments.f32s());
+    let place = |t: u32| ((t % cols) as i64, (t / cols) as i64);
+    let crooked = |t: &u32| rules::lists::crooked(&tables.pairs(place(*t).0, place(*t).1), segments);
+    let stop = (0..cols * rows).find(crooked);
+    same("fine's answer over the written lists", (number, item), stop.map_or((0, 0), |t| (BAD_SEGMENT, t)))?;
+    if case.frame.is_some() {
+        same("a frame's segments are taken", stop, None)?;
+    }
+    table.add("screens with a crooked segment", stop.is_some() as u64);
     let records = oracle::segments_of(segments);
-    for t in 0..cols * rows {
-        let (x, y) = ((t % cols) as i64, (t / cols) as i64);
+    for t in 0..stop.unwrap_or(cols * rows) {
+        let (x, y) = place(t);
         let at = |row: usize| width * (16 * y as usize + row) + 16 * x as usize;
         let drawn: Vec<u32> = (0..16).flat_map(|row| pixels[at(row)..at(row) + 16].to_vec()).collect();
         let pairs = tables.pairs(x, y);
@@ -402,10 +411,10 @@ fn draw(case: &Case, lists: &Memory, by_rules: &Memory, sides: Sides, table: &mu
 /// Every path whose box has the tile as a FILL and its colour, one after another, with no regions: no test of covering, but
 /// the Rust's own fill of no segments. Only a backdrop that a float can't hold is made small, odd staying odd.
 fn fills_alone(tables: &Tables, x: i64, y: i64) -> Lists {
-    let mut lists = Lists::new(6 * tables.paths.len() / 5 + 2, 0);
+    let mut lists = Lists::new(6 * paths_in(&tables.paths) + 2, 0);
     let mut at = 1;
-    for (path, paint) in tables.paths.chunks_exact(5).zip(tables.paints.chunks_exact(2)) {
-        let [x0, y0, x1, y1, first] = [0, 1, 2, 3, 4].map(|k| path[k] as i64);
+    for (path, paint) in tables.paths.chunks_exact(PATH).zip(tables.paints.chunks_exact(2)) {
+        let ([x0, y0, x1, y1], first) = (box_at(path, 0).map(i64::from), i64::from(first_at(path, 0)));
         if !(x0..x1).contains(&x) || !(y0..y1).contains(&y) {
             continue;
         }

@@ -6,7 +6,8 @@ use crate::SEED;
 use cases::commands::{color, fill, Command, Lists};
 use cases::memory::{as_f32, one_nan};
 use cases::{boxes, floats, lines, segments, Rng};
-use rules::limits::{COMMANDS_MOST, COORD_MOST, COUNT_MOST, EDGE_MOST, ROOM_MOST, TILES_MOST, WALK_MOST};
+use rules::limits::{COMMANDS_MOST, COORD_MOST, COUNT_MOST, EDGE_MOST, ROOM_MOST, SEGMENT, TILES_MOST, WALK_MOST};
+use rules::records::{box_at, path, paths_in};
 
 fn bits(line: [f32; 4]) -> [u32; 4] {
     line.map(|v| one_nan(v.to_bits()))
@@ -152,7 +153,7 @@ fn count_traces(list: &mut List) {
         ("(0,8)-(32,8)", square(0).with(0, [0.0, 8.0, 32.0, 8.0])),
         ("box 1,0,3,2: row marks", square(1).with(0, [8.0, 8.0, 8.0, 24.0])),
         ("and reversed", square(1).with(0, [8.0, 24.0, 8.0, 8.0])),
-        ("box 0,0,6,1: 1/(dx+dy) overflows, 10", Counting::new(&[0, 0, 6, 1, 0], 6).with(0, [80.0, 0.0, 80.0, tiny])),
+        ("box 0,0,6,1: 1/(dx+dy) overflows, 10", Counting::new(&path([0, 0, 6, 1], 0), 6).with(0, [80.0, 0.0, 80.0, tiny])),
         ("so short, no step left: accepted", square(1).with(0, [8.0, -tiny, 8.0, tiny])),
         ("a coordinate at the limit passes", square(0).with(0, [COORD_MOST, 3.0, -COORD_MOST, 20.0])),
         ("the next float is 6", square(0).with(0, [3.0, 3.0, 4.0, after_limit])),
@@ -163,18 +164,18 @@ fn count_traces(list: &mut List) {
         ("one more is 3", Counting::new(&[edge - 2, edge - 2, edge + 1, edge, 0], 6)),
         (
             "first and last step numbers at the top of u32: accepted",
-            Counting::new(&[3, 1, 4, 2, 0], 1).with(0, [12.0, 16.0, 108.0, f32::from_bits(0x417f_fffe)]),
+            Counting::new(&path([3, 1, 4, 2], 0), 1).with(0, [12.0, 16.0, 108.0, f32::from_bits(0x417f_fffe)]),
         ),
         (
             "the walk jumps: refused or not, whole",
-            Counting::new(&[0, 0, 5, 4, 0], 20).with(0, [0x42c0_0001, 0x4200_0001, 0xc180_0000u32, 0x41ff_fffd].map(f32::from_bits)),
+            Counting::new(&path([0, 0, 5, 4], 0), 20).with(0, [0x42c0_0001, 0x4200_0001, 0xc180_0000u32, 0x41ff_fffd].map(f32::from_bits)),
         ),
-        ("a box of no height: 10", Counting::new(&[0, 0, 2, 0, 0], 0).with(0, [28.0, 0.0, 8.0, f32::from_bits(0x8000_003a)])),
+        ("a box of no height: 10", Counting::new(&path([0, 0, 2, 0], 0), 0).with(0, [28.0, 0.0, 8.0, f32::from_bits(0x8000_003a)])),
         (
             "flat over a wide box: 10",
-            Counting::new(&[0, 3, 64, 6, 0], 192).with(0, [0x4198_7d59, 0x423f_ff2d, 0x447e_1e7f, 0x4240_0189u32].map(f32::from_bits)),
+            Counting::new(&path([0, 3, 64, 6], 0), 192).with(0, [0x4198_7d59, 0x423f_ff2d, 0x447e_1e7f, 0x4240_0189u32].map(f32::from_bits)),
         ),
-        ("steep: 10", Counting::new(&[4, 3, 5, 7, 0], 4).with(0, [64.0, 128.0, f32::from_bits(0x427f_ffff), 48.0])),
+        ("steep: 10", Counting::new(&path([4, 3, 5, 7], 0), 4).with(0, [64.0, 128.0, f32::from_bits(0x427f_ffff), 48.0])),
     ];
     for (said, case) in traces {
         list.say(said);
@@ -280,19 +281,18 @@ fn family_case(rng: &mut Rng, family: usize, round: u64) -> Counting {
     let kind = round % boxes::KINDS;
     let most = if round < 9 { 20 } else { 4 };
     let b = boxes::of_kind(rng, kind, most);
-    let mut paths: Vec<u32> = b.iter().map(|&v| v as u32).collect();
-    paths.push(if round % 4 == 0 { 2 } else { 0 });
-    let mut tiles = paths[4] + ((b[2] - b[0]) * (b[3] - b[1])) as u32;
+    let first = if round % 4 == 0 { 2 } else { 0 };
+    let mut paths = path(b.map(|v| v as u32), first).to_vec();
+    let mut tiles = first + ((b[2] - b[0]) * (b[3] - b[1])) as u32;
     if round % 3 == 0 {
         let second = boxes::of_kind(rng, 1, 3);
-        paths.extend(second.map(|v| v as u32));
-        paths.push(tiles + 1);
+        paths.extend(path(second.map(|v| v as u32), tiles + 1));
         tiles += 1 + ((second[2] - second[0]) * (second[3] - second[1])) as u32;
     }
     let mut case = Counting::new(&paths, tiles as usize + 1);
     for _ in 0..8 {
-        let path = rng.below((paths.len() / 5) as u64) as usize;
-        let b = [0, 1, 2, 3].map(|k| paths[5 * path + k] as i64);
+        let path = rng.below(paths_in(&paths) as u64) as usize;
+        let b = box_at(&paths, path).map(|v| v as i64);
         case = case.with(path as u32, lines::of_family(rng, family, &b));
     }
     if round % 5 == 0 {
@@ -459,7 +459,7 @@ impl Tiling {
     }
 
     fn written(&self) -> Written {
-        let before = vec![0x447a_0000u32; 5 * self.room];
+        let before = vec![0x447a_0000u32; SEGMENT * self.room];
         let mut after: Vec<f32> = as_f32(&before).to_vec();
         let mut item = 0;
         let number =
@@ -492,7 +492,7 @@ impl Tiling {
 pub fn tiling() -> String {
     let mut list = List::default();
     let mut rng = Rng::new(SEED + 4);
-    let square = || Counting::new(&[0, 0, 2, 2, 0], 4);
+    let square = || Counting::new(&path([0, 0, 2, 2], 0), 4);
     let traces = [
         [8.0, 8.0, 8.0, 24.0],
         [16.0, 0.0, 16.0, 16.0],
@@ -508,7 +508,8 @@ pub fn tiling() -> String {
     list.say("12 of references that counting made: -8 denormal ulps; 0/0 in the second clip");
     let minus = f32::from_bits(0x8000_0008);
     list.case(&Tiling::of(&square().with(0, [minus, 1.0, 5.0, 9.0]).room(8)).written());
-    let half = Counting::new(&[0, 0, 20, 11, 0], 220).with(0, [0x417f_ffff, 0x42c0_0000, 0x431f_ffff, 0x42bf_ffffu32].map(f32::from_bits)).room(40);
+    let half =
+        Counting::new(&path([0, 0, 20, 11], 0), 220).with(0, [0x417f_ffff, 0x42c0_0000, 0x431f_ffff, 0x42bf_ffffu32].map(f32::from_bits)).room(40);
     list.case(&Tiling::of(&half).written());
     let mut references = 0;
     for (family, name) in lines::FAMILIES.iter().enumerate() {

@@ -1,6 +1,8 @@
 //! Calls over the panel's slices, and `raw` ones over the records for the benchmarks.
 
 use crate::records::*;
+use rules::limits::{LINE, REF, SEGMENT};
+use rules::records::{box_at, first_at, paths_in};
 use std::cell::Cell;
 use std::panic::{catch_unwind, AssertUnwindSafe};
 use std::sync::Once;
@@ -37,15 +39,19 @@ pub fn caught_saying<T>(f: impl FnOnce() -> T) -> Result<T, String> {
 }
 
 pub fn lines_of(path_nos: &[u32], coords: &[f32]) -> Vec<LineSoup> {
-    path_nos.iter().zip(coords.chunks_exact(4)).map(|(&path_ix, c)| LineSoup { path_ix, _padding: 0, p0: [c[0], c[1]], p1: [c[2], c[3]] }).collect()
+    path_nos
+        .iter()
+        .zip(coords.chunks_exact(LINE))
+        .map(|(&path_ix, c)| LineSoup { path_ix, _padding: 0, p0: [c[0], c[1]], p1: [c[2], c[3]] })
+        .collect()
 }
 
 pub fn paths_of(paths: &[u32]) -> Vec<Path> {
-    paths.chunks_exact(5).map(|p| Path { bbox: [p[0], p[1], p[2], p[3]], tiles: p[4], _padding: [0; 3] }).collect()
+    (0..paths_in(paths)).map(|k| Path { bbox: box_at(paths, k), tiles: first_at(paths, k), _padding: [0; 3] }).collect()
 }
 
 pub fn segments_of(segments: &[f32]) -> Vec<PathSegment> {
-    segments.chunks_exact(5).map(|s| PathSegment { point0: [s[0], s[1]], point1: [s[2], s[3]], y_edge: s[4], _padding: 0 }).collect()
+    segments.chunks_exact(SEGMENT).map(|s| PathSegment { point0: [s[0], s[1]], point1: [s[2], s[3]], y_edge: s[4], _padding: 0 }).collect()
 }
 
 fn tiles_of(backdrops: &[i32], counts: &[u32]) -> Vec<Tile> {
@@ -64,11 +70,11 @@ pub fn count(
     to: usize,
     made: u32,
 ) -> Result<u32, Stopped> {
-    let mut lines = lines_of(&path_nos[..to], &coords[..4 * to]);
+    let mut lines = lines_of(&path_nos[..to], &coords[..LINE * to]);
     lines[..from].fill(LineSoup::default()); // of no length, so the walk skips them
     let paths = if paths.is_empty() { vec![Path::default()] } else { paths_of(paths) };
     let mut tiles = tiles_of(backdrops, counts);
-    let mut made_refs: Vec<SegmentCount> = refs.chunks_exact(2).map(|r| SegmentCount { line_ix: r[0], counts: r[1] }).collect();
+    let mut made_refs: Vec<SegmentCount> = refs.chunks_exact(REF).map(|r| SegmentCount { line_ix: r[0], counts: r[1] }).collect();
     let mut bump = BumpAllocators { lines: to as u32, seg_counts: made };
     caught(|| raw::count(&mut bump, &lines, &paths, &mut tiles, &mut made_refs))?;
     for (t, tile) in tiles.iter().enumerate() {
@@ -76,8 +82,8 @@ pub fn count(
         counts[t] = tile.segment_count_or_ix;
     }
     for (r, made) in made_refs.iter().enumerate() {
-        refs[2 * r] = made.line_ix;
-        refs[2 * r + 1] = made.counts;
+        refs[REF * r] = made.line_ix;
+        refs[REF * r + 1] = made.counts;
     }
     Ok(bump.seg_counts)
 }
@@ -96,13 +102,13 @@ pub fn tile(
     let lines = lines_of(path_nos, coords);
     let paths = paths_of(paths);
     let tiles: Vec<Tile> = stored.iter().map(|&i| Tile { backdrop: 0, segment_count_or_ix: i }).collect();
-    let refs: Vec<SegmentCount> = refs[2 * from..2 * to].chunks_exact(2).map(|r| SegmentCount { line_ix: r[0], counts: r[1] }).collect();
+    let refs: Vec<SegmentCount> = refs[REF * from..REF * to].chunks_exact(REF).map(|r| SegmentCount { line_ix: r[0], counts: r[1] }).collect();
     let mut records = segments_of(segments);
     let mut bump = BumpAllocators { lines: lines.len() as u32, seg_counts: refs.len() as u32 };
     caught(|| raw::tile(&mut bump, &refs, &lines, &paths, &tiles, &mut records))?;
     for (k, record) in records.iter().enumerate() {
         let s = [record.point0[0], record.point0[1], record.point1[0], record.point1[1], record.y_edge];
-        segments[5 * k..5 * k + 5].copy_from_slice(&s);
+        segments[SEGMENT * k..SEGMENT * (k + 1)].copy_from_slice(&s);
     }
     Ok(())
 }

@@ -39,6 +39,12 @@ pub fn stage_item_lines_made(
     self::item(answer.map(|_| ()).map_err(|stopped| stopped.refused), item)
 }
 
+#[cfg(feature = "recount")]
+pub fn made_item(answer: Result<u32, groatpocket::RecountStopped>, made: &mut u32, item: &mut u32) -> u32 {
+    *made = answer.map_or_else(|stopped| stopped.references, |made| made);
+    self::item(answer.map(|_| ()).map_err(|stopped| stopped.refused), item)
+}
+
 /// The crate asserts that a refusal leaves 0 in what is told, in builds with debug assertions.
 #[cfg(feature = "picture")]
 pub fn size(answer: Result<usize, Refused>, size: &mut usize) -> u32 {
@@ -57,6 +63,13 @@ pub fn area(answer: Result<f32, Refused>, area: &mut f32) -> u32 {
 pub fn pixel(answer: Result<u32, Refused>, pixel: &mut u32) -> u32 {
     *pixel = answer.unwrap_or(*pixel);
     nothing(answer.map(|_| ()))
+}
+
+/// Lines where it is done, the text's place where it is refused.
+#[cfg(feature = "svg")]
+pub fn lines_place(answer: Result<usize, groatpocket::TextRefused>, lines: &mut usize, place: &mut usize) -> u32 {
+    (*lines, *place) = answer.map_or_else(|r| (0, r.place), |n| (n, 0));
+    answer.err().map_or(0, |r| r.refusal.number())
 }
 
 #[cfg(feature = "picture")]

@@ -286,3 +286,63 @@ unsafe extern "C" fn gp_pixel(
     *pixel = n[3];
     answer
 }
+
+#[cfg(feature = "recount")]
+#[no_mangle]
+unsafe extern "C" fn gp_recount(
+    path: u32,
+    line_nos: *const u32, line_nos_len: usize,
+    path_nos: *const u32, path_nos_len: usize,
+    coords: *const f32, coords_len: usize,
+    paths: *const u32, paths_len: usize,
+    backdrops: *mut i32, backdrops_len: usize,
+    counts: *mut u32, counts_len: usize,
+    refs: *mut u32, refs_len: usize,
+    kept_backdrops: *mut i32, kept_backdrops_len: usize,
+    kept_counts: *mut u32, kept_counts_len: usize,
+    made: &mut u32, item: &mut u32,
+) -> u32 {
+    let mut n = [path, *made, *item];
+    let answer = call(
+        13,
+        &mut n,
+        vec![
+            read_only(line_nos, line_nos_len),
+            read_only(path_nos, path_nos_len),
+            read_only(coords, coords_len),
+            read_only(paths, paths_len),
+            changed(backdrops, backdrops_len),
+            changed(counts, counts_len),
+            changed(refs, refs_len),
+            changed(kept_backdrops, kept_backdrops_len),
+            changed(kept_counts, kept_counts_len),
+        ],
+    );
+    *made = n[1];
+    *item = n[2];
+    answer
+}
+
+#[cfg(feature = "svg")]
+#[no_mangle]
+unsafe extern "C" fn gp_svg_lines(
+    text: *const u8, text_len: usize,
+    depth: u32, path: u32,
+    path_nos: *mut u32, path_nos_len: usize,
+    coords: *mut f32, coords_len: usize,
+    lines: &mut usize, place: &mut usize,
+) -> u32 {
+    let mut n = [depth, path, *lines as u32, *place as u32];
+    let answer = call(
+        14,
+        &mut n,
+        vec![
+            read_only(text, text_len),
+            changed(path_nos, path_nos_len),
+            changed(coords, coords_len),
+        ],
+    );
+    *lines = n[2] as usize;
+    *place = n[3] as usize;
+    answer
+}

@@ -19,6 +19,11 @@ pub fn count(
     made: &mut u32,
     item: &mut u32,
 ) -> u32 {
+    #[cfg(all(feature = "count", not(bridge)))]
+    if crate::null::is_lent(&[path_nos.len(), coords.len(), paths.len(), backdrops.len(), counts.len(), refs.len()]) {
+        // SAFETY: every pointer and length is a slice's, lent for the call alone, or NULL and 0.
+        return unsafe { groatpocket::raw::gp_count(crate::null::at(path_nos), path_nos.len(), crate::null::at(coords), coords.len(), crate::null::at(paths), paths.len(), crate::null::at_mut(backdrops), backdrops.len(), crate::null::at_mut(counts), counts.len(), crate::null::at_mut(refs), refs.len(), end, lines, made, item) };
+    }
     #[cfg(feature = "count")]
     let answer = groatpocket::count(groatpocket::Running { lines: *lines, references: *made }, end, path_nos, coords, paths, backdrops, counts, refs);
     #[cfg(feature = "count")]
@@ -32,6 +37,11 @@ pub fn backdrop(
     backdrops: &mut [i32],
     item: &mut u32,
 ) -> u32 {
+    #[cfg(all(feature = "backdrop", not(bridge)))]
+    if crate::null::is_lent(&[paths.len(), backdrops.len()]) {
+        // SAFETY: every pointer and length is a slice's, lent for the call alone, or NULL and 0.
+        return unsafe { groatpocket::raw::gp_backdrop(crate::null::at(paths), paths.len(), crate::null::at_mut(backdrops), backdrops.len(), item) };
+    }
     #[cfg(feature = "backdrop")]
     let answer = groatpocket::backdrop(paths, backdrops);
     #[cfg(feature = "backdrop")]
@@ -45,6 +55,11 @@ pub fn hand_out(
     tally: &mut [u32],
     room: u32,
 ) -> u32 {
+    #[cfg(all(feature = "hand_out", not(bridge)))]
+    if crate::null::is_lent(&[counts.len(), tally.len()]) {
+        // SAFETY: every pointer and length is a slice's, lent for the call alone, or NULL and 0.
+        return unsafe { groatpocket::raw::gp_hand_out(crate::null::at_mut(counts), counts.len(), crate::null::at_mut(tally), tally.len(), room) };
+    }
     #[cfg(feature = "hand_out")]
     let answer = groatpocket::hand_out(counts, tally, room);
     #[cfg(feature = "hand_out")]
@@ -64,6 +79,11 @@ pub fn tile(
     segments: &mut [f32],
     item: &mut u32,
 ) -> u32 {
+    #[cfg(all(feature = "tile", not(bridge)))]
+    if crate::null::is_lent(&[path_nos.len(), coords.len(), paths.len(), stored.len(), refs.len(), segments.len()]) {
+        // SAFETY: every pointer and length is a slice's, lent for the call alone, or NULL and 0.
+        return unsafe { groatpocket::raw::gp_tile(crate::null::at(path_nos), path_nos.len(), crate::null::at(coords), coords.len(), crate::null::at(paths), paths.len(), crate::null::at(stored), stored.len(), crate::null::at(refs), refs.len(), from, to, crate::null::at_mut(segments), segments.len(), item) };
+    }
     #[cfg(feature = "tile")]
     let answer = groatpocket::tile(from, to, path_nos, coords, paths, stored, refs, segments);
     #[cfg(feature = "tile")]
@@ -82,6 +102,11 @@ pub fn fill(
     y_tile: f32,
     area: &mut [f32],
 ) -> u32 {
+    #[cfg(all(feature = "fill", not(bridge)))]
+    if crate::null::is_lent(&[segments.len(), area.len()]) {
+        // SAFETY: every pointer and length is a slice's, lent for the call alone, or NULL and 0.
+        return unsafe { groatpocket::raw::gp_fill(crate::null::at(segments), segments.len(), first, number, even_odd, backdrop, x_tile, y_tile, crate::null::at_mut(area), area.len()) };
+    }
     #[cfg(feature = "fill")]
     if even_odd > 1 {
         // the safe call has a bool there
@@ -107,6 +132,11 @@ pub fn fine(
     pixels: &mut [u32],
     item: &mut u32,
 ) -> u32 {
+    #[cfg(all(feature = "fine", not(bridge)))]
+    if crate::null::is_lent(&[words.len(), segments.len(), pixels.len()]) {
+        // SAFETY: every pointer and length is a slice's, lent for the call alone, or NULL and 0.
+        return unsafe { groatpocket::raw::gp_fine(crate::null::at(words), words.len(), crate::null::at(segments), segments.len(), width, cols, rows, from, to, crate::null::at_mut(pixels), pixels.len(), item) };
+    }
     #[cfg(feature = "fine")]
     let answer = groatpocket::fine(words, segments, groatpocket::Screen { width, cols, rows }, from, to, pixels);
     #[cfg(feature = "fine")]
@@ -129,6 +159,11 @@ pub fn frame(
     lines: &mut u32,
     made: &mut u32,
 ) -> u32 {
+    #[cfg(all(feature = "frame", not(bridge)))]
+    if crate::null::is_lent(&[path_nos.len(), coords.len(), paths.len(), backdrops.len(), stored.len(), tally.len(), refs.len(), segments.len()]) {
+        // SAFETY: every pointer and length is a slice's, lent for the call alone, or NULL and 0.
+        return unsafe { groatpocket::raw::gp_frame(crate::null::at(path_nos), path_nos.len(), crate::null::at(coords), coords.len(), crate::null::at(paths), paths.len(), crate::null::at_mut(backdrops), backdrops.len(), crate::null::at_mut(stored), stored.len(), crate::null::at_mut(tally), tally.len(), crate::null::at_mut(refs), refs.len(), crate::null::at_mut(segments), segments.len(), stage, item, lines, made) };
+    }
     #[cfg(feature = "frame")]
     let answer = groatpocket::frame(path_nos, coords, paths, backdrops, stored, tally, refs, segments);
     #[cfg(feature = "frame")]
@@ -149,6 +184,11 @@ pub fn write_lists(
     words: &mut [u32],
     item: &mut u32,
 ) -> u32 {
+    #[cfg(all(feature = "lists", not(bridge)))]
+    if crate::null::is_lent(&[paths.len(), paints.len(), backdrops.len(), stored.len(), tally.len(), words.len()]) {
+        // SAFETY: every pointer and length is a slice's, lent for the call alone, or NULL and 0.
+        return unsafe { groatpocket::raw::gp_write_lists(crate::null::at(paths), paths.len(), crate::null::at(paints), paints.len(), crate::null::at(backdrops), backdrops.len(), crate::null::at(stored), stored.len(), crate::null::at(tally), tally.len(), cols, rows, room, crate::null::at_mut(words), words.len(), item) };
+    }
     #[cfg(feature = "lists")]
     let answer = groatpocket::write_lists(paths, paints, backdrops, stored, tally, cols, rows, room, words);
     #[cfg(feature = "lists")]
@@ -164,6 +204,11 @@ pub fn ppm_write(
     out: &mut [u8],
     size: &mut usize,
 ) -> u32 {
+    #[cfg(all(feature = "picture", not(bridge)))]
+    if crate::null::is_lent(&[pixels.len(), out.len()]) {
+        // SAFETY: every pointer and length is a slice's, lent for the call alone, or NULL and 0.
+        return unsafe { groatpocket::raw::gp_ppm_write(crate::null::at(pixels), pixels.len(), width, height, crate::null::at_mut(out), out.len(), size) };
+    }
     #[cfg(feature = "picture")]
     let answer = groatpocket::ppm_write(pixels, width, height, out);
     #[cfg(feature = "picture")]
@@ -178,6 +223,11 @@ pub fn ppm_read(
     width: &mut u32,
     height: &mut u32,
 ) -> u32 {
+    #[cfg(all(feature = "picture", not(bridge)))]
+    if crate::null::is_lent(&[file.len(), out.len()]) {
+        // SAFETY: every pointer and length is a slice's, lent for the call alone, or NULL and 0.
+        return unsafe { groatpocket::raw::gp_ppm_read(crate::null::at(file), file.len(), crate::null::at_mut(out), out.len(), width, height) };
+    }
     #[cfg(feature = "picture")]
     let answer = groatpocket::ppm_read(file, out);
     #[cfg(feature = "picture")]
@@ -198,6 +248,11 @@ pub fn pixel_area(
     row: u32,
     area: &mut f32,
 ) -> u32 {
+    #[cfg(all(feature = "pixel", not(bridge)))]
+    if crate::null::is_lent(&[segments.len()]) {
+        // SAFETY: every pointer and length is a slice's, lent for the call alone, or NULL and 0.
+        return unsafe { groatpocket::raw::gp_pixel_area(crate::null::at(segments), segments.len(), first, number, even_odd, backdrop, x_tile, y_tile, column, row, area) };
+    }
     #[cfg(feature = "pixel")]
     if even_odd > 1 {
         // the safe call has a bool there
@@ -226,6 +281,11 @@ pub fn pixel(
     row: u32,
     pixel: &mut u32,
 ) -> u32 {
+    #[cfg(all(feature = "pixel", not(bridge)))]
+    if crate::null::is_lent(&[words.len(), segments.len()]) {
+        // SAFETY: every pointer and length is a slice's, lent for the call alone, or NULL and 0.
+        return unsafe { groatpocket::raw::gp_pixel(crate::null::at(words), words.len(), crate::null::at(segments), segments.len(), tile, column, row, pixel) };
+    }
     #[cfg(feature = "pixel")]
     let answer = groatpocket::pixel(words, segments, tile, column, row);
     #[cfg(feature = "pixel")]
@@ -238,4 +298,53 @@ pub fn pixel(
     return crate::answers::pixel(answer, pixel);
     #[cfg(not(feature = "pixel"))]
     not_linked(("pixel", words, segments, tile, column, row, pixel))
+}
+
+pub fn recount(
+    path: u32,
+    line_nos: &[u32],
+    path_nos: &[u32],
+    coords: &[f32],
+    paths: &[u32],
+    backdrops: &mut [i32],
+    counts: &mut [u32],
+    refs: &mut [u32],
+    kept_backdrops: &mut [i32],
+    kept_counts: &mut [u32],
+    made: &mut u32,
+    item: &mut u32,
+) -> u32 {
+    #[cfg(all(feature = "recount", not(bridge)))]
+    if crate::null::is_lent(&[line_nos.len(), path_nos.len(), coords.len(), paths.len(), backdrops.len(), counts.len(), refs.len(), kept_backdrops.len(), kept_counts.len()]) {
+        // SAFETY: every pointer and length is a slice's, lent for the call alone, or NULL and 0.
+        return unsafe { groatpocket::raw::gp_recount(path, crate::null::at(line_nos), line_nos.len(), crate::null::at(path_nos), path_nos.len(), crate::null::at(coords), coords.len(), crate::null::at(paths), paths.len(), crate::null::at_mut(backdrops), backdrops.len(), crate::null::at_mut(counts), counts.len(), crate::null::at_mut(refs), refs.len(), crate::null::at_mut(kept_backdrops), kept_backdrops.len(), crate::null::at_mut(kept_counts), kept_counts.len(), made, item) };
+    }
+    #[cfg(feature = "recount")]
+    let answer = groatpocket::recount(path, line_nos, path_nos, coords, paths, backdrops, counts, refs, kept_backdrops, kept_counts);
+    #[cfg(feature = "recount")]
+    return crate::answers::made_item(answer, made, item);
+    #[cfg(not(feature = "recount"))]
+    not_linked(("recount", path, line_nos, path_nos, coords, paths, backdrops, counts, refs, kept_backdrops, kept_counts, made, item))
+}
+
+pub fn svg_lines(
+    text: &[u8],
+    depth: u32,
+    path: u32,
+    path_nos: &mut [u32],
+    coords: &mut [f32],
+    lines: &mut usize,
+    place: &mut usize,
+) -> u32 {
+    #[cfg(all(feature = "svg", not(bridge)))]
+    if crate::null::is_lent(&[text.len(), path_nos.len(), coords.len()]) {
+        // SAFETY: every pointer and length is a slice's, lent for the call alone, or NULL and 0.
+        return unsafe { groatpocket::raw::gp_svg_lines(crate::null::at(text), text.len(), depth, path, crate::null::at_mut(path_nos), path_nos.len(), crate::null::at_mut(coords), coords.len(), lines, place) };
+    }
+    #[cfg(feature = "svg")]
+    let answer = groatpocket::svg_lines(text, depth, path, path_nos, coords);
+    #[cfg(feature = "svg")]
+    return crate::answers::lines_place(answer, lines, place);
+    #[cfg(not(feature = "svg"))]
+    not_linked(("svg_lines", text, depth, path, path_nos, coords, lines, place))
 }

@@ -13,6 +13,7 @@ mod bridge;
 mod bridge_calls;
 #[rustfmt::skip]
 mod calls;
+pub mod null;
 #[cfg(all(feature = "floats", not(bridge)))]
 #[rustfmt::skip]
 mod floats;
@@ -35,6 +36,8 @@ pub mod has {
     pub const LISTS: bool = cfg!(feature = "lists");
     pub const PICTURE: bool = cfg!(feature = "picture");
     pub const PIXEL: bool = cfg!(feature = "pixel");
+    pub const RECOUNT: bool = cfg!(feature = "recount");
+    pub const SVG: bool = cfg!(feature = "svg");
 }
 
 /// A float helper over many operands; the numbers are those of the list of floats (01 floor .. 20 clamp).

@@ -14,10 +14,10 @@ pub struct Seen {
     pub rows: u64,
 }
 
-struct Tiles<'a> {
-    backdrops: &'a mut [i32],
-    counts: &'a mut [u32],
-    refs: &'a mut [u32],
+pub(crate) struct Tiles<'a> {
+    pub(crate) backdrops: &'a mut [i32],
+    pub(crate) counts: &'a mut [u32],
+    pub(crate) refs: &'a mut [u32],
 }
 
 /// One word of a tile or a reference slot as it was.
@@ -78,7 +78,7 @@ fn marks_and_steps(n: u32, made: i64, w: &Walk, c: &Clip, at: &Place, tiles: &mu
 }
 
 /// The references that the line makes.
-fn count_line(n: u32, path_no: u32, line: &[f32], paths: &[u32], made: i64, tiles: &mut Tiles, seen: &mut Seen) -> Result<i64, u32> {
+pub(crate) fn count_line(n: u32, path_no: u32, line: &[f32], paths: &[u32], made: i64, tiles: &mut Tiles, seen: &mut Seen) -> Result<i64, u32> {
     if n as i64 >= LINES_MOST {
         return Err(BAD_LINE_NO);
     }

@@ -18,6 +18,9 @@ pub mod limits;
 pub mod lists;
 pub mod picture;
 pub mod pixel;
+pub mod recount;
+pub mod records;
+pub mod svg;
 pub mod tile;
 pub mod walk;
 
@@ -31,4 +34,6 @@ pub use hand_out::hand_out;
 pub use lists::write_lists;
 pub use picture::{ppm_read, ppm_write};
 pub use pixel::{pixel, pixel_area};
+pub use recount::recount;
+pub use svg::svg_lines;
 pub use tile::tile;

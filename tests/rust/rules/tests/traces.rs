@@ -1,6 +1,7 @@
 //! The traces of docs/RULES.md, so that the rules as restated here are seen to be the rules.
 
-use rules::limits::{COMMANDS_MOST, COORD_MOST, COUNT_MOST, EDGE_MOST};
+use rules::limits::{COMMANDS_MOST, COORD_MOST, COUNT_MOST, EDGE_MOST, REF, SEGMENT};
+use rules::records::path;
 use rules::{backdrop, count, fill, fine, frame, hand_out, tile, write_lists};
 
 struct Counted {
@@ -18,7 +19,7 @@ fn counted(b: [u32; 4], line: [f32; 4], counts: &[u32]) -> Counted {
     let (mut lines, mut made, mut item) = (0, 0, 0);
     let number = count(&[0], &line, &paths, &mut backdrops, &mut counts, &mut refs, 1, &mut lines, &mut made, &mut item);
     assert_eq!(lines, (number == 0) as u32);
-    let refs = refs[..2 * made as usize].chunks(2).map(|r| (r[0], r[1])).collect();
+    let refs = refs[..REF * made as usize].chunks(REF).map(|r| (r[0], r[1])).collect();
     Counted { number, item, backdrops, counts, refs }
 }
 
@@ -27,10 +28,10 @@ fn segments(line: [f32; 4]) -> Vec<Vec<u32>> {
     let (mut stored, mut tally) = (c.counts.clone(), vec![0; 4]);
     assert_eq!(hand_out(&mut stored, &mut tally, 16), 0);
     let refs: Vec<u32> = c.refs.iter().flat_map(|r| [r.0, r.1]).collect();
-    let mut out = vec![0.0; 5 * c.refs.len()];
+    let mut out = vec![0.0; SEGMENT * c.refs.len()];
     let mut item = 0;
-    assert_eq!(tile(&[0], &line, &[0, 0, 2, 2, 0], &stored, &refs, 0, c.refs.len() as u32, &mut out, &mut item), 0);
-    out.chunks(5).map(|s| s.iter().map(|v| v.to_bits()).collect()).collect()
+    assert_eq!(tile(&[0], &line, &path([0, 0, 2, 2], 0), &stored, &refs, 0, c.refs.len() as u32, &mut out, &mut item), 0);
+    out.chunks(SEGMENT).map(|s| s.iter().map(|v| v.to_bits()).collect()).collect()
 }
 
 fn bits(values: [f32; 5]) -> Vec<u32> {
@@ -95,11 +96,11 @@ fn slots_and_segments() {
 fn sums() {
     let mut backdrops = vec![1, 2, -5, i32::MAX, 9];
     let mut item = 7;
-    assert_eq!(backdrop(&[0, 0, 2, 2, 0], &mut backdrops, &mut item), 0);
+    assert_eq!(backdrop(&path([0, 0, 2, 2], 0), &mut backdrops, &mut item), 0);
     assert_eq!((item, backdrops), (0, vec![1, 3, -5, i32::MAX - 5, 9]));
     let mut backdrops = vec![1, i32::MAX, 4];
     assert_eq!(backdrop(&[0, 0, 1, 1, 0, 0, 0, 2, 1, 0], &mut backdrops, &mut item), 4);
-    assert_eq!(backdrop(&[0, 0, 2, 1, 0], &mut backdrops, &mut item), 11);
+    assert_eq!(backdrop(&path([0, 0, 2, 1], 0), &mut backdrops, &mut item), 11);
     assert_eq!((item, backdrops), (0, vec![1, i32::MAX, 4]));
 }
 
@@ -140,10 +141,10 @@ fn commands() {
 
 #[test]
 fn frames() {
-    let (line, paths) = ([8.0, 8.0, 8.0, 24.0], [0, 0, 2, 2, 0]);
+    let (line, paths) = ([8.0, 8.0, 8.0, 24.0], path([0, 0, 2, 2], 0));
     let framed = |tally: usize, slots: usize| {
         let (mut b, mut t, mut y) = (vec![9; 4], vec![9; 4], vec![9; tally]);
-        let (mut refs, mut segments, mut told) = (vec![0; 4], vec![0.0; 5 * slots], [7; 4]);
+        let (mut refs, mut segments, mut told) = (vec![0; 4], vec![0.0; SEGMENT * slots], [7; 4]);
         let [stage, item, lines, made] = &mut told;
         let number = frame(&[0], &line, &paths, &mut b, &mut t, &mut y, &mut refs, &mut segments, stage, item, lines, made);
         (number, told, b, t, y)
@@ -156,7 +157,7 @@ fn frames() {
 
 /// So many paths over the only screen tile, each with this tally, first slot and backdrop.
 fn listed(n: usize, tally: u32, backdrop: i32, rule: u32, words: usize) -> (u32, u32, Vec<u32>) {
-    let paths: Vec<u32> = (0..n as u32).flat_map(|k| [0, 0, 1, 1, k]).collect();
+    let paths: Vec<u32> = (0..n as u32).flat_map(|k| path([0, 0, 1, 1], k)).collect();
     let paints: Vec<u32> = (0..n as u32).flat_map(|k| [0xc000 + k, rule]).collect();
     let (mut words, mut item) = (vec![7; words], 9);
     let stored = vec![if tally > 0 { !3 } else { 0 }; n];

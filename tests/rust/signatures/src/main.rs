@@ -22,6 +22,9 @@ use std::{env, fs, process};
 /// The calls in the order of their numbers: the lists of the gate have the first six. Others come after, as the header has them.
 const NUMBERED: [&str; 8] = ["count", "backdrop", "hand_out", "tile", "fill", "fine", "frame", "write_lists"];
 
+/// The function that tells of the archive and is lent nothing: no call and no helper. The safe crate declares it, and its tests ask it.
+const ITSELF: &str = "version";
+
 /// A file that is made, from the project's root.
 pub struct Made {
     pub file: &'static str,
@@ -55,20 +58,37 @@ fn texts(folder: &str, ending: &str) -> String {
     names.iter().map(|n| text(&format!("{folder}/{n}"))).collect()
 }
 
-/// The header's calls in the order of their numbers, held against the exports; and the helpers that are exported besides.
+/// The header's calls in the order of their numbers, and its float helpers, all held against the exports.
 fn read(safe: &safe::Safe) -> (Vec<Call>, Vec<Helper>) {
-    let exports = parse::exports(&texts("crates/groatpocket/src", ".rt"));
-    let mut calls = parse::header(&text("include/groatpocket.h"));
-    for call in &mut calls {
-        let Some(export) = exports.iter().find(|e| e.name == call.name) else { fail(&format!("gp_{} isn't exported", call.name)) };
-        parse::agree(call, export);
-        parse::goes_on(call, export);
+    let (exports, lists) = (parse::exports(&texts("crates/groatpocket/src", ".rt")), text("tests/rust/README.md"));
+    let declared = parse::header(&text("include/groatpocket.h"));
+    if let Some(export) = exports.iter().find(|e| declared.iter().all(|d| d.call.name != e.name)) {
+        fail(&format!("gp_{} is exported, but isn't in the header", export.name));
+    }
+    let (mut calls, mut helpers) = (vec![], vec![]);
+    for one in declared {
+        let name = &one.call.name;
+        if name == ITSELF {
+            let export = exports.iter().find(|e| e.name == *name).unwrap_or_else(|| fail("gp_version isn't exported"));
+            parse::agree(&one, export);
+            continue;
+        }
+        let Some(export) = exports.iter().find(|e| e.name == *name) else { fail(&format!("gp_{name} isn't exported")) };
+        parse::agree(&one, export);
+        if let Some(helper) = parse::helper(export, &lists) {
+            helpers.push(helper);
+            continue;
+        }
+        if !export.answers_a_number() {
+            fail(&format!("gp_{name} answers no refusal number, and isn't among the helpers of tests/rust/README.md"));
+        }
+        let mut call = one.call;
+        parse::goes_on(&mut call, export);
         call.feature = safe.feature(&call.name);
+        calls.push(call);
     }
     let place = |call: &Call| NUMBERED.iter().position(|n| *n == call.name).unwrap_or(NUMBERED.len());
     calls.sort_by_key(place);
-    let known = |name: &str| calls.iter().any(|c| c.name == name);
-    let helpers = exports.iter().filter(|e| !known(&e.name)).map(|e| parse::helper(e, &text("tests/rust/README.md"))).collect();
     (calls, helpers)
 }
 

@@ -21,6 +21,7 @@ impl Of {
             "int32_t" => Of::I32,
             "float" => Of::F32,
             "size_t" => Of::Usize,
+            "bool" => Of::Bool,
             _ => return None,
         })
     }
@@ -116,6 +117,13 @@ pub struct Export {
     ensures: String,
 }
 
+impl Export {
+    /// Whether it answers as every call does: with a refusal number.
+    pub fn answers_a_number(&self) -> bool {
+        self.answer == Of::U32
+    }
+}
+
 /// A float helper: its number in the list of floats.
 pub struct Helper {
     pub name: String,
@@ -132,38 +140,52 @@ fn without_comments(text: &str) -> String {
     out.lines().filter(|l| !l.starts_with('#')).map(|l| format!("{l}\n")).collect()
 }
 
-/// The calls that the header declares, in its order.
-pub fn header(text: &str) -> Vec<Call> {
-    let text = without_comments(text);
-    let declared = text.split("uint32_t gp_").skip(1).map(|d| {
-        let (name, rest) = d.split_once('(').unwrap_or_else(|| fail("a declaration without parameters"));
+/// A declaration of the header: a call's, or a float helper's.
+pub struct Declared {
+    pub call: Call,
+    answer: Of,
+}
+
+/// The parameters of a declaration.
+fn params(name: &str, list: &str) -> Vec<Param> {
+    let words: Vec<Vec<String>> = list.split(',').map(|p| p.replace('*', " * ").split_whitespace().map(str::to_string).collect()).collect();
+    let mut params: Vec<Param> = vec![];
+    for word in words.iter().filter(|w| w[..] != ["void"]) {
+        let bad = || -> ! { fail(&format!("gp_{name}: `{}` isn't read", word.join(" "))) };
+        let word: Vec<&str> = word.iter().map(String::as_str).collect();
+        let (how, of, name) = match word[..] {
+            ["size_t", length] if params.last().is_some_and(|p| length == format!("{}_len", p.name)) => {
+                let slice = params.last_mut().unwrap();
+                slice.how = if slice.how == How::Read { How::Read } else { How::Changed };
+                continue;
+            }
+            ["const", of, "*", name] => (How::Read, of, name),
+            [of, "*", name] => (How::Told, of, name),
+            [of, name] => (How::Value, of, name),
+            _ => bad(),
+        };
+        let Some(of) = Of::of_c(of) else { bad() };
+        params.push(Param { name: name.into(), how, of });
+    }
+    params
+}
+
+/// What the header declares, in its order: each declaration starts a line.
+pub fn header(text: &str) -> Vec<Declared> {
+    let text = format!("\n{}", without_comments(text));
+    let declared = text.match_indices('\n').filter_map(|(at, _)| {
+        let (of, rest) = text[at + 1..].split_once(" gp_")?;
+        let answer = Of::of_c(of)?;
+        let (name, rest) = rest.split_once('(').unwrap_or_else(|| fail("a declaration without parameters"));
         let (list, _) = rest.split_once(");").unwrap_or_else(|| fail(&format!("gp_{name} has no end")));
-        let words: Vec<Vec<String>> = list.split(',').map(|p| p.replace('*', " * ").split_whitespace().map(str::to_string).collect()).collect();
-        let mut params: Vec<Param> = vec![];
-        for word in &words {
-            let bad = || -> ! { fail(&format!("gp_{name}: `{}` isn't read", word.join(" "))) };
-            let word: Vec<&str> = word.iter().map(String::as_str).collect();
-            let (how, of, name) = match word[..] {
-                ["size_t", length] if params.last().is_some_and(|p| length == format!("{}_len", p.name)) => {
-                    let slice = params.last_mut().unwrap();
-                    slice.how = if slice.how == How::Read { How::Read } else { How::Changed };
-                    continue;
-                }
-                ["const", of, "*", name] => (How::Read, of, name),
-                [of, "*", name] => (How::Told, of, name),
-                [of, name] => (How::Value, of, name),
-                _ => bad(),
-            };
-            let Some(of) = Of::of_c(of) else { bad() };
-            params.push(Param { name: name.into(), how, of });
-        }
-        Call { name: name.into(), params, feature: name.into() }
+        let call = Call { name: name.into(), params: params(name, list), feature: name.into() };
+        Some(Declared { call, answer })
     });
-    let calls: Vec<Call> = declared.collect();
-    if calls.is_empty() {
+    let declared: Vec<Declared> = declared.collect();
+    if declared.is_empty() {
         fail("the header declares no call");
     }
-    calls
+    declared
 }
 
 /// The functions that the crate groatpocket exports.
@@ -192,11 +214,14 @@ pub fn exports(text: &str) -> Vec<Export> {
 }
 
 /// The header's parameters are the export's: as many, in one order, of the same types.
-pub fn agree(call: &Call, export: &Export) {
-    let types = |params: &[Param]| params.iter().map(|p| format!("{:?} {}", p.how, p.of.rust())).collect::<Vec<_>>();
-    let (said, stands) = (types(&call.params), types(&export.params));
-    if said != stands || export.answer != Of::U32 {
-        fail(&format!("gp_{}: the header has\n  {}\nand the export\n  {}", call.name, said.join(", "), stands.join(", ")));
+pub fn agree(declared: &Declared, export: &Export) {
+    let types = |params: &[Param], answer: Of| {
+        let each: Vec<String> = params.iter().map(|p| format!("{:?} {}", p.how, p.of.rust())).collect();
+        format!("{} -> {}", each.join(", "), answer.rust())
+    };
+    let (said, stands) = (types(&declared.call.params, declared.answer), types(&export.params, export.answer));
+    if said != stands {
+        fail(&format!("gp_{}: the header has\n  {said}\nand the export\n  {stands}", export.name));
     }
 }
 
@@ -210,17 +235,14 @@ pub fn goes_on(call: &mut Call, export: &Export) {
     }
 }
 
-/// An export that the header doesn't declare is a float helper, with a number in tests/rust/README.md, "The lists".
-pub fn helper(export: &Export, format: &str) -> Helper {
+/// A float helper is an export with a number in tests/rust/README.md, "The lists".
+pub fn helper(export: &Export, format: &str) -> Option<Helper> {
     let after =
         format.split("**`floats`**").nth(1).and_then(|t| t.split("\n\n").next()).unwrap_or_else(|| fail("the list of floats isn't described"));
     let words: Vec<&str> = after.split(|c: char| !c.is_ascii_alphanumeric() && c != '_').filter(|w| !w.is_empty()).collect();
-    let number = words.windows(2).find(|w| w[1] == export.name && w[0].len() == 2).and_then(|w| u32::from_str_radix(w[0], 16).ok());
-    let Some(number) = number else {
-        fail(&format!("gp_{} is exported, but isn't in the header nor among the helpers of tests/rust/README.md", export.name))
-    };
+    let number = words.windows(2).find(|w| w[1] == export.name && w[0].len() == 2).and_then(|w| u32::from_str_radix(w[0], 16).ok())?;
     if export.params.iter().any(|p| p.how != How::Value) {
-        fail(&format!("gp_{} is lent memory, but isn't in the header", export.name));
+        fail(&format!("gp_{} is lent memory, but stands among the helpers", export.name));
     }
-    Helper { name: export.name.clone(), number, params: export.params.clone(), answer: export.answer }
+    Some(Helper { name: export.name.clone(), number, params: export.params.clone(), answer: export.answer })
 }

@@ -76,6 +76,27 @@ fn raw_argument(p: &Param) -> String {
     }
 }
 
+/// The same with NULL for a slice of no elements.
+fn null_argument(p: &Param) -> String {
+    match p.how {
+        How::Read => format!("crate::null::at({0}), {0}.len()", p.name),
+        How::Changed => format!("crate::null::at_mut({0}), {0}.len()", p.name),
+        _ => p.name.clone(),
+    }
+}
+
+/// A call that is lent a slice of none goes to the archive with NULL for it, now and then: the safe crate has another pointer there.
+fn by_null(call: &Call) -> String {
+    let lengths = call.slices().map(|p| format!("{}.len()", p.name)).collect::<Vec<_>>().join(", ");
+    let arguments = call.params.iter().map(null_argument).collect::<Vec<_>>().join(", ");
+    format!(
+        "    #[cfg(all(feature = \"{}\", not(bridge)))]\n    if crate::null::is_lent(&[{lengths}]) {{\n        \
+         // SAFETY: every pointer and length is a slice's, lent for the call alone, or NULL and 0.\n        \
+         return unsafe {{ groatpocket::raw::gp_{}({arguments}) }};\n    }}\n",
+        call.feature, call.name
+    )
+}
+
 /// The call of the safe function, and the words that it has as a bool.
 fn safe_call(call: &Call, safe: &Safe) -> (String, Vec<String>) {
     let Some(params) = safe.functions.get(&call.name) else { fail(&format!("the safe crate has no {}", call.name)) };
@@ -109,7 +130,7 @@ fn one(call: &Call, safe: &Safe) -> String {
         "        // SAFETY: every pointer and length is a slice's, lent for the call alone.\n        \
          return unsafe {{ groatpocket::raw::gp_{name}({raw}) }};\n"
     );
-    let mut body = String::new();
+    let mut body = by_null(call);
     if !bools.is_empty() {
         let wide = bools.iter().map(|b| format!("{b} > 1")).collect::<Vec<_>>().join(" || ");
         body += &format!("    #[cfg(feature = \"{feature}\")]\n    if {wide} {{\n        // the safe call has a bool there\n{raw_call}    }}\n");

@@ -1,6 +1,6 @@
--- `acts::visits::visit` meets its contract: a reference's second word is made with the digits of `stepRange`. Assumes nothing.
+-- `acts::visits::visit` meets its contract. Assumes nothing.
+use mathlib.Core.Path.{refl}
 use borrow.Author.Needs.{needs}
-use Rattle.panel.specs.Widths.{stepRange}
 use Rattle.acts.proofs.visits.visit.Statement.{statement}
 use Rattle.acts.proofs.visits.visit.Tie as tie
 
@@ -22,30 +22,11 @@ mul-counts c = search needs
 slice-write-counts : tie.Need-slice-write-counts
 slice-write-counts c = search needs
 
-mul-k : tie.Need-mul-k
-mul-k c = search needs
+pack-requires : tie.Need-pack-requires
+pack-requires c κs = search needs
 
-mul-refs : tie.Need-mul-refs
-mul-refs c = search needs
-
-slice-write-refs : tie.Need-slice-write-refs
-slice-write-refs c = search needs
-
-mul-refs-2 : tie.Need-mul-refs-2
-mul-refs-2 c = search needs
-
-add-refs : tie.Need-add-refs
-unfolding stepRange
-add-refs c = search needs
-
-add-refs-2 : tie.Need-add-refs-2
-add-refs-2 c = search needs
-
-mul-refs-3 : tie.Need-mul-refs-3
-mul-refs-3 c = search needs
-
-slice-write-refs-2 : tie.Need-slice-write-refs-2
-slice-write-refs-2 c = search needs
+put-ref-requires : tie.Need-put-ref-requires
+put-ref-requires c κs = search needs
 
 same-length : tie.Need-same-length
 same-length c = search needs
@@ -54,8 +35,7 @@ same-length-2 : tie.Need-same-length-2
 same-length-2 c = search needs
 
 returns : tie.Need-returns
-unfolding stepRange
-returns c = search needs
+returns c = (refl, rw (c .before .before .put-ref .ensures, c .before .before .before .before .pack .ensures))
 
 pub visit-spec : {M : Type 1} → statement M
 visit-spec =
@@ -67,14 +47,8 @@ visit-spec =
     add-counts
     mul-counts
     slice-write-counts
-    mul-k
-    mul-refs
-    slice-write-refs
-    mul-refs-2
-    add-refs
-    add-refs-2
-    mul-refs-3
-    slice-write-refs-2
+    pack-requires
+    put-ref-requires
     same-length
     same-length-2
     returns)

@@ -5,6 +5,7 @@ use Prim.Native.Nat.{ℕ, _+_, _-_, _≤_, _<_}
 use native.Mathlib.Omega.{arith}
 use lib.ListN.{length}
 use denote.Ref.{now}
+use lib.Ieee.{Float}
 use borrow.Author.Tests.{le-leb, lt-leb}
 use Rattle.panel.specs.Refusals.{pastEnd}
 use Rattle.commands.specs.Numbers.{wordsOf}
@@ -17,15 +18,15 @@ use borrow.Author.Needs.{needs}
 use Rattle.commands.proofs.steps.move_at.Statement.{statement}
 use Rattle.commands.proofs.steps.move_at.Tie as tie
 
-module _ (ws : List ℕ) (room at : ℕ) (o : Op) (size : ℕ) (e : size ≡ wordsOf o) where
-  short : length ws - at < size → Refused pastEnd ≡ moveOf o ws room at
+module _ (ws : List ℕ) (segs : List Float) (at : ℕ) (o : Op) (size : ℕ) (e : size ≡ wordsOf o) where
+  short : length ws - at < size → Refused pastEnd ≡ moveOf o ws segs at
   unfolding moveOf
   short h = rw (lt-leb (wordsOf o) (length ws - at) (rw e at h))
 
   -- the command is o′, and its words are there
-  arm : (o′ : Op) (r : Move) → size ≤ length ws - at → o ≡ o′ → r ≡ wholeMove o′ ws room at → r ≡ moveOf o ws room at
+  arm : (o′ : Op) (r : Move) → size ≤ length ws - at → o ≡ o′ → r ≡ wholeMove o′ ws segs at → r ≡ moveOf o ws segs at
   unfolding moveOf
-  arm o′ r h told k = k ∙ ap (λ (z : Op). wholeMove z ws room at) (sym told) ∙ sym (rw (le-leb (wordsOf o) (length ws - at) (rw e at h)))
+  arm o′ r h told k = k ∙ ap (λ (z : Op). wholeMove z ws segs at) (sym told) ∙ sym (rw (le-leb (wordsOf o) (length ws - at) (rw e at h)))
 
 words-of-requires : tie.Need-words-of-requires
 words-of-requires c κs = search needs
@@ -34,7 +35,7 @@ sub-if1 : tie.Need-sub-if1
 sub-if1 c = search needs
 
 returns : tie.Need-returns
-returns c = short (now (c .before .before .before .args .words)) (c .before .before .before .args .room) (c .before .before .before .args .at) (c .before .before .before .args .op) _ (c .before .words-of .ensures) (c .if1 .taken)
+returns c = short (now (c .before .before .before .before .args .words)) (now (c .before .before .before .before .args .segments)) (c .before .before .before .before .args .at) (c .before .before .before .before .args .op) _ (c .before .words-of .ensures) (c .if1 .taken)
 
 enum-told : tie.Need-enum-told
 enum-told c = search needs
@@ -76,30 +77,30 @@ shared-slice-read-next : tie.Need-shared-slice-read-next
 shared-slice-read-next c = omega (arith, c .before .before .before .before .words-of .ensures ∙ ap wordsOf (c .before .enum-told4 .given .1))
 
 cast-next : tie.Need-cast-next
-cast-next c = omega (arith, c .shared-slice-known3 .given (c .before .before .before .before .before .before .args .at + 1))
+cast-next c = omega (arith, c .shared-slice-known4 .given (c .before .before .before .before .before .before .before .args .at + 1))
 
 enum-told-5 : tie.Need-enum-told-5
 enum-told-5 c = search needs
 
 returns-2 : tie.Need-returns-2
 unfolding wholeMove
-returns-2 c = arm (now (c .before .before .before .before .before .before .args .words)) (c .before .before .before .before .before .before .args .room) (c .before .before .before .before .before .before .args .at) (c .before .before .before .before .before .before .args .op) _ (c .before .before .before .before .words-of .ensures) Fill _ (c .before .before .before .if1 .left) (c .before .enum-told .given .1) (c .fill-move .ensures)
+returns-2 c = arm (now (c .before .before .before .before .before .before .before .args .words)) (now (c .before .before .before .before .before .before .before .args .segments)) (c .before .before .before .before .before .before .before .args .at) (c .before .before .before .before .before .before .before .args .op) _ (c .before .before .before .before .words-of .ensures) Fill _ (c .before .before .before .if1 .left) (c .before .enum-told .given .1) (c .fill-move .ensures)
 
 returns-3 : tie.Need-returns-3
 unfolding wholeMove
-returns-3 c = arm (now (c .before .before .before .before .before .args .words)) (c .before .before .before .before .before .args .room) (c .before .before .before .before .before .args .at) (c .before .before .before .before .before .args .op) _ (c .before .before .before .words-of .ensures) Solid _ (c .before .before .if1 .left) (c .enum-told2 .given .1) refl
+returns-3 c = arm (now (c .before .before .before .before .before .before .args .words)) (now (c .before .before .before .before .before .before .args .segments)) (c .before .before .before .before .before .before .args .at) (c .before .before .before .before .before .before .args .op) _ (c .before .before .before .words-of .ensures) Solid _ (c .before .before .if1 .left) (c .enum-told2 .given .1) refl
 
 returns-4 : tie.Need-returns-4
 unfolding wholeMove
-returns-4 c = arm (now (c .before .before .before .before .before .before .args .words)) (c .before .before .before .before .before .before .args .room) (c .before .before .before .before .before .before .args .at) (c .before .before .before .before .before .before .args .op) _ (c .before .before .before .before .words-of .ensures) Color _ (c .before .before .before .if1 .left) (c .before .enum-told3 .given .1) refl
+returns-4 c = arm (now (c .before .before .before .before .before .before .before .args .words)) (now (c .before .before .before .before .before .before .before .args .segments)) (c .before .before .before .before .before .before .before .args .at) (c .before .before .before .before .before .before .before .args .op) _ (c .before .before .before .before .words-of .ensures) Color _ (c .before .before .before .if1 .left) (c .before .enum-told3 .given .1) refl
 
 returns-5 : tie.Need-returns-5
 unfolding wholeMove
-returns-5 c = arm (now (c .before .before .before .before .before .before .args .words)) (c .before .before .before .before .before .before .args .room) (c .before .before .before .before .before .before .args .at) (c .before .before .before .before .before .before .args .op) _ (c .before .before .before .before .words-of .ensures) Jump _ (c .before .before .before .if1 .left) (c .before .enum-told4 .given .1) refl
+returns-5 c = arm (now (c .before .before .before .before .before .before .before .args .words)) (now (c .before .before .before .before .before .before .before .args .segments)) (c .before .before .before .before .before .before .before .args .at) (c .before .before .before .before .before .before .before .args .op) _ (c .before .before .before .before .words-of .ensures) Jump _ (c .before .before .before .if1 .left) (c .before .enum-told4 .given .1) refl
 
 returns-6 : tie.Need-returns-6
 unfolding wholeMove
-returns-6 c = arm (now (c .before .before .before .before .before .args .words)) (c .before .before .before .before .before .args .room) (c .before .before .before .before .before .args .at) (c .before .before .before .before .before .args .op) _ (c .before .before .before .words-of .ensures) Unknown _ (c .before .before .if1 .left) (c .enum-told5 .given .1) refl
+returns-6 c = arm (now (c .before .before .before .before .before .before .args .words)) (now (c .before .before .before .before .before .before .args .segments)) (c .before .before .before .before .before .before .args .at) (c .before .before .before .before .before .before .args .op) _ (c .before .before .before .words-of .ensures) Unknown _ (c .before .before .if1 .left) (c .enum-told5 .given .1) refl
 
 pub move-at-spec : {M : Type 1} → statement M
 move-at-spec =

@@ -3,7 +3,7 @@ use mathlib.Core.Path.{refl}
 use Prim.Native.Nat.{_+_, _-_, _≤_}
 use lib.Ieee.{nan}
 use Rattle.coverage.specs.Tile.{tileWidth, rowStart}
-use Rattle.coverage.proofs.Turn.{Done, begun-at, turned-at, ended-at}
+use Rattle.ranges.proofs.Turn.{Done, begun-at, turned-at, ended-at}
 use Rattle.coverage.specs.Row.{edged}
 use native.Mathlib.Omega.{arith}
 use borrow.Author.Needs.{needs}

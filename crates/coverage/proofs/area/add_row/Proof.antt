@@ -12,7 +12,7 @@ use Rattle.coverage.specs.Row.{rowOf, reachOf, slanted, edged, stepRow, 
 use Rattle.coverage.specs.declared.row.Way.{Way}
 use Rattle.coverage.specs.declared.row.Row.{Row}
 use Rattle.coverage.specs.declared.row.Reach.{Reach}
-use Rattle.coverage.proofs.Turn.{kept}
+use Rattle.ranges.proofs.Turn.{kept}
 use native.Mathlib.Omega.{arith}
 use borrow.Author.Needs.{needs}
 use Rattle.coverage.proofs.area.add_row.Statement.{statement}

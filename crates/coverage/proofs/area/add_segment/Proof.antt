@@ -6,7 +6,7 @@ use lib.Ieee.{Float, nan}
 use Rattle.lists.specs.Grid.{mapi, within}
 use Rattle.coverage.specs.Tile.{tileHeight, tileSize, rowStart, rowEnd}
 use Rattle.coverage.specs.Row.{stepWay}
-use Rattle.coverage.proofs.Turn.{Done, begun, turned-to, ended}
+use Rattle.ranges.proofs.Turn.{Done, begun, turned-to, ended}
 use native.Mathlib.Omega.{arith}
 use borrow.Author.Needs.{needs}
 use Rattle.coverage.proofs.area.add_segment.Statement.{statement}

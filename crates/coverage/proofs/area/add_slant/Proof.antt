@@ -5,7 +5,7 @@ use Prim.Native.Nat.{ℕ, _+_, _-_, _*_, _%_, _≤_, _<_}
 use lib.ListN.{getD, set}
 use lib.Ieee.{Float, nan, binary32, add}
 use Rattle.coverage.specs.Tile.{tileWidth, rowStart}
-use Rattle.coverage.proofs.Turn.{Done, begun-at, turned-at, ended-at}
+use Rattle.ranges.proofs.Turn.{Done, begun-at, turned-at, ended-at}
 use Rattle.coverage.specs.Row.{addedOf, slanted}
 use Rattle.coverage.specs.declared.row.Reach.{Reach}
 use native.Mathlib.Omega.{arith}

@@ -3,7 +3,7 @@ use Prim.Native.Nat.{_-_, _≤_}
 use lib.Ieee.{nan}
 use Rattle.coverage.specs.Tile.{tileSize}
 use Rattle.coverage.specs.Coverage.{finishOf}
-use Rattle.coverage.proofs.Turn.{Done, begun, turned, ended}
+use Rattle.ranges.proofs.Turn.{Done, begun, turned, ended}
 use native.Mathlib.Omega.{arith}
 use borrow.Author.Needs.{needs}
 use Rattle.coverage.proofs.area.finish_all.Statement.{statement}

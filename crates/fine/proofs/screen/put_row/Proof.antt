@@ -6,7 +6,7 @@ use lib.ListN.{getD, set}
 use denote.Ref.{now}
 use lib.Ieee.{Float}
 use Rattle.coverage.specs.Tile.{tileWidth, tileHeight}
-use Rattle.coverage.proofs.Turn.{Done, begun-at, turned-at, ended-at}
+use Rattle.ranges.proofs.Turn.{Done, begun-at, turned-at, ended-at}
 use Rattle.colours.specs.Colour.{packOf}
 use Rattle.fine.specs.Screen.{rowAt, fromList}
 use Rattle.fine.proofs.Places.{place-in-row}

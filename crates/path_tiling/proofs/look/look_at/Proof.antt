@@ -1,10 +1,9 @@
 -- `path_tiling::look::look_at` meets its contract, case by case. Assumes nothing.
-use borrow.Author.Needs.{needs}
 use native.Mathlib.Omega.{arith}
-use Rattle.panel.specs.Widths.{stepRange}
 use Rattle.panel.proofs.LimitLaws.{step-read, slice-read}
 use Rattle.path_tiling.specs.Look.{foundTo}
 use Rattle.path_tiling.proofs.LookLaws.{line-fits}
+use borrow.Author.Needs.{needs}
 use Rattle.path_tiling.proofs.look.look_at.Statement.{statement}
 use Rattle.path_tiling.proofs.look.look_at.Tie as tie
 
@@ -17,11 +16,17 @@ enum-told c = search needs
 enum-known-found-2 : tie.Need-enum-known-found-2
 enum-known-found-2 c = search needs
 
+step-of-requires : tie.Need-step-of-requires
+step-of-requires c κs = search needs
+
+slice-of-requires : tie.Need-slice-of-requires
+slice-of-requires c κs = search needs
+
 look-line-requires : tie.Need-look-line-requires
-unfolding stepRange
 look-line-requires c κs =
-    let fits = line-fits (c .before .found2 .given .1) (c .before .before .before .before .pre) in
-    (step-read (c .before .before .before .before .args .packed), slice-read (c .before .before .before .before .args .packed) (omega arith), fits .0, fits .1, fits .2)
+    let fits = line-fits (c .before .before .before .found2 .given .1) (c .before .before .before .before .before .before .pre) in
+    let a = c .before .before .before .before .before .before .args in
+    (rw (c .before .step-of .ensures) (step-read (a .packed)), rw (c .slice-of .ensures) (slice-read (a .packed) (omega arith)), fits .0, fits .1, fits .2)
 
 returns : tie.Need-returns
 unfolding foundTo
@@ -32,8 +37,19 @@ unfolding foundTo
 returns-2 c = rw (c .enum-told .given .1)
 
 returns-3 : tie.Need-returns-3
-unfolding stepRange foundTo
-returns-3 c = rw (c .before .before .found2 .given .1, c .look-line .ensures)
+unfolding foundTo
+returns-3 c = rw (c .before .before .before .before .found2 .given .1, c .look-line .ensures, c .before .before .step-of .ensures, c .before .slice-of .ensures)
 
 pub look-at-spec : {M : Type 1} → statement M
-look-at-spec = tie.close (tie.spec enum-known-found enum-told enum-known-found-2 look-line-requires returns returns-2 returns-3)
+look-at-spec =
+    tie.close
+    (tie.spec
+    enum-known-found
+    enum-told
+    enum-known-found-2
+    step-of-requires
+    slice-of-requires
+    look-line-requires
+    returns
+    returns-2
+    returns-3)

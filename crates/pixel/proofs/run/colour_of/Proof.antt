@@ -1,12 +1,10 @@
 -- `pixel::run::colour_of` meets its contract. The invariant: what is left to do, from the present place with the commands left, gives what the whole gives. Assumes nothing.
 use mathlib.Core.Path.{_≡_, refl, sym, ap, _∙_}
 use mathlib.Core.List.{List}
-use Prim.Native.Nat.{ℕ, suc, _-_, _+_, _/_, _≤_}
-use lib.ListN.{length}
+use Prim.Native.Nat.{ℕ, suc, _-_, _+_, _≤_}
 use denote.Ref.{now}
 use lib.Ieee.{Float}
 use Rattle.panel.specs.Limits.{mostCommands}
-use Rattle.panel.specs.Widths.{segmentFloats}
 use Rattle.panel.specs.declared.kinds.Verdict.{Verdict}
 use Rattle.panel.specs.declared.kinds.Verdict.the-variants.{Fine, Against}
 use Rattle.colours.specs.Colour.{packOf}
@@ -28,36 +26,36 @@ use Rattle.pixel.proofs.run.colour_of.Statement.{statement}
 use Rattle.pixel.proofs.run.colour_of.Tie as tie
 
 begins : (ws : List ℕ) (segs : List Float) (t k : ℕ) (p : Held) → p ≡ nothingHeld
-    → left segs k (traceOf (mostCommands - 0) ws (length segs / segmentFloats) (startOf t)) p ≡ underList ws segs t k
-begins ws segs t k p e = ap (left segs k (traceOf mostCommands ws (length segs / segmentFloats) (startOf t))) e ∙ left-starts segs k ws t
+    → left segs k (traceOf (mostCommands - 0) ws segs (startOf t)) p ≡ underList ws segs t k
+begins ws segs t k p e = ap (left segs k (traceOf mostCommands ws segs (startOf t))) e ∙ left-starts segs k ws t
 
-module _ (ws : List ℕ) (segs : List Float) (t k room : ℕ) (p : Held) (at count : ℕ) (inv : left segs k (traceOf (mostCommands - count) ws room at) p ≡ underList ws segs t k) where
+module _ (ws : List ℕ) (segs : List Float) (t k : ℕ) (p : Held) (at count : ℕ) (inv : left segs k (traceOf (mostCommands - count) ws segs at) p ≡ underList ws segs t k) where
   -- the commands end here
-  there : (n : ℕ) (v : Verdict) → mostCommands - count ≡ n → traceOf n ws room at ≡ ends v → left segs k (ends v) p ≡ underList ws segs t k
-  there n v f e = ap (λ (x : Trace). left segs k x p) (sym (ap (λ (m : ℕ). traceOf m ws room at) f ∙ e)) ∙ inv
+  there : (n : ℕ) (v : Verdict) → mostCommands - count ≡ n → traceOf n ws segs at ≡ ends v → left segs k (ends v) p ≡ underList ws segs t k
+  there n v f e = ap (λ (x : Trace). left segs k x p) (sym (ap (λ (m : ℕ). traceOf m ws segs at) f ∙ e)) ∙ inv
 
-  stops : (n m : ℕ) → mostCommands - count ≡ n → traceOf n ws room at ≡ ends (Against m) → refusedBy m ≡ underList ws segs t k
+  stops : (n m : ℕ) → mostCommands - count ≡ n → traceOf n ws segs at ≡ ends (Against m) → refusedBy m ≡ underList ws segs t k
   unfolding left pointOf
   stops n m f e = there n (Against m) f e
 
-  over : (n px : ℕ) → mostCommands - count ≡ n → traceOf n ws room at ≡ ends Fine → px ≡ packOf (coloursOf p) → answered px ≡ underList ws segs t k
+  over : (n px : ℕ) → mostCommands - count ≡ n → traceOf n ws segs at ≡ ends Fine → px ≡ packOf (coloursOf p) → answered px ≡ underList ws segs t k
   unfolding left pointOf
   over n px f e q = ap answered q ∙ there n Fine f e
 
   -- one more is carried out
   turn : (a : Act) (next : ℕ) (q : Held) → count ≤ mostCommands → (count ≡ mostCommands → ⊥)
-      → traceOf (suc (mostCommands - (count + 1))) ws room at ≡ does a (traceOf (mostCommands - (count + 1)) ws room next) → q ≡ heldAfter a segs k p
-      → left segs k (traceOf (mostCommands - (count + 1)) ws room next) q ≡ underList ws segs t k
+      → traceOf (suc (mostCommands - (count + 1))) ws segs at ≡ does a (traceOf (mostCommands - (count + 1)) ws segs next) → q ≡ heldAfter a segs k p
+      → left segs k (traceOf (mostCommands - (count + 1)) ws segs next) q ≡ underList ws segs t k
   turn a next q h z e g =
-      let r = traceOf (mostCommands - (count + 1)) ws room next in
-      ap (left segs k r) g ∙ sym (left-does segs k a r p) ∙ ap (λ (x : Trace). left segs k x p) (sym (ap (λ (m : ℕ). traceOf m ws room at) (more count h z) ∙ e)) ∙ inv
+      let r = traceOf (mostCommands - (count + 1)) ws segs next in
+      ap (left segs k r) g ∙ sym (left-does segs k a r p) ∙ ap (λ (x : Trace). left segs k x p) (sym (ap (λ (m : ℕ). traceOf m ws segs at) (more count h z) ∙ e)) ∙ inv
 
 abbrev Inv-loop : tie.InvT-loop
-Inv-loop words segments t column row room p₀ at₀ count₀ p at count = (count ≤ mostCommands) ×
-    (left segments (placeAt column row) (traceOf (mostCommands - count) words room at) p ≡ underList words segments t (placeAt column row))
+Inv-loop words segments t column row p₀ at₀ count₀ p at count = (count ≤ mostCommands) ×
+    (left segments (placeAt column row) (traceOf (mostCommands - count) words segments at) p ≡ underList words segments t (placeAt column row))
 
 abbrev μ-loop : tie.MeasureT-loop
-μ-loop words segments t column row room p₀ at₀ count₀ p at count = mostCommands - count
+μ-loop words segments t column row p₀ at₀ count₀ p at count = mostCommands - count
 
 nothing-requires : tie.Need-nothing-requires Inv-loop μ-loop
 nothing-requires c κs = search needs
@@ -84,8 +82,8 @@ returns : tie.Need-returns Inv-loop μ-loop
 returns c =
     let a = c .before .before .before .before .before .before .before .args in
     let l = c .before .before .before .loop in
-    stops (now (a .words)) (now (a .segments)) (a .t) (placeAt (a .column) (a .row)) (length (now (a .segments)) / segmentFloats) (l .p) (l .at) (l .count) (l .inv .1) _ _ refl
-    (trace-past (now (a .words)) _ (l .at) _ (sym (c .before .before .peek-from .ensures) ∙ c .enum-told .given .1))
+    stops (now (a .words)) (now (a .segments)) (a .t) (placeAt (a .column) (a .row)) (l .p) (l .at) (l .count) (l .inv .1) _ _ refl
+    (trace-past (now (a .words)) (now (a .segments)) (l .at) _ (sym (c .before .before .peek-from .ensures) ∙ c .enum-told .given .1))
 
 pack-requires : tie.Need-pack-requires Inv-loop μ-loop
 pack-requires c κs = search needs
@@ -94,16 +92,16 @@ returns-2 : tie.Need-returns-2 Inv-loop μ-loop
 returns-2 c =
     let a = c .before .before .before .before .before .before .before .before .before .before .args in
     let l = c .before .before .before .before .before .before .loop in
-    over (now (a .words)) (now (a .segments)) (a .t) (placeAt (a .column) (a .row)) (length (now (a .segments)) / segmentFloats) (l .p) (l .at) (l .count) (l .inv .1) _ _ refl
-    (trace-end (now (a .words)) _ (l .at) _ (sym (c .before .before .before .before .before .peek-from .ensures) ∙ c .before .before .before .tag .given .1) _ (c .before .if1 .taken))
+    over (now (a .words)) (now (a .segments)) (a .t) (placeAt (a .column) (a .row)) (l .p) (l .at) (l .count) (l .inv .1) _ _ refl
+    (trace-end (now (a .words)) (now (a .segments)) (l .at) _ (sym (c .before .before .before .before .before .peek-from .ensures) ∙ c .before .before .before .tag .given .1) _ (c .before .if1 .taken))
     (c .pack .ensures)
 
 returns-3 : tie.Need-returns-3 Inv-loop μ-loop
 returns-3 c =
     let a = c .before .before .before .before .before .before .before .before .before .before .args in
     let l = c .before .before .before .before .before .before .loop in
-    stops (now (a .words)) (now (a .segments)) (a .t) (placeAt (a .column) (a .row)) (length (now (a .segments)) / segmentFloats) (l .p) (l .at) (l .count) (l .inv .1) 0 _ (omega arith)
-    (trace-full (now (a .words)) _ (l .at) _ (sym (c .before .before .before .before .before .peek-from .ensures) ∙ c .before .before .before .tag .given .1) (c .before .if1 .left))
+    stops (now (a .words)) (now (a .segments)) (a .t) (placeAt (a .column) (a .row)) (l .p) (l .at) (l .count) (l .inv .1) 0 _ (omega arith)
+    (trace-full (now (a .words)) (now (a .segments)) (l .at) _ (sym (c .before .before .before .before .before .peek-from .ensures) ∙ c .before .before .before .tag .given .1) (c .before .if1 .left))
 
 op-of-requires : tie.Need-op-of-requires Inv-loop μ-loop
 op-of-requires c κs = search needs
@@ -120,9 +118,9 @@ returns-4 : tie.Need-returns-4 Inv-loop μ-loop
 returns-4 c =
     let a = c .before .before .before .before .before .before .before .before .before .before .before .before .before .before .before .args in
     let l = c .before .before .before .before .before .before .before .before .before .before .before .loop in
-    stops (now (a .words)) (now (a .segments)) (a .t) (placeAt (a .column) (a .row)) (length (now (a .segments)) / segmentFloats) (l .p) (l .at) (l .count) (l .inv .1) _ _
+    stops (now (a .words)) (now (a .segments)) (a .t) (placeAt (a .column) (a .row)) (l .p) (l .at) (l .count) (l .inv .1) _ _
     (more (l .count) (l .inv .0) (c .before .before .before .before .before .if2 .left))
-    (trace-stop (now (a .words)) _ (l .at) _
+    (trace-stop (now (a .words)) (now (a .segments)) (l .at) _
     (sym (c .before .before .before .before .before .before .before .before .before .before .peek-from .ensures)
     ∙ c .before .before .before .before .before .before .before .before .tag .given .1)
     (c .before .before .before .before .before .before .if1 .left) _ (c .before .before .before .before .op-of .ensures) _ (c .before .before .before .move-at .ensures) _ _ (c .before .no .given .1))
@@ -134,7 +132,7 @@ carry-out-requires : tie.Need-carry-out-requires Inv-loop μ-loop
 carry-out-requires c κs =
     let s = c .before .before .before .before .before .before .before .before .before .before .before .before .before .before .before in (
       move-within _ (now (s .args .words))
-          (length (now (s .args .segments)))
+          (now (s .args .segments))
           (c .before .before .before .before .before .before .before .before .before .before .before .loop .at) _ _
           (sym (c .before .before .before .move-at .ensures) ∙ c .before .act .given .1),
       s .pre .0,
@@ -152,9 +150,9 @@ loop-again c =
     let a = c .before .before .before .before .before .before .before .before .before .before .before .before .before .before .before .before .args in
     let l = c .before .before .before .before .before .before .before .before .before .before .before .before .loop in (
       omega arith,
-      turn (now (a .words)) (now (a .segments)) (a .t) (placeAt (a .column) (a .row)) (length (now (a .segments)) / segmentFloats) (l .p) (l .at) (l .count) (l .inv .1) _ _ _ (l .inv .0)
+      turn (now (a .words)) (now (a .segments)) (a .t) (placeAt (a .column) (a .row)) (l .p) (l .at) (l .count) (l .inv .1) _ _ _ (l .inv .0)
           (c .before .before .before .before .before .before .if2 .left)
-          (trace-goes (now (a .words)) _ (l .at) _
+          (trace-goes (now (a .words)) (now (a .segments)) (l .at) _
           (sym (c .before .before .before .before .before .before .before .before .before .before .before .peek-from .ensures)
           ∙ c .before .before .before .before .before .before .before .before .before .tag .given .1)
           (c .before .before .before .before .before .before .before .if1 .left) _ (c .before .before .before .before .before .op-of .ensures) _

@@ -39,10 +39,15 @@ many-requires : tie.Need-many-requires Inv-loop μ-loop
 many-requires c κs = c .before .before .before .before .before .before .pre .0
 
 add-n : tie.Need-add-n Inv-loop μ-loop
-add-n c = let h = sum-fits (c .before .act .result) (c .before .before .before .before .loop .g .drawn) _ _ _ _ (c .before .before .before .before .before .before .before .pre .0) (c .before .before .before .before .loop .inv .1) (c .before .before .before .before .before .before .before .pre .1) (c .many .ensures) in omega (arith, h)
+add-n c =
+    let h = sum-fits (c .before .act .result) (c .before .before .before .before .loop .g .drawn) _ _ _ _ (c .before .before .before .before .before .before .before .pre .0)
+    (c .before .before .before .before .loop .inv .1) (c .before .before .before .before .before .before .before .pre .1) (c .many .ensures) in omega (arith, h)
 
 returns : tie.Need-returns Inv-loop μ-loop
-returns c = counted-over (now (c .before .before .before .before .before .before .before .before .args .s)) (c .before .before .before .before .before .before .before .before .args .depth) (c .before .before .before .before .before .before .before .before .args .room) _ _ _ _ _ _ (c .before .before .before .before .before .loop .inv) (c .before .before .before .next .ensures .0) (c .before .before .before .next .ensures .1) (c .before .before .act .ensures) (c .before .many .ensures) (c .if1 .taken)
+returns c =
+    let a = c .before .before .before .before .before .before .before .before .args in
+    counted-over (now (a .s)) (a .depth) (a .room) _ _ _ _ _ _ (c .before .before .before .before .before .loop .inv) (c .before .before .before .next .ensures .0)
+    (c .before .before .before .next .ensures .1) (c .before .before .act .ensures) (c .before .many .ensures) (c .if1 .taken)
 
 pass-requires : tie.Need-pass-requires Inv-loop μ-loop
 pass-requires c κs = search needs
@@ -51,22 +56,39 @@ place-requires : tie.Need-place-requires Inv-loop μ-loop
 place-requires c κs = search needs
 
 loop-less : tie.Need-loop-less Inv-loop μ-loop
-loop-less c = let h = place-past (c .before .before .before .before .before .before .before .loop .i) (length (now (c .before .before .before .before .before .before .before .before .before .before .args .s))) (c .before .before .before .before .before .next .result) (c .before .before .before .before .before .next .ensures .1) (c .before .before .before .before .before .before .loop-test .taken) in omega (arith, h .0, h .1, c .place .ensures)
+loop-less c =
+    let h = place-past (c .before .before .before .before .before .before .before .loop .i) (length (now
+    (c .before .before .before .before .before .before .before .before .before .before .args .s)))
+    (c .before .before .before .before .before .next .result) (c .before .before .before .before .before .next .ensures .1)
+    (c .before .before .before .before .before .before .loop-test .taken)
+    in omega (arith, h .0, h .1, c .place .ensures)
 
 loop-again : tie.Need-loop-again Inv-loop μ-loop
-loop-again c = counted (now (c .before .before .before .before .before .before .before .before .before .before .args .s)) (c .before .before .before .before .before .before .before .before .before .before .args .depth) (c .before .before .before .before .before .before .before .before .before .before .args .room) _ _ _ _ _ _ (c .before .before .before .before .before .before .before .loop .inv) (c .before .before .before .before .before .next .ensures .0) (c .before .before .before .before .before .next .ensures .1) (c .before .before .before .before .act .ensures) (c .before .before .before .many .ensures) _ _ (c .before .before .before .before .before .before .loop-test .taken) (c .before .before .if1 .left) (c .before .pass .ensures) (c .place .ensures)
+loop-again c =
+    let a = c .before .before .before .before .before .before .before .before .before .before .args in
+    counted (now (a .s)) (a .depth) (a .room) _ _ _ _ _ _ (c .before .before .before .before .before .before .before .loop .inv) (c .before .before .before .before .before .next .ensures .0)
+    (c .before .before .before .before .before .next .ensures .1) (c .before .before .before .before .act .ensures) (c .before .before .before .many .ensures) _
+    _ (c .before .before .before .before .before .before .loop-test .taken) (c .before .before .if1 .left) (c .before .pass .ensures) (c .place .ensures)
 
 many-requires-2 : tie.Need-many-requires-2 Inv-loop μ-loop
 many-requires-2 c κs = c .before .before .before .before .pre .0
 
 add-n-2 : tie.Need-add-n-2 Inv-loop μ-loop
-add-n-2 c = let h = sum-fits Move (c .before .before .loop .g .drawn) _ _ _ _ (c .before .before .before .before .before .pre .0) (c .before .before .loop .inv .1) (c .before .before .before .before .before .pre .1) (c .many2 .ensures) in omega (arith, h)
+add-n-2 c =
+    let h = sum-fits Move (c .before .before .loop .g .drawn) _ _ _ _ (c .before .before .before .before .before .pre .0) (c .before .before .loop .inv .1)
+    (c .before .before .before .before .before .pre .1)
+    (c .many2 .ensures) in omega (arith, h)
 
 returns-2 : tie.Need-returns-2 Inv-loop μ-loop
-returns-2 c = end-over (now (c .before .before .before .before .before .before .args .s)) (c .before .before .before .before .before .before .args .depth) (c .before .before .before .before .before .before .args .room) _ _ _ _ (c .before .before .loop-test .left) (c .before .before .before .loop .inv) (c .before .many2 .ensures) (c .if2 .taken)
+returns-2 c =
+    let a = c .before .before .before .before .before .before .args in
+    end-over (now (a .s)) (a .depth) (a .room) _ _ _ _ (c .before .before .loop-test .left) (c .before .before .before .loop .inv) (c .before .many2 .ensures)
+    (c .if2 .taken)
 
 returns-3 : tie.Need-returns-3 Inv-loop μ-loop
-returns-3 c = end-in (now (c .before .before .before .before .before .before .args .s)) (c .before .before .before .before .before .before .args .depth) (c .before .before .before .before .before .before .args .room) _ _ _ _ (c .before .before .loop-test .left) (c .before .before .before .loop .inv) (c .before .many2 .ensures) (c .if2 .left)
+returns-3 c =
+    let a = c .before .before .before .before .before .before .args in
+    end-in (now (a .s)) (a .depth) (a .room) _ _ _ _ (c .before .before .loop-test .left) (c .before .before .before .loop .inv) (c .before .many2 .ensures) (c .if2 .left)
 
 pub count-spec : {M : Type 1} → statement M
 count-spec =

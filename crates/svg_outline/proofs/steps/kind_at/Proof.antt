@@ -34,18 +34,41 @@ quad-requires c κs = search needs
 
 returns-5 : tie.Need-returns-5
 unfolding kindOf
-returns-5 c = rw (sym (c .before .before .before .before .before .before .movement .ensures) ∙ c .before .before .before .before .before .if1 .left, c .before .before .before .before .if2 .left, c .before .before .before .if3 .left, c .before .before .if4 .left, sym (c .before .quad .ensures) ∙ c .if5 .taken)
+returns-5 c =
+    rw (
+      sym (c .before .before .before .before .before .before .movement .ensures) ∙ c .before .before .before .before .before .if1 .left,
+      c .before .before .before .before .if2 .left,
+      c .before .before .before .if3 .left,
+      c .before .before .if4 .left,
+      sym (c .before .quad .ensures) ∙ c .if5 .taken,
+    )
 
 close-requires : tie.Need-close-requires
 close-requires c κs = search needs
 
 returns-6 : tie.Need-returns-6
 unfolding kindOf
-returns-6 c = rw (sym (c .before .before .before .before .before .before .before .before .movement .ensures) ∙ c .before .before .before .before .before .before .before .if1 .left, c .before .before .before .before .before .before .if2 .left, c .before .before .before .before .before .if3 .left, c .before .before .before .before .if4 .left, sym (c .before .before .before .quad .ensures) ∙ c .before .before .if5 .left, sym (c .before .close .ensures) ∙ c .if6 .taken)
+returns-6 c =
+    rw (
+      sym (c .before .before .before .before .before .before .before .before .movement .ensures) ∙ c .before .before .before .before .before .before .before .if1 .left,
+      c .before .before .before .before .before .before .if2 .left,
+      c .before .before .before .before .before .if3 .left,
+      c .before .before .before .before .if4 .left,
+      sym (c .before .before .before .quad .ensures) ∙ c .before .before .if5 .left,
+      sym (c .before .close .ensures) ∙ c .if6 .taken,
+    )
 
 returns-7 : tie.Need-returns-7
 unfolding kindOf
-returns-7 c = rw (sym (c .before .before .before .before .before .before .before .before .movement .ensures) ∙ c .before .before .before .before .before .before .before .if1 .left, c .before .before .before .before .before .before .if2 .left, c .before .before .before .before .before .if3 .left, c .before .before .before .before .if4 .left, sym (c .before .before .before .quad .ensures) ∙ c .before .before .if5 .left, sym (c .before .close .ensures) ∙ c .if6 .left)
+returns-7 c =
+    rw (
+      sym (c .before .before .before .before .before .before .before .before .movement .ensures) ∙ c .before .before .before .before .before .before .before .if1 .left,
+      c .before .before .before .before .before .before .if2 .left,
+      c .before .before .before .before .before .if3 .left,
+      c .before .before .before .before .if4 .left,
+      sym (c .before .before .before .quad .ensures) ∙ c .before .before .if5 .left,
+      sym (c .before .close .ensures) ∙ c .if6 .left,
+    )
 
 pub kind-at-spec : {M : Type 1} → statement M
 kind-at-spec =

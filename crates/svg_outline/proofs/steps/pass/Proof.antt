@@ -48,7 +48,14 @@ returns-2 c = rw (c .before .close .ensures, c .before .before .size .ensures, c
 
 returns-3 : tie.Need-returns-3
 unfolding gaitOf
-returns-3 c = rw (c .movement .ensures, c .before .size2 .ensures, c .before .before .later .ensures, c .before .before .before .before .before .enum-told2 .given .1, le-leb _ 1 (c .before .before .before .if1 .taken))
+returns-3 c =
+    rw (
+      c .movement .ensures,
+      c .before .size2 .ensures,
+      c .before .before .later .ensures,
+      c .before .before .before .before .before .enum-told2 .given .1,
+      le-leb _ 1 (c .before .before .before .if1 .taken),
+    )
 
 returns-4 : tie.Need-returns-4
 unfolding gaitOf

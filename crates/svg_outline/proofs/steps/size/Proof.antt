@@ -29,11 +29,23 @@ quad-requires c κs = search needs
 
 returns-3 : tie.Need-returns-3
 unfolding sizeOf
-returns-3 c = rw (sym (c .before .before .before .before .before .pair .ensures) ∙ c .before .before .before .before .if1 .left, sym (c .before .before .before .axis .ensures) ∙ c .before .before .if2 .left, sym (c .before .quad .ensures) ∙ c .if3 .taken)
+returns-3 c =
+    rw (
+      sym (c .before .before .before .before .before .pair .ensures) ∙ c .before .before .before .before .if1 .left,
+      sym (c .before .before .before .axis .ensures)
+          ∙ c .before .before .if2 .left,
+      sym (c .before .quad .ensures) ∙ c .if3 .taken,
+    )
 
 returns-4 : tie.Need-returns-4
 unfolding sizeOf
-returns-4 c = rw (sym (c .before .before .before .before .before .pair .ensures) ∙ c .before .before .before .before .if1 .left, sym (c .before .before .before .axis .ensures) ∙ c .before .before .if2 .left, sym (c .before .quad .ensures) ∙ c .if3 .left)
+returns-4 c =
+    rw (
+      sym (c .before .before .before .before .before .pair .ensures) ∙ c .before .before .before .before .if1 .left,
+      sym (c .before .before .before .axis .ensures)
+          ∙ c .before .before .if2 .left,
+      sym (c .before .quad .ensures) ∙ c .if3 .left,
+    )
 
 pub size-spec : {M : Type 1} → statement M
 size-spec =

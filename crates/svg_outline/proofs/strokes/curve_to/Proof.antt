@@ -30,7 +30,15 @@ same-length : tie.Need-same-length
 same-length c = search needs
 
 returns : tie.Need-returns
-returns c = (curved-hand (c .before .before .before .before .before .before .before .before .before .before .args .h) (c .before .before .before .before .before .before .before .before .before .before .args .rel) _ _ _ _ _ (c .before .before .before .before .before .before .place-of3 .ensures) (c .before .before .before .before .before .place-of4 .ensures) (c .before .before .before .halve .ensures .0) (c .moved .ensures), curved-lines (c .before .before .before .before .before .before .before .before .before .before .args .h) (c .before .before .before .before .before .before .before .before .before .before .args .rel) _ _ _ _ _ _ _ (c .before .before .before .before .before .before .before .before .place-of .ensures) (c .before .before .before .before .before .before .before .place-of2 .ensures) (c .before .before .before .before .before .before .place-of3 .ensures) (c .before .before .before .before .before .place-of4 .ensures) (c .before .before .before .halve .ensures .1))
+returns c =
+    let a = c .before .before .before .before .before .before .before .before .before .before .args in (
+      curved-hand (a .h) (a .rel) _ _ _ _ _ (c .before .before .before .before .before .before .place-of3 .ensures) (c .before .before .before .before .before .place-of4 .ensures)
+          (c .before .before .before .halve .ensures .0) (c .moved .ensures),
+      curved-lines (a .h) (a .rel) _ _ _ _ _ _ _ (c .before .before .before .before .before .before .before .before .place-of .ensures)
+          (c .before .before .before .before .before .before .before .place-of2 .ensures)
+          (c .before .before .before .before .before .before .place-of3 .ensures) (c .before .before .before .before .before .place-of4 .ensures)
+          (c .before .before .before .halve .ensures .1),
+    )
 
 pub curve-to-spec : {M : Type 1} → statement M
 curve-to-spec =

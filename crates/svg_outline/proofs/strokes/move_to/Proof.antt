@@ -24,7 +24,12 @@ same-length : tie.Need-same-length
 same-length c = search needs
 
 returns : tie.Need-returns
-returns c = (moved-to (c .before .before .before .before .before .before .before .before .args .h) (c .before .before .before .before .before .before .before .before .args .rel) (c .before .before .before .before .before .before .before .before .args .drawn) _ _ _ _ (c .before .before .before .before .before .shut .ensures .0) (c .before .before .place-of .ensures) (c .before .place-of2 .ensures) (c .moved .ensures), c .before .before .before .before .before .shut .ensures .1)
+returns c =
+    let a = c .before .before .before .before .before .before .before .before .args in (
+      moved-to (a .h) (a .rel) (a .drawn) _ _ _ _ (c .before .before .before .before .before .shut .ensures .0) (c .before .before .place-of .ensures) (c .before .place-of2 .ensures)
+          (c .moved .ensures),
+      c .before .before .before .before .before .shut .ensures .1,
+    )
 
 pub move-to-spec : {M : Type 1} → statement M
 move-to-spec =

@@ -13,7 +13,9 @@ same-length : tie.Need-same-length
 same-length c = search needs
 
 returns : tie.Need-returns
-returns c = shut-drawn (c .before .before .before .before .before .before .args .h) (c .before .before .before .before .before .before .args .drawn) _ _ _ (c .before .before .before .before .if1 .taken) (c .before .before .put .ensures)
+returns c =
+    let a = c .before .before .before .before .before .before .args in
+    shut-drawn (a .h) (a .drawn) _ _ _ (c .before .before .before .before .if1 .taken) (c .before .before .put .ensures)
 
 returns-2 : tie.Need-returns-2
 returns-2 c = shut-none (c .before .before .args .h) (c .before .before .args .drawn) _ (c .if1 .left)

@@ -19,13 +19,20 @@ relative-requires : tie.Need-relative-requires
 relative-requires c κs = search needs
 
 draw-requires : tie.Need-draw-requires
-draw-requires c κs = turn-room (c .before .before .before .before .before .args .depth) (c .before .before .before .before .before .args .g) (c .before .before .before .before .before .args .h) (c .before .before .before .before .before .args .t) (c .before .before .before .act .result) (c .before .before .held .result) (c .before .relative .result) _ (c .before .before .before .act .ensures) (c .before .before .held .ensures) (c .before .relative .ensures) (c .before .before .before .before .before .pre)
+draw-requires c κs =
+    let a = c .before .before .before .before .before .args in
+    turn-room (a .depth) (a .g) (a .h) (a .t) (c .before .before .before .act .result) (c .before .before .held .result) (c .before .relative .result) _ (c .before .before .before .act .ensures)
+    (c .before .before .held .ensures) (c .before .relative .ensures) (c .before .before .before .before .before .pre)
 
 same-length : tie.Need-same-length
 same-length c = search needs
 
 returns : tie.Need-returns
-returns c = turn-drew (c .before .before .before .before .before .before .before .before .args .depth) (c .before .before .before .before .before .before .before .before .args .g) (c .before .before .before .before .before .before .before .before .args .h) (c .before .before .before .before .before .before .before .before .args .t) (c .before .before .before .before .before .before .act .result) (c .before .before .before .before .before .held .result) (c .before .before .before .before .relative .result) _ _ _ (c .before .before .before .before .before .before .act .ensures) (c .before .before .before .before .before .held .ensures) (c .before .before .before .before .relative .ensures) (c .before .before .draw .ensures)
+returns c =
+    let a = c .before .before .before .before .before .before .before .before .args in
+    turn-drew (a .depth) (a .g) (a .h) (a .t) (c .before .before .before .before .before .before .act .result) (c .before .before .before .before .before .held .result)
+    (c .before .before .before .before .relative .result) _ _ _ (c .before .before .before .before .before .before .act .ensures) (c .before .before .before .before .before .held .ensures)
+    (c .before .before .before .before .relative .ensures) (c .before .before .draw .ensures)
 
 pub turn-spec : {M : Type 1} → statement M
 turn-spec =

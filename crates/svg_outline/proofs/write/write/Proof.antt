@@ -30,13 +30,17 @@ origin-requires : tie.Need-origin-requires Inv-loop μ-loop
 origin-requires c κs = search needs
 
 loop-holds : tie.Need-loop-holds Inv-loop μ-loop
-loop-holds c = begins (now (c .before .before .before .before .args .s)) (c .before .before .before .before .args .depth) _ _ _ (c .before .start .ensures) (c .origin .ensures) (c .before .before .before .before .pre)
+loop-holds c =
+    let a = c .before .before .before .before .args in
+    begins (now (a .s)) (a .depth) _ _ _ (c .before .start .ensures) (c .origin .ensures) (c .before .before .before .before .pre)
 
 next-requires : tie.Need-next-requires Inv-loop μ-loop
 next-requires c κs = c .before .loop .inv .0
 
 turn-requires : tie.Need-turn-requires Inv-loop μ-loop
-turn-requires c κs = fits (now (c .before .before .before .before .before .before .before .before .args .s)) (c .before .before .before .before .before .before .before .before .args .depth) _ _ _ _ _ _ (c .before .before .before .loop .inv) (c .before .next .ensures .0) (c .before .next .ensures .1)
+turn-requires c κs =
+    let a = c .before .before .before .before .before .before .before .before .args in
+    fits (now (a .s)) (a .depth) _ _ _ _ _ _ (c .before .before .before .loop .inv) (c .before .next .ensures .0) (c .before .next .ensures .1)
 
 pass-requires : tie.Need-pass-requires Inv-loop μ-loop
 pass-requires c κs = search needs
@@ -45,19 +49,34 @@ place-requires : tie.Need-place-requires Inv-loop μ-loop
 place-requires c κs = search needs
 
 loop-less : tie.Need-loop-less Inv-loop μ-loop
-loop-less c = let h = place-past (c .before .before .before .before .before .before .before .before .loop .i) (length (now (c .before .before .before .before .before .before .before .before .before .before .before .before .before .args .s))) (c .before .before .before .before .before .before .next .result) (c .before .before .before .before .before .before .next .ensures .1) (c .before .before .before .before .before .before .before .loop-test .taken) in omega (arith, h .0, h .1, c .place .ensures)
+loop-less c =
+    let h = place-past (c .before .before .before .before .before .before .before .before .loop .i) (length (now
+    (c .before .before .before .before .before .before .before .before .before .before .before .before .before .args .s)))
+    (c .before .before .before .before .before .before .next .result) (c .before .before .before .before .before .before .next .ensures .1)
+    (c .before .before .before .before .before .before .before .loop-test .taken)
+    in omega (arith, h .0, h .1, c .place .ensures)
 
 loop-again : tie.Need-loop-again Inv-loop μ-loop
-loop-again c = again (now (c .before .before .before .before .before .before .before .before .before .before .before .before .before .args .s)) (c .before .before .before .before .before .before .before .before .before .before .before .before .before .args .depth) _ _ _ _ _ _ _ _ _ _ (c .before .before .before .before .before .before .before .loop-test .taken) (c .before .before .before .before .before .before .before .before .loop .inv) (c .before .before .before .before .before .before .next .ensures .0) (c .before .before .before .before .before .before .next .ensures .1) (c .before .before .before .before .turn .ensures .0) (c .before .before .before .before .turn .ensures .1) (c .before .pass .ensures) (c .place .ensures)
+loop-again c =
+    let a = c .before .before .before .before .before .before .before .before .before .before .before .before .before .args in
+    again (now (a .s)) (a .depth) _ _ _ _ _ _ _ _ _ _ (c .before .before .before .before .before .before .before .loop-test .taken)
+    (c .before .before .before .before .before .before .before .before .loop .inv)
+    (c .before .before .before .before .before .before .next .ensures .0) (c .before .before .before .before .before .before .next .ensures .1)
+    (c .before .before .before .before .turn .ensures .0)
+    (c .before .before .before .before .turn .ensures .1) (c .before .pass .ensures) (c .place .ensures)
 
 finish-requires : tie.Need-finish-requires Inv-loop μ-loop
-finish-requires c κs = last-fits (now (c .before .before .before .before .before .before .before .args .s)) (c .before .before .before .before .before .before .before .args .depth) _ _ _ _ _ (c .before .loop-test .left) (c .before .before .loop .inv)
+finish-requires c κs =
+    let a = c .before .before .before .before .before .before .before .args in
+    last-fits (now (a .s)) (a .depth) _ _ _ _ _ (c .before .loop-test .left) (c .before .before .loop .inv)
 
 same-length : tie.Need-same-length Inv-loop μ-loop
 same-length c = search needs
 
 returns : tie.Need-returns Inv-loop μ-loop
-returns c = ended (now (c .before .before .before .before .before .before .before .before .before .before .args .s)) (c .before .before .before .before .before .before .before .before .before .before .args .depth) _ _ _ _ _ _ (c .before .before .before .before .loop-test .left) (c .before .before .before .before .before .loop .inv) (c .before .before .finish .ensures)
+returns c =
+    let a = c .before .before .before .before .before .before .before .before .before .before .args in
+    ended (now (a .s)) (a .depth) _ _ _ _ _ _ (c .before .before .before .before .loop-test .left) (c .before .before .before .before .before .loop .inv) (c .before .before .finish .ensures)
 
 pub write-spec : {M : Type 1} → statement M
 write-spec =

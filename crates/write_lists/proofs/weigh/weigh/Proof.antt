@@ -1,39 +1,28 @@
 -- `write_lists::weigh::weigh` meets its contract. The loop's invariant: what the paths left put there, weighed from here, comes to the same as all
 -- of it. Assumes nothing.
-
 use mathlib.Core.Path.{_≡_, refl, sym, ap, _∙_}
-use Prim.Native.Nat.{ℕ, _-_, _%_, _/_, _≤_}
+use mathlib.Core.List.{List}
+use Prim.Native.Nat.{ℕ, _+_, _-_, _%_, _/_, _≤_}
 use native.Mathlib.Omega.{arith}
 use borrow.Author.Needs.{needs}
-use lib.ListN.{length}
-use mathlib.Core.List.{List}
-use Rattle.write_lists.specs.declared.pairs.Pair.{Pair}
-use Rattle.lists.specs.Sums.{from}
+use lib.ListN.{length, take, drop, getD}
 use Rattle.panel.specs.Paths.{pathCount}
 use Rattle.panel.proofs.LimitLaws.{small}
-use Rattle.panel.proofs.PathLaws.{checked}
-use Rattle.write_lists.specs.Pairs.{tables, pairsOf, tilePairs, putList}
+use Rattle.write_lists.specs.Pairs.{tables, pairsOf, putList}
 use Rattle.write_lists.specs.Ready.{noWeight, weighAll}
-use Rattle.write_lists.proofs.WeighLaws.{Light, put-light, from-all, pairs-end, weigh-turn}
+use Rattle.write_lists.specs.declared.pairs.Pair.{Pair}
+use Rattle.write_lists.proofs.WeighLaws.{Light, put-light, weigh-next}
+use Rattle.write_lists.proofs.NearLaws.{list-turn, list-there, list-end}
 use Rattle.write_lists.proofs.weigh.weigh.Statement.{statement}
 use Rattle.write_lists.proofs.weigh.weigh.Tie as tie
 
--- of it. Assumes nothing.
-
 abbrev Inv-loop : tie.InvT-loop
-Inv-loop paths paints backdrops stored tally cols t room n x y w₀ p₀ w p =
-    (p ≤ n) × (n ≡ pathCount paths) × Light p w
-    × (weighAll room (pairsOf (tables paths paints backdrops stored tally) x y (from p (n - p))) w ≡ weighAll room (pairsOf (tables paths paints backdrops stored tally) x y (from 0 n)) noWeight)
+Inv-loop paths paints backdrops stored tally near n cols t room x y w₀ j₀ w j =
+    (j ≤ n) × Light j w
+    × (weighAll room (pairsOf (tables paths paints backdrops stored tally) x y (drop j (take n near))) w ≡ weighAll room (pairsOf (tables paths paints backdrops stored tally) x y (take n near)) noWeight)
 
 abbrev μ-loop : tie.MeasureT-loop
-μ-loop paths paints backdrops stored tally cols t room n x y w₀ p₀ w p = n - p
-
-cast-n : tie.Need-cast-n Inv-loop μ-loop
-cast-n c =
-    let a = c .before .before .before .before .args in
-    let s = tables (a .paths .now) (a .paints .now) (a .backdrops .now) (a .stored .now) (a .tally .now) in
-    let z = checked (s .paths) (length (s .backdrops)) (c .before .before .before .before .pre .0 .passed) in
-    record { fits = omega (arith, z .few, small .paths) }
+μ-loop paths paints backdrops stored tally near n cols t room x y w₀ j₀ w j = n - j
 
 rem-x : tie.Need-rem-x Inv-loop μ-loop
 rem-x c = search needs
@@ -41,65 +30,60 @@ rem-x c = search needs
 div-y : tie.Need-div-y Inv-loop μ-loop
 div-y c = search needs
 
-sub-t15 : tie.Need-sub-t15 Inv-loop μ-loop
-sub-t15 c = search needs
+sub-t16 : tie.Need-sub-t16 Inv-loop μ-loop
+sub-t16 c = search needs
 
 loop-holds : tie.Need-loop-holds Inv-loop μ-loop
-loop-holds c =
-    let a = c .before .before .before .before .args in
-    let s = tables (a .paths .now) (a .paints .now) (a .backdrops .now) (a .stored .now) (a .tally .now) in
-    let n = pathCount (s .paths) in
-    (omega arith, refl, record { pairs = omega arith; jumps = omega arith; left = omega arith }, ap (λ (l : List ℕ). weighAll (a .room) (pairsOf s (a .t % a .cols) (a .t / a .cols) l) noWeight) (from-all n))
+loop-holds c = (omega arith, record { pairs = omega arith; jumps = omega arith; left = omega arith }, refl)
+
+mul-on-path : tie.Need-mul-on-path Inv-loop μ-loop
+mul-on-path c = search needs
+
+shared-slice-read-on-path : tie.Need-shared-slice-read-on-path Inv-loop μ-loop
+shared-slice-read-on-path c = omega (arith, c .before .loop-test .taken, c .before .before .before .before .before .before .before .before .pre .2, c .before .before .before .before .before .before .before .before .pre .3)
 
 on-path-requires : tie.Need-on-path-requires Inv-loop μ-loop
 on-path-requires c κs =
-    let l = c .before .loop in
-    (c .before .before .before .before .before .before .pre .0, omega (arith, l .inv .1, c .loop-test .taken))
+    let a = c .before .before .before .before .before .before .before .before .args in
+    let s = tables (a .paths .now) (a .paints .now) (a .backdrops .now) (a .stored .now) (a .tally .now) in
+    let l = c .before .before .loop in
+    (c .before .before .before .before .before .before .before .before .pre .0, list-there (a .near .now) (a .n) (l .j) (omega (arith, c .before .before .before .before .before .before .before .before .pre .2, c .before .before .before .before .before .before .before .before .pre .3)) (pathCount (s .paths)) (c .before .before .before .before .before .before .before .before .pre .4 .there) (c .before .loop-test .taken))
 
 weigh-put-requires : tie.Need-weigh-put-requires Inv-loop μ-loop
 weigh-put-requires c κs =
-    let a = c .before .before .before .before .before .before .before .args in
-    let s = tables (a .paths .now) (a .paints .now) (a .backdrops .now) (a .stored .now) (a .tally .now) in
-    let l = c .before .before .loop in
-    let z = checked (s .paths) (length (s .backdrops)) (c .before .before .before .before .before .before .before .pre .0 .passed) in
-    let g = l .inv .2 in
-    (omega (arith, l .inv .1, c .before .loop-test .taken, z .few, g .pairs), omega (arith, l .inv .1, c .before .loop-test .taken, z .few, g .jumps), g .left)
+    let g = c .before .before .before .loop .inv .1 in
+    (omega (arith, c .before .before .loop-test .taken, c .before .before .before .before .before .before .before .before .before .pre .2, g .pairs), omega (arith, c .before .before .loop-test .taken, c .before .before .before .before .before .before .before .before .before .pre .2, g .jumps), g .left)
 
-add-p : tie.Need-add-p Inv-loop μ-loop
-add-p c =
-    let a = c .before .before .before .before .before .before .before .before .args in
-    let s = tables (a .paths .now) (a .paints .now) (a .backdrops .now) (a .stored .now) (a .tally .now) in
-    let z = checked (s .paths) (length (s .backdrops)) (c .before .before .before .before .before .before .before .before .pre .0 .passed) in
-    record { fits = omega (arith, c .before .before .before .loop .inv .1, c .before .before .loop-test .taken, z .few, small .paths) }
+add-j : tie.Need-add-j Inv-loop μ-loop
+add-j c = record { fits = omega (arith, c .before .before .before .loop-test .taken, c .before .before .before .before .before .before .before .before .before .before .pre .2, small .paths) }
 
 loop-less : tie.Need-loop-less Inv-loop μ-loop
 loop-less c = search needs
 
 loop-again : tie.Need-loop-again Inv-loop μ-loop
 loop-again c =
-    let a = c .before .before .before .before .before .before .before .before .args in
+    let a = c .before .before .before .before .before .before .before .before .before .before .args in
     let s = tables (a .paths .now) (a .paints .now) (a .backdrops .now) (a .stored .now) (a .tally .now) in
-    let l = c .before .before .before .loop in
+    let l = c .before .before .before .before .loop in
     let put = c .before .on-path .result in
-    let n = pathCount (s .paths) in
     let x = a .t % a .cols in
-    let y = a .t / a .cols in (
-      omega (arith, c .before .before .loop-test .taken),
-      l .inv .1,
-      rw (c .weigh-put .ensures) (put-light (a .room) (l .p) put (l .w) (l .inv .2)),
-      weigh-turn s x y n (l .p) (a .room) (putList put) (l .w) (c .weigh-put .result) (c .before .before .loop-test .taken) (c .before .on-path .ensures) (c .weigh-put .ensures) ∙ l .inv .3,
+    let y = a .t / a .cols in
+    let rest = drop (l .j + 1) (take (a .n) (a .near .now)) in
+    let e = list-turn (a .near .now) (a .n) (l .j) (omega (arith, c .before .before .before .before .before .before .before .before .before .before .pre .2, c .before .before .before .before .before .before .before .before .before .before .pre .3)) (c .before .before .before .loop-test .taken) in (
+      omega (arith, c .before .before .before .loop-test .taken),
+      rw (c .weigh-put .ensures) (put-light (a .room) (l .j) put (l .w) (l .inv .1)),
+      weigh-next s x y (getD (a .near .now) (l .j) 0) rest (drop (l .j) (take (a .n) (a .near .now))) (a .room) (putList put) (l .w) (c .weigh-put .result) e (c .before .on-path .ensures) (c .weigh-put .ensures) ∙ l .inv .2,
     )
 
 returns : tie.Need-returns Inv-loop μ-loop
-unfolding tilePairs
 returns c =
-    let a = c .before .before .before .before .before .before .args in
+    let a = c .before .before .before .before .before .before .before .args in
     let s = tables (a .paths .now) (a .paints .now) (a .backdrops .now) (a .stored .now) (a .tally .now) in
     let l = c .before .loop in
-    let n = pathCount (s .paths) in
     let x = a .t % a .cols in
     let y = a .t / a .cols in
-    sym (ap (λ (ps : List Pair). weighAll (a .room) ps (l .w)) (pairs-end s x y n (l .p) (c .loop-test .left))) ∙ l .inv .3
+    let none = list-end (a .near .now) (a .n) (l .j) (omega (arith, c .before .before .before .before .before .before .before .pre .2, c .before .before .before .before .before .before .before .pre .3)) (c .loop-test .left) (l .inv .0) in
+    sym (ap (λ (ps : List ℕ). weighAll (a .room) (pairsOf s x y ps) (l .w)) none) ∙ l .inv .2 ∙ ap (λ (ps : List Pair). weighAll (a .room) ps noWeight) (c .before .before .before .before .before .before .before .pre .4 .all)
 
 pub weigh-spec : {M : Type 1} → statement M
 weigh-spec =
@@ -107,14 +91,15 @@ weigh-spec =
     (tie.spec
     Inv-loop
     μ-loop
-    cast-n
     rem-x
     div-y
-    sub-t15
+    sub-t16
     loop-holds
+    mul-on-path
+    shared-slice-read-on-path
     on-path-requires
     weigh-put-requires
-    add-p
+    add-j
     loop-less
     loop-again
     returns)

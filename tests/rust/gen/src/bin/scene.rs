@@ -8,6 +8,8 @@
 //! once more by the whole of fine.rs, from a list of that tile's own, and must be the same.
 
 use cases::commands::{Command, Lists};
+use rules::limits::SEGMENT;
+use rules::records::{box_at, first_at, paths_in};
 use std::path::PathBuf;
 use std::{env, fs};
 
@@ -33,8 +35,9 @@ struct Frame {
 fn frame() -> Frame {
     let panel::pen::Pen { lines, path_nos, coords, .. } = panel::drawing::panel();
     assert!(lines < panel::pen::LINES);
-    let last = &PATHS[PATHS.len() - 5..];
-    let tiles = (last[4] + (last[2] - last[0]) * (last[3] - last[1])) as usize;
+    let last = paths_in(&PATHS) - 1;
+    let [x0, y0, x1, y1] = box_at(&PATHS, last);
+    let tiles = (first_at(&PATHS, last) + (x1 - x0) * (y1 - y0)) as usize;
     let (mut backdrops, mut tally, mut refs) = (vec![0i32; tiles], vec![0u32; tiles], vec![0u32; 1 << 20]);
     let made = oracle::count(&path_nos, &coords, &PATHS, &mut backdrops, &mut tally, &mut refs, 0, lines, 0).unwrap();
     oracle::backdrop(&PATHS, &mut backdrops).unwrap();
@@ -47,15 +50,15 @@ fn frame() -> Frame {
         next += n;
     }
     assert_eq!(next, made);
-    let mut segments = vec![0f32; 5 * made as usize];
+    let mut segments = vec![0f32; SEGMENT * made as usize];
     oracle::tile(&path_nos, &coords, &PATHS, &stored, &refs, 0, made as usize, &mut segments).unwrap();
-    eprintln!("{lines} lines, {} paths, {tiles} tiles, {made} references", PATHS.len() / 5);
+    eprintln!("{lines} lines, {} paths, {tiles} tiles, {made} references", paths_in(&PATHS));
     Frame { backdrops, tally, firsts, segments }
 }
 
 /// What path p covers of the screen tile (x, y), as a command for the list, or nothing.
 fn cover(f: &Frame, p: usize, x: u32, y: u32) -> Option<Command> {
-    let [x0, y0, x1, y1, first] = PATHS[5 * p..5 * p + 5] else { unreachable!() };
+    let ([x0, y0, x1, y1], first) = (box_at(&PATHS, p), first_at(&PATHS, p));
     if x < x0 || x >= x1 || y < y0 || y >= y1 {
         return None;
     }
@@ -86,7 +89,7 @@ fn byte(v: f32) -> u8 {
 /// The 256 pixels of the screen tile (x, y), red, green, blue, alpha: its paths painted in order.
 fn painted(f: &Frame, x: u32, y: u32) -> Vec<[u8; 4]> {
     let mut rgba = vec![[0f32; 4]; 256];
-    for p in 0..PATHS.len() / 5 {
+    for p in 0..paths_in(&PATHS) {
         let Some(command) = cover(f, p, x, y) else { continue };
         let colour = PAINTS[2 * p].to_be_bytes().map(|b| b as f32 * (1.0 / 255.0));
         for (pixel, area) in rgba.iter_mut().zip(area_of(f, command)) {
@@ -103,7 +106,7 @@ fn painted(f: &Frame, x: u32, y: u32) -> Vec<[u8; 4]> {
 fn by_fine(f: &Frame, x: u32, y: u32) -> Vec<[u8; 4]> {
     let mut lists = Lists::new(8 * PATHS.len(), 0);
     let mut at = 1;
-    for p in 0..PATHS.len() / 5 {
+    for p in 0..paths_in(&PATHS) {
         let Some(command) = cover(f, p, x, y) else { continue };
         for command in [command, Command::Color(PAINTS[2 * p])] {
             at = lists.put(at, command, 0);

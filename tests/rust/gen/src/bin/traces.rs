@@ -2,6 +2,7 @@
 //! writes it to standard output, and crates/traces/stdout holds it; with the word `check` it ends with status 1 where that file
 //! differs. Hand-out isn't in the Rust: it is the rules'.
 
+use rules::records::path;
 use std::fmt::Write;
 
 fn words<T: std::fmt::Display>(words: &[T]) -> String {
@@ -13,7 +14,7 @@ fn bits(segment: &[f32]) -> String {
 }
 
 fn trace(out: &mut String, name: &str, coords: [f32; 4], x0: u32) -> std::fmt::Result {
-    let (path_nos, paths) = ([0], [x0, 0, x0 + 2, 2, 0]);
+    let (path_nos, paths) = ([0], path([x0, 0, x0 + 2, 2], 0));
     let (mut backdrops, mut counts, mut refs) = ([0i32; 4], [0u32; 4], [0u32; 8]);
     let made = oracle::count(&path_nos, &coords, &paths, &mut backdrops, &mut counts, &mut refs, 0, 1, 0).unwrap();
     writeln!(out, "{name}: count 0, references {made}")?;

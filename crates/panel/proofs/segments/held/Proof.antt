@@ -1,0 +1,11 @@
+-- `panel::segments::held` meets its contract. Assumes nothing.
+use Rattle.panel.specs.Segments.{heldOf}
+use Rattle.panel.proofs.segments.held.Statement.{statement}
+use Rattle.panel.proofs.segments.held.Tie as tie
+
+returns : tie.Need-returns
+unfolding heldOf
+returns c = cc
+
+pub held-spec : {M : Type 1} → statement M
+held-spec = tie.close (tie.spec returns)

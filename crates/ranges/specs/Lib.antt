@@ -1,0 +1,2 @@
+-- Ranges of lists. Definitions only.
+pub mod Ranges

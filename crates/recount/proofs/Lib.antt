@@ -1,0 +1,5 @@
+-- Laws of a recount. Assumes nothing.
+--     OwnLaws    a new line, where it is of the path counted again and where it isn't
+--     CallLaws   the call, by what its checks find and what its lines come to
+pub mod OwnLaws
+pub mod CallLaws

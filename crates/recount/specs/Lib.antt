@@ -1,0 +1,2 @@
+-- The words of a recount. Definitions only.
+pub mod Recount

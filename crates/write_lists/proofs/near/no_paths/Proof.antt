@@ -1,0 +1,12 @@
+-- `write_lists::near::no_paths` meets its contract. Assumes nothing.
+use mathlib.Core.Path.{refl}
+use Rattle.write_lists.specs.Near.{noPaths}
+use Rattle.write_lists.proofs.near.no_paths.Statement.{statement}
+use Rattle.write_lists.proofs.near.no_paths.Tie as tie
+
+returns : tie.Need-returns
+unfolding noPaths
+returns c = refl
+
+pub no-paths-spec : {M : Type 1} → statement M
+no-paths-spec = tie.close (tie.spec returns)
