@@ -404,6 +404,43 @@ fn roomy(input: Input) -> Input {
     Input { b: [(x0 - 1).max(0), (y0 - 1).max(0), x1 + 1, y1 + 1], ..input }
 }
 
+/// A line at 16 or more, its ends anywhere or a few ulps from tiles' corners, in the box that reaches one tile further than their
+/// tiles on every side: there no step is outside (docs/THEOREMS.md, 16).
+fn margined(rng: &mut Rng) -> Input {
+    let most = rng.pick(&[3, 24, 300, EDGE_MOST - 2]);
+    let place = |rng: &mut Rng| {
+        let v = if rng.coin() { 16.0 * rng.range(1, most) as f32 } else { rng.between(16.0, 16.0 * most as f32) };
+        near(rng, v, 3).max(16.0)
+    };
+    let (x, y) = (place(rng), place(rng));
+    let line = match rng.below(3) {
+        0 => [x, y, near(rng, x, 3).max(16.0), place(rng)],
+        1 => [x, y, place(rng), near(rng, y, 3).max(16.0)],
+        _ => [x, y, place(rng), place(rng)],
+    };
+    let tile = |v: f32| (v / 16.0) as i64;
+    let least = |k: usize| tile(line[k].min(line[k + 2])) - 1;
+    let last = |k: usize| tile(line[k].max(line[k + 2])) + 2;
+    Input { b: [least(0), least(1), last(0), last(1)], line }
+}
+
+/// How many of n such lines are walked; none of their steps may be outside.
+fn margins(n: u64, seed: u64) -> u64 {
+    let mut rng = Rng::of_case(seed, 79);
+    let mut walked = 0;
+    for _ in 0..n {
+        let input = margined(&mut rng);
+        let (w, place) = (Walk::of(&input.line), input.place());
+        if w.skipped(&place) {
+            continue;
+        }
+        walked += 1;
+        let clip = w.clip(&place);
+        assert!((clip.from..clip.to).all(|i| w.step(i, &place).is_some()), "10 in a box with a margin: {}", input.show());
+    }
+    walked
+}
+
 /// A side of a closed outline of a few corners, drawn around its own box as a flattened path is: half as wide and as high.
 fn outline(rng: &mut Rng, halves: &[(f32, f32)]) -> Input {
     let (wide, high) = rng.pick(halves);
@@ -437,6 +474,9 @@ fn known() {
         ("step numbers at the top of u32", [3, 1, 4, 2], [12.0, 16.0, 108.0, f32::from_bits(0x417f_fffe)]),
         ("0/0 in the second clip", [0, 0, 20, 11], bits([0x417f_ffff, 0x42c0_0000, 0x431f_ffff, 0x42bf_ffff])),
         ("minus 8 denormal ulps", [0, 0, 2, 2], [f32::from_bits(0x8000_0008), 1.0, 5.0, 9.0]),
+        ("a margin, 0/0 in the second clip", [0, 6, 12, 10], bits([0x41ff_ffff, 0x4300_0000, 0x4320_0001, 0x42ff_ffff])),
+        ("a margin, one column too far", [6, 0, 17, 4], bits([0x437f_6000, 0x4200_0001, 0x42fd_b56c, 0x41ff_ffee])),
+        ("no margin below", [0, 0, 8, 2], bits([0x41ff_ffff, 0x41ff_fffe, 0x42c0_0001, 0x4200_0000])),
         ("a step in the box, not in the walk", [1, 18, 24, 22], bits([0x43f7_c804, 0x43af_fffe, 0x4350_1c18, 0x43b0_0003])),
     ] {
         let input = Input { b, line };
@@ -504,6 +544,7 @@ pub fn run(n: u64, seed: u64, threads: u64) -> bool {
     println!("  12 of a counted reference: an end over 16: {}", spaced(all.above_16));
     let show = |r: Range| format!("{:?} to {:?}", r.0 as f32, r.1 as f32);
     println!("  a {}, b {}, z {}, step numbers {}", show(all.a), show(all.b), show(all.z), show(all.step));
+    println!("  lines at 16 and more in boxes with a margin, none refused with 10: {}", spaced(margins(n / 2, seed)));
     println!("Shares refused with 10");
     let m = (n / 20).max(20_000);
     // as many tiles are walked over in a wide box as in a narrow one
