@@ -1,7 +1,7 @@
 //! One path's lines counted again, where one gauge has moved.
 use crate::raw;
 use crate::refusal::{answered, Refused, UNTOLD};
-use std::fmt;
+use core::fmt;
 
 /// A recount that stopped: why, and the references made before.
 #[derive(Clone, Copy, Debug, PartialEq, Eq, Hash)]
@@ -18,7 +18,7 @@ impl fmt::Display for RecountStopped {
     }
 }
 
-impl std::error::Error for RecountStopped {}
+impl core::error::Error for RecountStopped {}
 
 /// Counts a path's lines again: its tiles are zeroed and the lines lent counted into them; no tile of
 /// another path changes. It works on counts and backdrops as [`count`](crate::count) leaves them, before
