@@ -122,7 +122,7 @@ fn recount(rng: &mut Rng, kind: u32) -> Call {
     };
     let often = rules::limits::COUNT_MOST as usize + rng.range(0, 2) as usize;
     let (line_no, coords, paths, tiles) = match rng.below(12) {
-        0 => (0, down, paths, 0),
+        0 | 6 | 7 => (0, down, paths, 0),
         1 | 2 => (0, down.repeat(often), boxed(1), 1),
         3..=5 => (rules::limits::LINES_MOST as u32 - rng.below(2) as u32, down, boxed(1), 1),
         _ => (0, bits(wide), boxed(6), 6),
