@@ -63,6 +63,7 @@ uint32_t gp_version(void);
 #define GP_BAD_SIZE 17u   /* a picture's width or height outside 1 to 16,384 */
 #define GP_BAD_FILE 18u   /* no P6 file: another header, or bytes missing or left over */
 #define GP_OFF_TILE 19u   /* a pixel's column or row over 15 */
+#define GP_BAD_SEGMENT 20u /* a fill's segment with an end outside 0..16, or a y_edge not finite */
 #define GP_BAD_TEXT 21u   /* a text that is no path data of SVG */
 #define GP_TOO_DEEP 22u   /* a curve halved more than 6 times */
 
@@ -231,7 +232,8 @@ uint32_t gp_tile(const uint32_t *path_nos, size_t path_nos_len,
 /* The coverage of the 256 pixels of one tile: number segments from first on, over the backdrop.
  * even_odd: 0 for non-zero, else even-odd. x_tile, y_tile: the tile's corner in the segments'
  * coordinates: 0, 0 for segments from gp_tile or gp_frame, which are relative to their tile.
- * area_len must be 256, else 1.
+ * area_len must be 256, else 1; then 13, then 20 where one of those segments has an end outside 0 to 16 or a
+ * y_edge not finite. Where it refuses, the area stays.
  * 1: segments whole; then area_len. */
 uint32_t gp_fill(const float *segments, size_t segments_len,
                  uint32_t first, uint32_t number, uint32_t even_odd, int32_t backdrop,
@@ -239,14 +241,14 @@ uint32_t gp_fill(const float *segments, size_t segments_len,
 
 /* One pixel of a tile, 0 to 15 in column and row, without the other 255: what gp_fill leaves there for
  * the same segments, rule, backdrop and corner, in *area. 19 for a column or row over 15, then as
- * gp_fill 1 and 13. Where it refuses, *area stays.
+ * gp_fill 1, 13 and 20. Where it refuses, *area stays.
  * 1: segments whole. */
 uint32_t gp_pixel_area(const float *segments, size_t segments_len,
                        uint32_t first, uint32_t number, uint32_t even_odd, int32_t backdrop,
                        float x_tile, float y_tile, uint32_t column, uint32_t row, float *area);
 
 /* The same under a list of commands: the pixel that gp_fine leaves there for a screen with that tile,
- * in *pixel. 19, then 1, then as the tile has them 13, 14 and 15. Where it refuses, *pixel stays.
+ * in *pixel. 19, then 1, then as the tile has them 13, 14, 15 and 20. Where it refuses, *pixel stays.
  * 1: segments whole. */
 uint32_t gp_pixel(const uint32_t *words, size_t words_len,
                   const float *segments, size_t segments_len,
@@ -330,6 +332,7 @@ static inline const char *gp_refusal_text(uint32_t refusal) {
     case GP_BAD_SIZE: return "a picture's width or height outside 1 to 16,384";
     case GP_BAD_FILE: return "no P6 file: another header, or bytes missing or left over";
     case GP_OFF_TILE: return "a pixel's column or row over 15";
+    case GP_BAD_SEGMENT: return "a fill's segment with an end outside 0..16, or a y_edge not finite";
     case GP_BAD_TEXT: return "a text that is no path data of SVG";
     case GP_TOO_DEEP: return "a curve halved more than 6 times";
     default: return "no refusal of this version";

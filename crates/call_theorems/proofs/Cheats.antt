@@ -25,6 +25,7 @@ use Rattle.path_tiling.specs.Look.{lent}
 use Rattle.path_tiling.specs.Tiling.{TileMet}
 use Rattle.coverage.specs.Tile.{tileWidth, tileSize}
 use Rattle.coverage.specs.Coverage.{coverageOf}
+use Rattle.coverage.specs.Ground.{straightFrom}
 use Rattle.coverage.specs.Fill.{fillOf, FillMet}
 use Rattle.commands.specs.Numbers.{encode, endNo}
 use Rattle.commands.specs.declared.steps.Act.the-variants.{Solid, Color}
@@ -152,7 +153,7 @@ once-fill : (area : List Float) → Once Answer (List Float) (FillAt area)
 once-fill area a b m n p q = one-fill [] 0 0 false (pos 1) Number.zero Number.zero area a b m n p q
 
 pub fill-shut : Shut Answer (List Float) Refuses (FillAt (replicate tileSize nan)) (FillAt []) (replicate tileSize nan)
-unfolding computing fillOf coverageOf tabFrom
+unfolding computing straightFrom fillOf coverageOf tabFrom
 fill-shut =
     shut Answer (List Float) Refuses (FillAt (replicate tileSize nan)) (FillAt []) (replicate tileSize nan)
     Done (Refused notWhole 0) (replicate tileSize Number.one) [] (once-fill (replicate tileSize nan)) (once-fill [])

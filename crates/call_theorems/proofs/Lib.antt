@@ -1,6 +1,7 @@
 -- Proofs of the theorems on whole calls; docs/THEOREMS.md says which is which.
 --     OneAnswer    one answer only: of the picture's two calls, and of the exported ones
 --     Cheats       no cheat meets a promise: one law, and an instance for each call
+--     Drawn        from counting to the screen: no tile is refused, and the pixels are those of painting
 --     ExactCount, ExactStages, ExactTile, ExactLists, ExactFrame, ExactPpm   exact at the call: a promise is met where one of the call's ways holds, and nowhere else
 pub mod OneAnswer
 pub mod Cheats
@@ -10,3 +11,4 @@ pub mod ExactTile
 pub mod ExactLists
 pub mod ExactFrame
 pub mod ExactPpm
+pub mod Drawn

@@ -1,3 +1,4 @@
 pub mod Acts
 pub mod Traced
+pub mod AlikeLaws
 pub mod Encoded

@@ -8,7 +8,6 @@ use lib.Dec.{ltb}
 use lib.ListN.{length, getD, getD-replicate}
 use lib.Ieee.{Float, nan}
 use borrow.Author.Tests.{eq-eqb, ne-eqb, ltb-true}
-use Rattle.util.specs.Constants as Number
 use Rattle.lists.specs.Grid.{mapi}
 use Rattle.lists.specs.GridLaws.{mapi-mapi, getD-mapi}
 use Rattle.panel.specs.Refusals.{pastEnd, tooLong}
@@ -21,7 +20,8 @@ use Rattle.reader.specs.declared.Look.{Look}
 use Rattle.reader.specs.declared.Look.the-variants.{Word, Past}
 use Rattle.commands.specs.Numbers.{endNo}
 use Rattle.commands.specs.Moves.{opOf, moveOf, Trace, ends, does, onLook, onMove, traceOf, endOf}
-use Rattle.commands.specs.Pixel.{cover, paint, point, pointOf, coverAll, paintAll, noArea, Ran, ran, runOf}
+use Rattle.commands.specs.Pixel.{cover, paint, point, pointOf, coverAll, paintAll, Ran, ran}
+use Rattle.commands.specs.Alike.{sameArea, runFrom}
 use Rattle.commands.specs.declared.steps.Op.{Op}
 use Rattle.commands.specs.declared.steps.Act.{Act}
 use Rattle.commands.specs.declared.steps.Move.{Move}
@@ -93,11 +93,9 @@ module _ (segs : List Float) where
       (λ k c lt. ap (λ (x : Float). pointOf segs k t (point x (paint a (getD area k nan) c)) .colour) (sym (getD-mapi (cover a segs) area k nan nan (rw h lt))))
       ∙ sym (mapi-mapi (λ k c. pointOf segs k t (point (getD (mapi (cover a segs) area) k nan) c) .colour) (λ k c. paint a (getD area k nan) c) rgba))
 
-  pub left-starts : (ws : List ℕ) (start : ℕ) (rgba : List (List Float)) → length rgba ≡ tileSize
-      → left segs (traceOf mostCommands ws segs start) noArea rgba ≡ runOf ws segs start rgba
-  unfolding runOf noArea
-  left-starts ws start rgba h =
-      let t = traceOf mostCommands ws segs start in
+  pub left-starts : (t : Trace) (a : Float) (rgba : List (List Float)) → length rgba ≡ tileSize → left segs t (sameArea a) rgba ≡ runFrom segs t a rgba
+  unfolding runFrom sameArea
+  left-starts t a rgba h =
       ap (ran (endOf t))
-      (mapi-cong [] [] (λ k c. pointOf segs k t (point (getD noArea k nan) c) .colour) (λ k c. pointOf segs k t (point Number.zero c) .colour) rgba
-      (λ k c lt. ap (λ (x : Float). pointOf segs k t (point x c) .colour) (getD-replicate tileSize k Number.zero nan (rw h at lt))))
+      (mapi-cong [] [] (λ k c. pointOf segs k t (point (getD (sameArea a) k nan) c) .colour) (λ k c. pointOf segs k t (point a c) .colour) rgba
+      (λ k c lt. ap (λ (x : Float). pointOf segs k t (point x c) .colour) (getD-replicate tileSize k a nan (rw h at lt))))

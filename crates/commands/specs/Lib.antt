@@ -2,3 +2,4 @@
 pub mod Numbers
 pub mod Moves
 pub mod Pixel
+pub mod Alike

@@ -4,14 +4,13 @@ use mathlib.Core.List.{List}
 use Prim.Native.Nat.{ℕ, _+_, _-_, _*_, _%_, _^_, _≤_}
 use lib.Dec.{eqb, ltb}
 use lib.IntN.{ℤ, pos, negsuc}
-use lib.ListN.{getD, replicate}
+use lib.ListN.{getD}
 use lib.Ieee.{Float, nan}
 use Rattle.util.specs.Constants.{zero, one}
 use Rattle.lists.specs.Grid.{mapi}
 use Rattle.panel.specs.Limits.{mostCommands}
 use Rattle.panel.specs.Widths.{segmentFloats}
 use Rattle.panel.specs.declared.kinds.Verdict.{Verdict}
-use Rattle.coverage.specs.Tile.{tileSize}
 use Rattle.coverage.specs.Coverage.{pixelOf}
 use Rattle.colours.specs.Colour.{colourOf, overOf}
 use Rattle.commands.specs.Moves.{countOf, Trace, ends, does, traceOf, endOf}
@@ -68,10 +67,6 @@ Within (Fill rule first backdrop) n = segmentFloats * (first + countOf rule) ≤
 Within Solid n = Unit {0}
 Within (Color word) n = Unit {0}
 Within Jump n = Unit {0}
-
--- the areas that a tile starts with. Shut, so that a goal does not write out all of them
-unfoldable pub noArea : List Float
-noArea = replicate tileSize zero
 
 -- after a tile's commands: how they ended, and the colours
 pub record Ran : Type 0 where

@@ -6,6 +6,7 @@ use crate::steps::move_at;
 use crate::steps::op_of;
 use colours::colour;
 use colours::composite;
+use colours::over;
 use coverage::area::fill_path;
 use coverage::area::set_all;
 use coverage::tile::TILE_SIZE;
@@ -16,9 +17,14 @@ use panel::refusals::TOO_LONG;
 use reader::Look;
 use reader::peek_from;
 ghost use mathlib.Core.Path.{_≡_};
+ghost use Prim.Native.Nat.{_-_, _≤_};
 ghost use lib.ListN.{length};
+ghost use Rattle.util.specs.Constants.{zero};
+ghost use Rattle.panel.specs.Limits.{mostCommands};
 ghost use Rattle.coverage.specs.Tile.{tileSize};
-ghost use Rattle.commands.specs.Pixel.{signedOf, Within, coverAll, paintAll, noArea, ran, runOf};
+ghost use Rattle.commands.specs.Moves.{traceOf};
+ghost use Rattle.commands.specs.Pixel.{signedOf, Within, paint, coverAll, paintAll, ran};
+ghost use Rattle.commands.specs.Alike.{alike, coverOne, sameArea, sameColour, runFrom, endsHere};
 
 // A word's 32 bits as a signed number.
 pub fn signed(w: u32) -> i32
@@ -31,11 +37,11 @@ pub fn signed(w: u32) -> i32
     }
 }
 
-// The areas that a tile starts with.
-pub fn no_area() -> [f32; TILE_SIZE]
-    ensures { λ r. ⌜ r ≡ noArea ⌝ }
+// Areas that are all the same.
+pub fn same_area(a: f32) -> [f32; TILE_SIZE]
+    ensures { λ r. ⌜ r ≡ sameArea a ⌝ }
 {
-    [0.0; TILE_SIZE]
+    [a; TILE_SIZE]
 }
 
 // What one command does to the areas and the colours. fine.rs passes the tile's origin on the screen
@@ -57,20 +63,111 @@ pub fn carry_out(act: Act, segments: &[f32], area: &mut [f32], rgba: &mut [[f32;
     }
 }
 
-// The commands from the word `start` on, up to END or the first that is refused. END passes where as
-// many as may be have been carried out; any other is refused with 15 there.
+// Where the first commands lead: the place of the next, how many came before it, and the area that all
+// pixels have there.
+pub struct Opening {
+    pub at: usize,
+    pub count: u32,
+    pub area: f32,
+}
+
+// Whether a command leaves pixels alike that were: a FILL doesn't.
+pub fn alike(act: Act) -> bool
+    ensures { λ r. ⌜ r ≡ alike act ⌝ }
+{
+    match act {
+        Act::Fill(_, _, _) => false,
+        Act::Solid => true,
+        Act::Color(_) => true,
+        Act::Jump => true,
+    }
+}
+
+// Their area after such a command.
+pub fn cover_one(act: Act, a: f32) -> f32
+    ensures { λ r. ⌜ r ≡ coverOne act a ⌝ }
+{
+    match act {
+        Act::Fill(_, _, _) => a,
+        Act::Solid => 1.0,
+        Act::Color(_) => a,
+        Act::Jump => a,
+    }
+}
+
+// Their colour.
+pub fn paint_one(act: Act, a: f32, px: &mut [f32; 4])
+    ensures { λ _. ⌜ now (px .exit) ≡ paint act a (now (px .entry)) ⌝ }
+{
+    match act {
+        Act::Fill(_, _, _) => {}
+        Act::Solid => {}
+        Act::Color(word) => {
+            let one = *px;
+            *px = over(one, colour(word), a);
+        }
+        Act::Jump => {}
+    }
+}
+
+// The commands from the word `start` on, up to END, a FILL or the first that is refused, on one pixel:
+// until then all are alike.
+pub fn begin(words: &[u32], segments: &[f32], start: usize, px: &mut [f32; 4]) -> Opening
+    ensures { λ r. ⌜ (r .count ≤ mostCommands)
+        × (runFrom (now (segments .entry)) (traceOf mostCommands (now (words .entry)) (now (segments .entry)) start) zero (sameColour (now (px .entry)))
+        ≡ runFrom (now (segments .entry)) (traceOf (mostCommands - r .count) (now (words .entry)) (now (segments .entry)) (r .at)) (r .area) (sameColour (now (px .exit)))) ⌝ }
+{
+    let mut area = 0.0f32;
+    let mut at = start;
+    let mut count = 0u32;
+    while count < MOST_COMMANDS {
+        let Look::Word(tag) = peek_from(words, at) else {
+            return Opening { at, count, area };
+        };
+        if tag == END {
+            return Opening { at, count, area };
+        }
+        let Move::Goes(act, next) = move_at(words, segments, at, op_of(tag)) else {
+            return Opening { at, count, area };
+        };
+        if !alike(act) {
+            return Opening { at, count, area };
+        }
+        paint_one(act, area, px);
+        area = cover_one(act, area);
+        at = next;
+        count += 1;
+    }
+    Opening { at, count, area }
+}
+
+// Whether END stands at a place.
+pub fn ends_at(words: &[u32], at: usize) -> bool
+    ensures { λ r. ⌜ r ≡ endsHere (now (words .entry)) at ⌝ }
+{
+    match peek_from(words, at) {
+        Look::Word(tag) => tag == END,
+        Look::Past => false,
+    }
+}
+
+// The commands from the word `start` on, after `gone` others, where all pixels have the area a: up to
+// END or the first that is refused. END passes where as many as may be have been carried out; any other
+// is refused with 15 there.
 pub fn run(
     words: &[u32],
     segments: &[f32],
     start: usize,
+    gone: u32,
+    a: f32,
     rgba: &mut [[f32; 4]; TILE_SIZE],
 ) -> Verdict
-    requires { ⌜ length (now rgba) ≡ tileSize ⌝ }
-    ensures { λ r. ⌜ ran r (now (rgba .exit)) ≡ runOf (now (words .entry)) (now (segments .entry)) start (now (rgba .entry)) ⌝ }
+    requires { ⌜ (length (now rgba) ≡ tileSize) × (gone ≤ mostCommands) ⌝ }
+    ensures { λ r. ⌜ ran r (now (rgba .exit)) ≡ runFrom (now (segments .entry)) (traceOf (mostCommands - gone) (now (words .entry)) (now (segments .entry)) start) a (now (rgba .entry)) ⌝ }
 {
-    let mut area = no_area();
+    let mut area = same_area(a);
     let mut at = start;
-    let mut count = 0u32;
+    let mut count = gone;
     loop {
         let Look::Word(tag) = peek_from(words, at) else {
             return Verdict::Against(PAST_END);

@@ -1,6 +1,7 @@
 pub mod Past
 pub mod Laws
 pub mod Grounds
+pub mod Crooked
 pub mod Page
 pub mod Even
 pub mod Bounds

@@ -1,10 +1,12 @@
 -- The error of `round`: half a unit of the last place at most, so a part in 2 ^ 24 at most of a result that isn't subnormal. Assumes nothing.
 --     closest-half     the whole number closest to a / D is half of 1 away at most
+--     grid-error       what is rounded, subnormal or not, is off by that and a unit at most
 --     grid-high, grid-low   what is rounded, in units of the smallest value, lies within 2 ^ -24 of the fraction
 use mathlib.Core.Path.{_≡_, refl, sym, ap, _∙_, subst}
 use mathlib.Core.Bool.{not}
+use mathlib.Core.Logic.{_⊎_, inl, inr}
 use Prim.Native.Nat.{ℕ, suc, _+_, _-_, _*_, _/_, _%_, _^_, _≤_, _<_, compare, Ordering, Ordering·lt, Ordering·eq, Ordering·gt}
-use native.Mathlib.Nat.{le-trans, le-of-eq, mul-assoc, mul-comm, mul-pos, add-mul, one-mul, mul-le-mul-right, mod-lt, div-add-mod', le-div-iff-mul-le, mul-right-comm}
+use native.Mathlib.Nat.{le-trans, le-of-eq, mul-assoc, mul-comm, mul-pos, add-mul, one-mul, mul-le-mul-right, mul-one, mod-lt, div-add-mod', le-div-iff-mul-le, mul-right-comm}
 use native.Mathlib.Omega.{arith}
 use lib.Arith.{lt-of-le-ne}
 use lib.Pow.{pow-add, pow-pos}
@@ -14,6 +16,7 @@ use lib.Ieee.Digits.{size-reaches}
 use lib.Ieee.Nearest.{closest}
 use lib.Ieee.Order.{drop, kept}
 use lib.Ieee.Scale.{grid, normal-of-fraction}
+use Rattle.float32.proofs.Tests.{below-or-not}
 
 -- ---- what `compare` says
 abbrev Cmp : Ordering → ℕ → ℕ → Type 0
@@ -86,3 +89,30 @@ grid-high a c C h = kept-high (a * 2 ^ 149) c C (normal-of-fraction binary32 a c
 
 pub grid-low : (a c : ℕ) → 0 < c → 2 ^ 23 * c ≤ a * 2 ^ 149 → a * 2 ^ 149 * 16777215 ≤ grid binary32 a c * c * 16777216
 grid-low a c C h = kept-low (a * 2 ^ 149) c C (normal-of-fraction binary32 a c C h)
+
+-- of any fraction, one that is subnormal too
+subnormal : (g n c : ℕ) → g * c * 2 ≤ n * 2 + c → n * 2 ≤ g * c * 2 + c → (g * c * 16777216 ≤ n * 16777217 + c * 16777216) × (n * 16777216 ≤ g * c * 16777218 + c * 16777216)
+subnormal g n c h l = (omega arith, omega arith)
+
+looser : (x n c : ℕ) → x * 16777216 ≤ n * 16777217 → n * 16777215 ≤ x * 16777216 → (x * 16777216 ≤ n * 16777217 + c * 16777216) × (n * 16777216 ≤ x * 16777218 + c * 16777216)
+looser x n c h l = (omega arith, omega arith)
+
+kept-error : (n c : ℕ) → 0 < c
+    → (kept 24 n c * 2 ^ drop 24 n c * c * 16777216 ≤ n * 16777217 + c * 16777216) × (n * 16777216 ≤ kept 24 n c * 2 ^ drop 24 n c * c * 16777218 + c * 16777216)
+kept-error n c C = go (below-or-not (size (n / c)) 24)
+  where
+    few : (z : ℕ) → z < 24 → z - 24 ≡ 0
+    few z h = omega arith
+
+    go : (size (n / c) < 24) ⊎ (24 ≤ size (n / c))
+        → (kept 24 n c * 2 ^ drop 24 n c * c * 16777216 ≤ n * 16777217 + c * 16777216) × (n * 16777216 ≤ kept 24 n c * 2 ^ drop 24 n c * c * 16777218 + c * 16777216)
+    go (inr h) = looser (kept 24 n c * 2 ^ drop 24 n c * c) n c (kept-high n c C h) (kept-low n c C h)
+    go (inl h) =
+        subst (λ (k : ℕ). (closest n (c * 2 ^ k) * 2 ^ k * c * 16777216 ≤ n * 16777217 + c * 16777216) × (n * 16777216 ≤ closest n (c * 2 ^ k) * 2 ^ k * c * 16777218 + c * 16777216)) (sym (few (size (n / c)) h))
+        (subst (λ (u : ℕ). (closest n u * 1 * c * 16777216 ≤ n * 16777217 + c * 16777216) × (n * 16777216 ≤ closest n u * 1 * c * 16777218 + c * 16777216)) (sym (mul-one c))
+        (subst (λ (g : ℕ). (g * c * 16777216 ≤ n * 16777217 + c * 16777216) × (n * 16777216 ≤ g * c * 16777218 + c * 16777216)) (sym (mul-one (closest n c)))
+        (let e = closest-half n c C in subnormal (closest n c) n c (e .0) (e .1))))
+
+pub grid-error : (a c : ℕ) → 0 < c
+    → (grid binary32 a c * c * 16777216 ≤ a * 2 ^ 149 * 16777217 + c * 16777216) × (a * 2 ^ 149 * 16777216 ≤ grid binary32 a c * c * 16777218 + c * 16777216)
+grid-error a c C = kept-error (a * 2 ^ 149) c C

@@ -41,6 +41,10 @@ packed colour width p old = packOf (colour (placeOf width p))
 abbrev pub fromList : List (List Float) → ℕ → ℕ → ℕ → ℕ
 fromList rgba width p old = packed (λ k. getD rgba k []) width p old
 
+-- one word in each pixel
+abbrev pub oneWord : ℕ → ℕ → ℕ → ℕ
+oneWord word p old = word
+
 -- ---- what its commands make of it
 
 -- no colour, at one pixel and at each

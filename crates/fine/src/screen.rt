@@ -3,6 +3,8 @@
 use colours::pack;
 use commands::numbers::LIST_START;
 use commands::numbers::TILE_WORDS;
+use commands::run::begin;
+use commands::run::ends_at;
 use commands::run::run;
 use coverage::tile::TILE_HEIGHT;
 use coverage::tile::TILE_SIZE;
@@ -16,15 +18,15 @@ ghost use Rattle.lists.specs.Grid.{mapi, within};
 ghost use Rattle.lists.specs.Sums as Numbers;
 ghost use Rattle.panel.specs.Limits.{mostTiles};
 ghost use Rattle.coverage.specs.Tile.{tileWidth, tileHeight};
-ghost use Rattle.fine.specs.Screen.{noColour, rowAt, fromList, putTile, endsAt, tilePixels};
+ghost use Rattle.commands.specs.Alike.{sameColour};
+ghost use Rattle.fine.specs.Screen.{oneWord, rowAt, fromList, putTile, endsAt, tilePixels};
 ghost use Rattle.fine.specs.Fine.{shown, tilesOf, shownOf};
 
-// The colours that a tile starts with: none.
-pub fn no_colour() -> [[f32; 4]; TILE_SIZE]
-    ensures { λ r. ⌜ r ≡ noColour ⌝ }
+// A tile's colours, all the same.
+pub fn same_colour(px: [f32; 4]) -> [[f32; 4]; TILE_SIZE]
+    ensures { λ r. ⌜ r ≡ sameColour px ⌝ }
 {
-    let clear = [0.0f32; 4];
-    [clear; TILE_SIZE]
+    [px; TILE_SIZE]
 }
 
 // Row y of the tile in column tx and row ty of tiles, packed.
@@ -69,7 +71,34 @@ pub fn put_tile(
     }
 }
 
-// Tile t, in column tx and row ty of tiles, `width` pixels to a row of the screen.
+// Row y of the tile, one word in each pixel.
+pub fn fill_row(pixels: &mut [u32], width: usize, tx: usize, ty: usize, y: usize, word: u32)
+    requires { ⌜ (tx < mostTiles) × (ty < mostTiles) × (y < tileHeight) × (tileWidth * tx + tileWidth ≤ width) × (rowAt width tx ty y + tileWidth ≤ length (now pixels)) ⌝ }
+    ensures { λ _. ⌜ now (pixels .exit) ≡ mapi (within (rowAt width tx ty y) (rowAt width tx ty y + tileWidth) (oneWord word)) (now (pixels .entry)) ⌝ }
+{
+    let base = width * (TILE_HEIGHT * ty + y) + TILE_WIDTH * tx;
+    let mut x = 0usize;
+    while x < TILE_WIDTH {
+        let at = base + x;
+        pixels[at] = word;
+        x += 1;
+    }
+}
+
+// All rows of the tile.
+pub fn fill_tile(pixels: &mut [u32], width: usize, tx: usize, ty: usize, word: u32)
+    requires { ⌜ (tx < mostTiles) × (ty < mostTiles) × (tileWidth * tx + tileWidth ≤ width) × (width * (tileHeight * ty + tileHeight) ≤ length (now pixels)) ⌝ }
+    ensures { λ _. ⌜ now (pixels .exit) ≡ putTile (oneWord word) width tx ty (now (pixels .entry)) ⌝ }
+{
+    let mut y = 0usize;
+    while y < TILE_HEIGHT {
+        fill_row(pixels, width, tx, ty, y, word);
+        y += 1;
+    }
+}
+
+// Tile t, in column tx and row ty of tiles, `width` pixels to a row of the screen. Until its first FILL it
+// has one colour: where END comes first, one pixel is packed for all.
 pub fn tile(
     words: &[u32],
     segments: &[f32],
@@ -82,9 +111,15 @@ pub fn tile(
     requires { ⌜ (t < mostTiles) × (tx < mostTiles) × (ty < mostTiles) × (tileWidth * tx + tileWidth ≤ width) × (width * (tileHeight * ty + tileHeight) ≤ length (now pixels)) ⌝ }
     ensures { λ r. ⌜ (r ≡ endsAt (now (words .entry)) (now (segments .entry)) t) × (now (pixels .exit) ≡ tilePixels (now (words .entry)) (now (segments .entry)) t width tx ty (now (pixels .entry))) ⌝ }
 {
-    let mut rgba = no_colour();
+    let mut px = [0.0f32; 4];
     let start = TILE_WORDS * t + LIST_START;
-    let v = run(words, segments, start, &mut rgba);
+    let o = begin(words, segments, start, &mut px);
+    if ends_at(words, o.at) {
+        fill_tile(pixels, width, tx, ty, pack(px));
+        return Verdict::Fine;
+    }
+    let mut rgba = same_colour(px);
+    let v = run(words, segments, o.at, o.count, o.area, &mut rgba);
     match v {
         Verdict::Fine => {
             put_tile(pixels, width, tx, ty, &rgba);

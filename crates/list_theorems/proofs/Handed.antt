@@ -128,3 +128,20 @@ module _ (paths paints : List ℕ) (backdrops : List ℤ) (stored tally : List �
       (ap (λ (x : Answer). thenCheck x (thenCheck (longFrom s cols (screenTiles cols rows)) (unless (firstNo (roomChecks (regionsOf s cols rows) (length ws) (fillsFit s cols room (screenTiles cols rows)))) 0 Done))) a
       ∙ ap (λ (x : Answer). thenCheck x (unless (firstNo (roomChecks (regionsOf s cols rows) (length ws) (fillsFit s cols room (screenTiles cols rows)))) 0 Done)) (short-done s cols (cols * rows) 0 (λ v x y. b v (omega arith)))
       ∙ unless-fine (firstNo (roomChecks (regionsOf s cols rows) (length ws) (fillsFit s cols room (screenTiles cols rows)))) 0 Done f)
+
+-- told no more room than the slots handed out, the writer writes the same
+pub handed-used : (paths paints : List ℕ) (backdrops : List ℤ) (stored tally : List ℕ) (room : ℕ) → Handed room stored tally → (cols rows : ℕ) (ws words : List ℕ)
+    → Wrote (tables paths paints backdrops stored tally) cols rows room ws words → Wrote (tables paths paints backdrops stored tally) cols rows (sum tally) ws words
+unfolding writeListsOf answerOf
+handed-used paths paints backdrops stored tally room h cols rows ws words w =
+    let s = tables paths paints backdrops stored tally in
+    let ts = screenTiles cols rows in
+    let own : Handed (sum tally) stored tally = record { words = h .words; in-room = omega arith; few = h .few } in
+    let same : fillsFit s cols (sum tally) ts ≡ fillsFit s cols room ts =
+    handed-fits paths paints backdrops stored tally (sum tally) own cols ts ∙ sym (handed-fits paths paints backdrops stored tally room h cols ts) in
+    ap
+    (λ (b : Bool).
+    onDone (thenCheck (callAnswer s cols rows) (thenCheck (longFrom s cols ts) (unless (firstNo (roomChecks (regionsOf s cols rows) (length ws) b)) 0 Done))) ws
+    (written (listsOf s cols rows) ws))
+    same
+    ∙ w

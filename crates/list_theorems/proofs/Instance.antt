@@ -1,15 +1,16 @@
 -- The premises can be met: two screen tiles under one even-odd path, from hand-out on. The first tile has a segment, the second none and the
 -- backdrop -1. And a list that jumps: as many paths over one tile as its region has room for, and one. Computed. Assumes nothing.
-use mathlib.Core.Path.{_≡_, refl}
+use mathlib.Core.Path.{_≡_, refl, subst}
 use mathlib.Core.Bool.{true}
 use mathlib.Core.List.{List, [], _∷_, _++_}
-use Prim.Native.Nat.{ℕ, zero, suc, _-_, _*_, _/_}
+use Prim.Native.Nat.{ℕ, zero, suc, _-_, _*_, _/_, _<_}
 use native.Mathlib.Omega.{arith}
 use lib.IntN.{ℤ, pos, negsuc}
 use lib.ListN.{length, replicate}
 use lib.Ieee.{Float}
 use Rattle.panel.specs.Limits.{edgeMost}
 use Rattle.panel.specs.Paths.{boxed, pathAt, pathsFrom, pathsAnswer}
+use Rattle.panel.specs.Segments.{segmentAt, Straight}
 use Rattle.panel.specs.declared.kinds.Answer.the-variants.{Done}
 use Rattle.hand_out.specs.HandOut.{outOf, handOutOf}
 use Rattle.panel.specs.Signed.{inI32}
@@ -47,9 +48,15 @@ two-wrote : Wrote two 2 1 1 (replicate 128 9) two-words
 unfolding two-words edgeMost pathAt pathsFrom pathsAnswer onTile onPath tilePairs callAnswer regionsOf answerOf listsOf writeListsOf
 two-wrote = refl
 
--- whatever the one segment is
-pub an-instance : (a b c d e : Float) → LikePainted two 2 1 two-words (a ∷ b ∷ c ∷ d ∷ e ∷ [])
-an-instance a b c d e = like-painted two 2 1 1 (replicate 128 9) two-words two-wrote (a ∷ b ∷ c ∷ d ∷ e ∷ []) (record { whole = refl; enough = omega arith }) (refl, (refl, tt))
+-- whatever the one segment is, if a fill takes it
+pub an-instance : (a b c d e : Float) → Straight (segmentAt (a ∷ b ∷ c ∷ d ∷ e ∷ []) 0) → LikePainted two 2 1 two-words (a ∷ b ∷ c ∷ d ∷ e ∷ [])
+an-instance a b c d e one =
+    like-painted two 2 1 1 (replicate 128 9) two-words two-wrote (a ∷ b ∷ c ∷ d ∷ e ∷ [])
+    (record { whole = refl; enough = omega arith; straight = λ k h. subst (λ (i : ℕ). Straight (segmentAt (a ∷ b ∷ c ∷ d ∷ e ∷ []) i)) (none k h) one })
+    (refl, (refl, tt))
+  where
+    none : (k : ℕ) → k < 1 → 0 ≡ k
+    none k h = omega arith
 
 -- ---- a list that jumps
 
@@ -88,4 +95,4 @@ unfolding over
 over-fit = all-fit (suc full) (pos 1) refl
 
 pub a-jumping-instance : LikePainted over 1 1 over-words []
-a-jumping-instance = like-painted over 1 1 0 (replicate (2 * tileWords) 9) over-words over-wrote [] (record { whole = refl; enough = omega arith }) over-fit
+a-jumping-instance = like-painted over 1 1 0 (replicate (2 * tileWords) 9) over-words over-wrote [] (record { whole = refl; enough = omega arith; straight = λ k h. absurd (omega arith) }) over-fit

@@ -8,6 +8,8 @@
 --     Written     the theorems
 --     Exact       refusals are exact
 --     Handed      tables as hand-out leaves them
+--     Tiled       and the theorems of these: only the slots handed out count
+--     Crooked     lists over any segments: refused with 20 exactly where a FILL has a crooked one
 --     Instance    the premises can be met
 --     Refuted     statements near the theorems' that are false, refuted by instances
 --     AtLimit     a list of as many commands as may be
@@ -20,6 +22,8 @@ pub mod Screens
 pub mod Written
 pub mod Exact
 pub mod Handed
+pub mod Tiled
+pub mod Crooked
 pub mod Instance
 pub mod Refuted
 pub mod AtLimit

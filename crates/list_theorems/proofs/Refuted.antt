@@ -1,14 +1,14 @@
 -- What the theorems on lists don't say, refuted: statements near theirs that are false, each shown so by an instance. Assumes nothing.
-use mathlib.Core.Path.{_≡_, refl, sym, ap, _∙_}
+use mathlib.Core.Path.{_≡_, refl, sym, ap, subst, _∙_}
 use mathlib.Core.Logic.{_≢_}
 use mathlib.Core.Bool.{cond}
 use mathlib.Core.List.{List, [], _∷_, _++_, reverse}
-use Prim.Native.Nat.{ℕ, suc, _+_, _*_, _%_, _≤_, _<_}
+use Prim.Native.Nat.{ℕ, suc, _+_, _*_, _/_, _%_, _≤_, _<_}
 use native.Mathlib.Omega.{arith}
 use lib.Dec.{ltb}
 use lib.IntN.{ℤ, pos, negsuc}
 use lib.ListN.{length, getD, replicate}
-use lib.Ieee.{Float, nan, add, sub, mul, div, neg, le, lt, eq, ne, ofInt, ofBits, toSigned, toUnsigned, isNan, round}
+use lib.Ieee.{Float, add, sub, mul, div, neg, le, lt, eq, ne, ofInt, ofBits, toSigned, toUnsigned, isNan, round}
 use Rattle.float32.specs.Meaning.{floorOf, ceilOf, roundOf, absOf, minOf, maxOf, clampOf, signed, signOf}
 use Rattle.util.specs.Constants.{zero, one}
 use Rattle.lists.specs.Grid.{mapFrom}
@@ -17,6 +17,8 @@ use Rattle.lists.specs.Sums.{from}
 use Rattle.panel.specs.Limits.{mostCommands, edgeMost}
 use Rattle.panel.specs.Refusals.{tooLong, pastEnd}
 use Rattle.panel.specs.Widths.{segmentFloats}
+use Rattle.util.specs.Vec.{newOf}
+use Rattle.panel.specs.Segments.{InTile, segmentAt, Straight}
 use Rattle.panel.specs.Paths.{boxed, pathAt, pathCount, tileOf, pathsFrom, pathsAnswer}
 use Rattle.panel.specs.Slots.{not32}
 use Rattle.panel.specs.declared.kinds.Answer.the-variants.{Done}
@@ -72,7 +74,7 @@ without-jump = refl
 
 pub jumps-are-there : NoJumps → ⊥
 jumps-are-there f =
-    let e = f over 1 1 0 (replicate (2 * tileWords) 9) over-words [] over-wrote (record { whole = refl; enough = omega arith }) 0 (omega arith) in
+    let e = f over 1 1 0 (replicate (2 * tileWords) 9) over-words [] over-wrote (record { whole = refl; enough = omega arith; straight = λ k h. absurd (omega arith) }) 0 (omega arith) in
     let z : _≡_ {A = ℕ} (2 * suc full + 1) (2 * suc full) = sym with-jump ∙ ap commandsIn e ∙ without-jump in
     omega arith
 
@@ -121,7 +123,7 @@ even-not = refl
 
 pub odd-is-odd : LikeThis notZero → ⊥
 odd-is-odd f =
-    let e = f even 1 1 0 (replicate 64 9) even-words [] even-wrote (record { whole = refl; enough = omega arith }) (refl, tt) tileWidth (replicate tileSize 0)
+    let e = f even 1 1 0 (replicate 64 9) even-words [] even-wrote (record { whole = refl; enough = omega arith; straight = λ k h. absurd (omega arith) }) (refl, tt) tileWidth (replicate tileSize 0)
     (record { wide = omega arith; high = omega arith }) in
     let z : _≡_ {A = ℕ} 0 0xff60_4020 = sym even-shows ∙ ap first-pixel e ∙ even-not in
     omega arith
@@ -147,17 +149,17 @@ pair-not = refl
 
 pub order-counts : LikeThis lastFirst → ⊥
 order-counts f =
-    let e = f pair 1 1 0 (replicate 64 9) pair-words [] pair-wrote (record { whole = refl; enough = omega arith }) (refl, (refl, tt)) tileWidth (replicate tileSize 0)
+    let e = f pair 1 1 0 (replicate 64 9) pair-words [] pair-wrote (record { whole = refl; enough = omega arith; straight = λ k h. absurd (omega arith) }) (refl, (refl, tt)) tileWidth (replicate tileSize 0)
     (record { wide = omega arith; high = omega arith }) in
     let z : _≡_ {A = ℕ} 0xff20_4060 0xff60_4020 = sym pair-shows ∙ ap first-pixel e ∙ pair-not in
     omega arith
 
--- ---- a room told that is held against floats, and not against segments: 13 would come
+-- ---- a room told that is held against floats, and not against segments: 13 would come, though a fill takes all that are lent
 
 abbrev RoomInFloats : Type 0
 RoomInFloats =
     (s : Tables) (cols rows room : ℕ) (ws words : List ℕ) (segs : List Float) → Wrote s cols rows room ws words → length segs % segmentFloats ≡ 0 → room ≤ length segs
-    → (t : ℕ) → t < cols * rows → endsAt words segs t ≡ Fine
+    → ((k : ℕ) → k < length segs / segmentFloats → Straight (segmentAt segs k)) → (t : ℕ) → t < cols * rows → endsAt words segs t ≡ Fine
 
 -- a tile with two slots, and one segment lent
 abbrev filled : Tables
@@ -170,9 +172,18 @@ filled-wrote : Wrote filled 1 1 2 (replicate 64 9) filled-words
 unfolding computing
 filled-wrote = refl
 
-filled-ends : endsAt filled-words (replicate 5 nan) 0 ≡ Against pastEnd
+filled-ends : endsAt filled-words (replicate 5 zero) 0 ≡ Against pastEnd
 unfolding computing
 filled-ends = refl
+
+zero-straight : Straight (segmentAt (replicate 5 zero) 0)
+unfolding segmentAt le ofBits
+zero-straight =
+    let end : InTile (newOf zero zero) = record { left = refl; right = refl; top = refl; bottom = refl } in
+    record { from-end = end; to-end = end; edge = refl }
+
+only : (k : ℕ) → k < length (replicate 5 zero) / segmentFloats → 0 ≡ k
+only k h = omega arith
 
 isFine : Verdict → ℕ
 isFine Fine = 1
@@ -181,7 +192,7 @@ isFine (Against n) = 0
 pub room-in-segments : RoomInFloats → ⊥
 unfolding isFine
 room-in-segments f =
-    let e = f filled 1 1 2 (replicate 64 9) filled-words (replicate 5 nan) filled-wrote refl (omega arith) 0 (omega arith) in
+    let e = f filled 1 1 2 (replicate 64 9) filled-words (replicate 5 zero) filled-wrote refl (omega arith) (λ k h. subst (λ (i : ℕ). Straight (segmentAt (replicate 5 zero) i)) (only k h) zero-straight) 0 (omega arith) in
     let z : _≡_ {A = ℕ} 0 1 = ap isFine (sym filled-ends ∙ e) in
     omega arith
 

@@ -82,7 +82,7 @@ module _ (ws : List ℕ) (segs : List Float) where
       act-goes ws segs at 0 n _ (ap (groundOf segs first) e ∙ h) s
   cover-goes n at (Solid colour) h s = act-goes ws segs at 0 n Act.Solid tt s
 
-  pair-goes : (n at : ℕ) (p : Pair) → Drawn segs p → Stands ws at (pairWords p) → traceOf (suc (suc n)) ws segs at ≡ pairThen p (traceOf n ws segs (at + pairSize p))
+  pub pair-goes : (n at : ℕ) (p : Pair) → Drawn segs p → Stands ws at (pairWords p) → traceOf (suc (suc n)) ws segs at ≡ pairThen p (traceOf n ws segs (at + pairSize p))
   pair-goes n at p h s =
       let vs = encode (coverOf p) in
       let us = encode (Act.Color (colourOf p)) in

@@ -16,7 +16,10 @@ use Rattle.panel.specs.Widths.{segmentFloats}
 use Rattle.panel.specs.declared.kinds.Answer.{Answer}
 use Rattle.panel.specs.declared.kinds.Answer.the-variants.{Done}
 use Rattle.panel.specs.declared.kinds.Verdict.{Verdict}
+use Rattle.panel.specs.Segments.{segmentAt}
 use Rattle.panel.proofs.CheckLaws.{none-fails}
+use Rattle.panel.proofs.HeldLaws.{is-straight}
+use Rattle.coverage.proofs.Crooked.{all-straight}
 use Rattle.panel.proofs.KindLaws.{paper-once}
 use Rattle.coverage.specs.Tile.{tileWidth, tileHeight}
 use Rattle.commands.specs.Numbers.{tileWords, startOf}
@@ -54,7 +57,8 @@ met-wrote s cols rows room ws after p = sym p
 drawn : {room : ℕ} {segs : List Float} → Fills room segs → (p : Pair) → Filled room p → Drawn segs p
 drawn {room = room} {segs = segs} fills (Fill count rule first backdrop colour) f =
     let h = fills .enough in
-    rw (le-leb (first + count) (length segs / segmentFloats) (omega arith))
+    let all = all-straight segs first count (λ j l. is-straight (segmentAt segs (first + j)) (fills .straight (first + j) (omega arith))) in
+    rw (le-leb (first + count) (length segs / segmentFloats) (omega arith), all)
 drawn fills (Solid colour) f = tt
 
 module _ (s : Tables) (cols rows room : ℕ) (ws words : List ℕ) (wrote : Wrote s cols rows room ws words) where
@@ -62,7 +66,7 @@ module _ (s : Tables) (cols rows room : ℕ) (ws words : List ℕ) (wrote : Wrot
   p = passed s cols rows room ws words wrote
 
   -- all chunks stand in the words left
-  stand : All (ChunkStands words) (listsOf s cols rows)
+  pub stand : All (ChunkStands words) (listsOf s cols rows)
   unfolding listsOf regionsOf
   stand =
       let n = cols * rows in

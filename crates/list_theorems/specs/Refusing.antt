@@ -1,11 +1,14 @@
--- When the writer says no, beyond 1 to 4: the grounds of 15 and 9, in the words of docs/RULES.md. Definitions only.
+-- When the writer says no, beyond 1 to 4: the grounds of 15 and 9, in the words of docs/RULES.md; and when a list written is refused: the ground of 20.
+-- Definitions only.
 use mathlib.Core.Path.{_≡_}
 use mathlib.Core.Logic.{_≢_, _↔_, _⊎_}
 use mathlib.Core.List.{List, [], _∷_}
 use Prim.Native.Nat.{ℕ, _+_, _*_, _≤_, _<_}
 use lib.ListN.{length}
+use lib.Ieee.{Float}
 use Rattle.panel.specs.Limits.{mostSlots, mostCommands}
 use Rattle.panel.specs.Refusals.{doneNo, noRoom, tooLong}
+use Rattle.panel.specs.Segments.{segmentAt, Straight}
 use Rattle.commands.specs.Numbers.{tileWords}
 use Rattle.write_lists.specs.Pairs.{Tables, tilePairs}
 use Rattle.write_lists.specs.Layout.{commandsOf}
@@ -37,6 +40,11 @@ abbrev pub NoRoom : Tables → (cols rows room lent : ℕ) → Type 0
 NoRoom s cols rows room lent =
     (lent < tileWords * regionsOf s cols rows)
     ⊎ ((t : ℕ) × (t < cols * rows) × Some (SlotsOut room) (tilePairs s cols t))
+
+-- 20: a FILL of the pair has a crooked segment, an end outside its tile or a y_edge not finite
+abbrev pub CrookedPair : List Float → Pair → Type 0
+CrookedPair segments (Fill count rule first backdrop colour) = (j : ℕ) × (j < count) × (Straight (segmentAt segments (first + j)) → ⊥)
+CrookedPair segments (Solid colour) = ⊥
 
 -- after a call that isn't refused for 1 to 4
 pub record ListsExact (s : Tables) (cols rows room : ℕ) (ws : List ℕ) (o : Left) : Type 0 where

@@ -8,6 +8,7 @@ use lib.ListN.{length}
 use lib.Ieee.{Float}
 use Rattle.lists.specs.Run.{All}
 use Rattle.panel.specs.Widths.{segmentFloats}
+use Rattle.panel.specs.Segments.{segmentAt, Straight}
 use Rattle.panel.specs.declared.kinds.Answer.the-variants.{Done}
 use Rattle.panel.specs.declared.kinds.Verdict.the-variants.{Fine}
 use Rattle.panel.specs.Signed.{inI32}
@@ -26,10 +27,11 @@ use Rattle.list_theorems.specs.Traced.{listTrace}
 abbrev pub Wrote : Tables → (cols rows room : ℕ) → List ℕ → List ℕ → Type 0
 Wrote s cols rows room ws words = writeListsOf s cols rows room ws ≡ left Done words
 
--- whole segments are lent, and they fill the room that the writer was told
+-- whole segments are lent, and they fill the room that the writer was told with segments that a fill takes
 pub record Fills (room : ℕ) (segments : List Float) : Type 0 where
   pub whole : length segments % segmentFloats ≡ 0
   pub enough : room ≤ length segments / segmentFloats
+  pub straight : (k : ℕ) → k < room → Straight (segmentAt segments k)
 
 -- backdrops are i32, as all that are lent are
 abbrev pub AllI32 : List ℤ → Type 0
@@ -46,7 +48,7 @@ pub record Holds (width cols rows : ℕ) (pixels : List ℕ) : Type 0 where
 abbrev pub PairsInOrder : Tables → (cols rows : ℕ) → List ℕ → List Float → Type 0
 PairsInOrder s cols rows words segments = (t : ℕ) → t < cols * rows → tileTrace words segments t ≡ listTrace ownWords (tilePairs s cols t)
 
--- no screen tile is refused: not for 13, 14 or 15
+-- no screen tile is refused: not for 13, 14, 15 or 20
 abbrev pub NeverRefused : (cols rows : ℕ) → List ℕ → List Float → Type 0
 NeverRefused cols rows words segments = (t : ℕ) → t < cols * rows → endsAt words segments t ≡ Fine
 

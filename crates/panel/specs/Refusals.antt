@@ -62,6 +62,9 @@ badFile = 18
 abbrev pub offTile : ℕ
 offTile = 19
 
+abbrev pub badSegment : ℕ
+badSegment = 20
+
 abbrev pub badText : ℕ
 badText = 21
 
@@ -91,6 +94,7 @@ refusalNumbers =
     ∷ badSize
     ∷ badFile
     ∷ offTile
+    ∷ badSegment
     ∷ badText
     ∷ tooDeep
     ∷ []

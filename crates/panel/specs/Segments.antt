@@ -6,6 +6,7 @@ use Prim.Native.Nat.{ℕ, _+_, _*_}
 use lib.ListN.{getD}
 use lib.Seq.{sets}
 use lib.Ieee.{Float, nan, le}
+use lib.Ieee.Scale.{finite}
 use Rattle.util.specs.Constants.{zero, tileSide}
 use Rattle.util.specs.Vec.{newOf}
 use Rattle.util.specs.declared.Vec2.{Vec2}
@@ -32,7 +33,7 @@ segmentAt l k =
 
 -- ---- within the tile
 
--- an end within 0..16, which NaN is not: for a segment that tiling makes
+-- an end within 0..16, which NaN is not: of a segment that tiling makes (12), and of one that a fill is to take (20)
 unfoldable pub heldOf : Vec2 → Bool
 heldOf p = (le zero (p .x) && le (p .x) tileSide) && (le zero (p .y) && le (p .y) tileSide)
 
@@ -42,3 +43,13 @@ pub record InTile (p : Vec2) : Type 0 where
   pub right : le (p .x) tileSide ≡ true
   pub top : le zero (p .y) ≡ true
   pub bottom : le (p .y) tileSide ≡ true
+
+-- what a fill takes: both ends within the tile, and y_edge finite
+unfoldable pub straightOf : Segment → Bool
+straightOf s = (heldOf (s .p0) && heldOf (s .p1)) && finite (s .«y_edge»)
+
+-- in words
+pub record Straight (s : Segment) : Type 0 where
+  pub from-end : InTile (s .p0)
+  pub to-end : InTile (s .p1)
+  pub edge : finite (s .«y_edge») ≡ true

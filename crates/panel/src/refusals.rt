@@ -62,6 +62,9 @@ pub const BAD_FILE: u32 = 18;
 // 19: a pixel's column or row outside its tile
 pub const OFF_TILE: u32 = 19;
 
+// 20: a fill's segment with an end outside its tile, or a y_edge not finite
+pub const BAD_SEGMENT: u32 = 20;
+
 // 21: a text that is no path data of SVG
 pub const BAD_TEXT: u32 = 21;
 
@@ -69,7 +72,7 @@ pub const BAD_TEXT: u32 = 21;
 pub const TOO_DEEP: u32 = 22;
 
 // All of them, in order.
-pub fn all() -> [u32; 22]
+pub fn all() -> [u32; 23]
     ensures { λ r. ⌜ r ≡ refusalNumbers ⌝ }
 {
     [
@@ -93,6 +96,7 @@ pub fn all() -> [u32; 22]
         BAD_SIZE,
         BAD_FILE,
         OFF_TILE,
+        BAD_SEGMENT,
         BAD_TEXT,
         TOO_DEEP,
     ]

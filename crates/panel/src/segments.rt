@@ -4,7 +4,7 @@ ghost use mathlib.Core.Path.{_≡_};
 ghost use Prim.Native.Nat.{_+_, _*_, _≤_};
 ghost use lib.ListN.{length};
 ghost use Rattle.panel.specs.Widths.{segmentFloats};
-ghost use Rattle.panel.specs.Segments.{segmentAt, putOf, heldOf};
+ghost use Rattle.panel.specs.Segments.{segmentAt, putOf, heldOf, straightOf};
 use super::kinds::SlotNo;
 use super::widths::SEGMENT_FLOATS;
 use util::Vec2;
@@ -33,11 +33,21 @@ pub fn segment_at(segments: &[f32], k: usize) -> Segment
     Segment { p0, p1, y_edge }
 }
 
-// Whether a segment's end is within its tile, 0..16, which NaN isn't: tiling asks it of what it makes.
+// Whether a segment's end is within its tile, 0..16, which NaN isn't: asked of a segment that tiling
+// makes (12), and of one that a fill is to take (20).
 pub fn held(p: Vec2) -> bool
     ensures { λ r. ⌜ r ≡ heldOf p ⌝ }
 {
     ((p.x >= 0.0) & (p.x <= util::TILE_SIDE)) & ((p.y >= 0.0) & (p.y <= util::TILE_SIDE))
+}
+
+// Whether a fill takes a segment: both ends within the tile, and y_edge finite.
+pub fn straight(s: Segment) -> bool
+    ensures { λ r. ⌜ r ≡ straightOf s ⌝ }
+{
+    let p0 = s.p0;
+    let p1 = s.p1;
+    (held(p0) & held(p1)) & float32::is_finite(s.y_edge)
 }
 
 // A segment into its slot.

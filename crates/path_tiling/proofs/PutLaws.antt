@@ -1,4 +1,4 @@
--- What is put, for every input: its slot is among the slots, and both its ends lie in the tile. Assumes nothing.
+-- What is put, for every input: its slot is among the slots, and a fill takes it: both its ends lie in the tile, and its y_edge is finite. Assumes nothing.
 use Prim.Native.Nat.{ℕ, suc, _+_, _*_, _≤_, _<_}
 use native.Mathlib.Omega.{arith}
 use mathlib.Core.Path.{_≡_, refl, sym, ap, _∙_}
@@ -17,12 +17,12 @@ use Rattle.walk.specs.declared.step.Step.{Step}
 use Rattle.walk.specs.declared.step.Step.the-variants as On
 use Rattle.walk.specs.declared.kinds.Walked.{Walked}
 use Rattle.walk.specs.declared.kinds.Walked.the-variants as Found
-use Rattle.panel.specs.Segments.{InTile}
+use Rattle.panel.specs.Segments.{Straight}
 use Rattle.segment.specs.Clips.{pieceOf}
 use Rattle.panel.specs.declared.segments.Segment.{Segment}
 use Rattle.segment.specs.declared.Piece.{Piece}
 use Rattle.segment.specs.declared.Piece.the-variants.{Kept, Crooked}
-use Rattle.segment.proofs.Within.{kept-in}
+use Rattle.segment.proofs.Within.{kept-straight}
 use Rattle.path_tiling.specs.Look.{stepNo, sliceNo, pieceTo, wordTo, stepTo, foundTo}
 use Rattle.path_tiling.specs.declared.look.Look.{Look}
 use Rattle.path_tiling.specs.declared.look.Look.the-variants.{Put, Empty, Against}
@@ -30,8 +30,7 @@ use Rattle.path_tiling.specs.declared.look.Look.the-variants.{Put, Empty
 -- what is known of a segment that is put at a slot
 pub record Good (slots slot : ℕ) (s : Segment) : Type 0 where
   pub among : slot < slots
-  pub first : InTile (s .p0)
-  pub last : InTile (s .p1)
+  pub straight : Straight s
 
 module _ {slot : SlotNo} {s : Segment} where
   piece-put : (n : ℕ) (p : Piece) → pieceTo n p ≡ Put slot s → (n ≡ slot .0) × (p ≡ Kept s)
@@ -55,8 +54,7 @@ module _ {slot : SlotNo} {s : Segment} where
   unfolding stepTo
   step-put xs slots w i slice (On.Tile t x y z) e =
       let k = word-put slots (getD xs (t .0) 0) slice (pieceOf w i z x y) e in
-      let h = kept-in w i z x y s (k .1) in
-      record { among = k .0; first = h .0; last = h .1 }
+      record { among = k .0; straight = kept-straight w i z x y s (k .1) }
   step-put xs slots w i slice On.Refused e = let z : _≡_ {A = ℕ} 0 1 = cc in absurd (omega arith)
 
   pub put-good : (xs : List ℕ) (slots packed : ℕ) (f : Walked) → foundTo xs slots packed f ≡ Put slot s → Good slots (slot .0) s

@@ -1,4 +1,4 @@
--- Refusals are exact: 13, 14 and 15 of a screen tile's commands. Assumes nothing.
+-- Refusals are exact: 13, 14, 15 and 20 of a screen tile's commands. Assumes nothing.
 use mathlib.Core.Path.{_≡_, refl, sym, ap, _∙_}
 use mathlib.Core.Logic.{_≢_, _↔_, _⊎_, inl, inr}
 use mathlib.Core.Bool.{Bool, true, false, cond}
@@ -10,10 +10,13 @@ use lib.Dec.{leb}
 use lib.ListN.{length, getD}
 use lib.Ieee.{Float}
 use borrow.Author.Tests.{lt-ltb, le-ltb, le-leb, lt-leb, leb-true, leb-false, eq-eqb, ne-eqb}
-use Rattle.panel.specs.Refusals.{pastEnd, tooLong}
+use Rattle.panel.specs.Refusals.{pastEnd, badSegment, tooLong}
+use Rattle.panel.specs.Segments.{segmentAt}
+use Rattle.panel.proofs.HeldLaws.{not-straight, crooked-not}
 use Rattle.panel.specs.declared.kinds.Verdict.{Verdict}
 use Rattle.panel.specs.declared.kinds.Verdict.the-variants.{Fine, Against}
-use Rattle.coverage.specs.Ground.{groundOf}
+use Rattle.coverage.specs.Ground.{straightFrom, groundOf}
+use Rattle.coverage.proofs.Crooked.{crooked-at, first-crooked}
 use Rattle.reader.specs.Look.{lookAt}
 use Rattle.commands.specs.Numbers.{endNo, wordsOf, fillWords}
 use Rattle.commands.specs.Moves.{opOf, countOf, onGround, fillMove, wholeMove, moveOf, Trace, ends, does, onMove, onLook, traceOf, endOf}
@@ -32,21 +35,23 @@ use Rattle.theorems.proofs.Exact.{no-clash}
 
 -- ---- one command
 
-ground-row : (b : Bool) (k n : ℕ) → cond b Fine (Against k) ≡ Against n → (n ≡ k) × (b ≡ false)
-ground-row true k n e = no-clash cc
-ground-row false k n e = (cc, refl)
-
 -- a fill's segments
 pub ground-exact : (segs : List Float) (first m n : ℕ) → (groundOf segs first m ≡ Against n) ↔ GroundWhy segs first m n
-ground-exact segs first m n = (why, halts)
+ground-exact segs first m n = (why (leb (first + m) (length segs / segmentFloats)) refl (straightFrom segs first m) refl, halts)
   where
-    why : groundOf segs first m ≡ Against n → GroundWhy segs first m n
-    why e =
-        let h = ground-row (leb (first + m) (length segs / segmentFloats)) pastEnd n e in
-        (h .0, leb-false (first + m) (length segs / segmentFloats) (h .1))
+    why : (a : Bool) → leb (first + m) (length segs / segmentFloats) ≡ a → (b : Bool) → straightFrom segs first m ≡ b
+        → cond a (cond b Fine (Against badSegment)) (Against pastEnd) ≡ Against n → GroundWhy segs first m n
+    why true p true q e = no-clash cc
+    why true p false q e =
+        let w = first-crooked segs first m q in
+        inr (cc, leb-true (first + m) (length segs / segmentFloats) p, (w .0, w .1, crooked-not (segmentAt segs (first + w .0)) (w .3)))
+    why false p b q e = inl (cc, leb-false (first + m) (length segs / segmentFloats) p)
 
     halts : GroundWhy segs first m n → groundOf segs first m ≡ Against n
-    halts h = rw (lt-leb (first + m) (length segs / segmentFloats) (h .1), h .0)
+    halts (inl h) = rw (lt-leb (first + m) (length segs / segmentFloats) (h .1), h .0)
+    halts (inr h) =
+        let c = h .2 in
+        rw (le-leb (first + m) (length segs / segmentFloats) (h .1), crooked-at segs first m (c .0) (c .1) (not-straight (segmentAt segs (first + c .0)) (c .2)), h .0)
 
 on-ground : (v : Verdict) (a : Act) (next n : ℕ) → onGround v (Goes a next) ≡ Refused n → v ≡ Against n
 on-ground Fine a next n e = no-clash cc

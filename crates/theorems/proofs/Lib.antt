@@ -3,6 +3,7 @@
 --     Slots                 the slot of each reference: one to each, and every slot below their number is one's
 --     SumLaws               sums
 --     StrayLaws             no stray piece
+--     Taken                 what tiling leaves, a fill takes
 --     Isolation             beam isolation; the order of lines
 --     BatchLaws             lines and references cut into batches anywhere
 --     FineBatches           screen tiles cut into batches anywhere
@@ -17,12 +18,14 @@
 --     FrameTraces           frames of one line, computed
 --     Refuted               statements near the theorems' that are false, refuted by instances
 --     StepLaws              step numbers stay exact in a float
+--     EvenOdd               even-odd coverage of the segments that a fill takes
 pub mod Acts
 pub mod Own
 pub mod Counting
 pub mod Slots
 pub mod SumLaws
 pub mod StrayLaws
+pub mod Taken
 pub mod Isolation
 pub mod BatchLaws
 pub mod FineBatches
@@ -42,3 +45,4 @@ pub mod FrameNumbers
 pub mod FrameTraces
 pub mod Refuted
 pub mod StepLaws
+pub mod EvenOdd

@@ -245,8 +245,7 @@ module _ (b : ℕ) (nos : List ℕ) (coords : List Float) (paths : List ℕ) (n 
         tile-high = rw tile (held .1);
         slot-low = rw tile (omega arith);
         slot-high = rw tile (omega arith);
-        from-end = g .first;
-        to-end = g .last;
+        straight = g .straight;
       }
 
   all-both : (slots j k : ℕ) → k + j ≤ m → (us : List Write) → All (Made lentNow slots j k) us → All (λ w. Good slots (w .slot) (w .segment)) us

@@ -1,4 +1,4 @@
--- When a screen tile's commands are refused: 13, 14, 15. docs/RULES.md: "For each command: 13 for its first word, END, 15, 14, 13 for its other words, 13
+-- When a screen tile's commands are refused: 13, 14, 15, 20. docs/RULES.md: "For each command: 13 for its first word, END, 15, 14, 13 for its other words, 13
 -- for its segments". Definitions only.
 use mathlib.Core.Path.{_≡_}
 use mathlib.Core.Logic.{_≢_, _⊎_}
@@ -6,7 +6,8 @@ use mathlib.Core.List.{List}
 use Prim.Native.Nat.{ℕ, zero, suc, _+_, _-_, _/_, _≤_, _<_}
 use lib.ListN.{length, getD}
 use lib.Ieee.{Float}
-use Rattle.panel.specs.Refusals.{pastEnd, unknown, tooLong}
+use Rattle.panel.specs.Refusals.{pastEnd, badSegment, unknown, tooLong}
+use Rattle.panel.specs.Segments.{segmentAt, Straight}
 use Rattle.panel.specs.Widths.{segmentFloats}
 use Rattle.commands.specs.Numbers.{endNo, wordsOf}
 use Rattle.commands.specs.Moves.{opOf, countOf, moveOf}
@@ -15,9 +16,14 @@ use Rattle.commands.specs.declared.steps.Op.the-variants.{Fill, Solid, Color, J
 use Rattle.commands.specs.declared.steps.Act.{Act}
 use Rattle.commands.specs.declared.steps.Move.the-variants.{Goes}
 
--- a fill's segments, m from the first on: 13 where the first plus their number is over the segments lent
+-- one of the m segments from the first on is crooked: an end outside its tile, or a y_edge not finite
+abbrev pub Crooked : List Float → (first m : ℕ) → Type 0
+Crooked segs first m = (j : ℕ) × (j < m) × (Straight (segmentAt segs (first + j)) → ⊥)
+
+-- a fill's segments, m from the first on: 13 where the first plus their number is over the segments lent; 20 where it isn't, and one is crooked
 abbrev pub GroundWhy : List Float → (first m n : ℕ) → Type 0
-GroundWhy segs first m n = (n ≡ pastEnd) × (length segs / segmentFloats < first + m)
+GroundWhy segs first m n =
+    ((n ≡ pastEnd) × (length segs / segmentFloats < first + m)) ⊎ ((n ≡ badSegment) × (first + m ≤ length segs / segmentFloats) × Crooked segs first m)
 
 -- a command whose words are all there: 14 where it is unknown; a fill's as its segments are refused
 abbrev pub WholeWhy : Op → List ℕ → List Float → ℕ → ℕ → Type 0

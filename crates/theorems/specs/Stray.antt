@@ -11,9 +11,8 @@ use Rattle.lists.specs.Occ.{occ}
 use Rattle.lists.specs.Tally.{Distinct}
 use Rattle.panel.specs.Paths.{pathAt, pathCount, endOf}
 use Rattle.panel.specs.declared.kinds.Answer.the-variants.{Done, Refused}
-use Rattle.panel.specs.Segments.{InTile}
 use Rattle.path_tiling.specs.Look.{lineAt}
-use Rattle.panel.specs.Segments.{segmentAt}
+use Rattle.panel.specs.Segments.{segmentAt, Straight}
 use Rattle.path_tiling.specs.Tiling.{Write, Range, applied}
 use Rattle.theorems.specs.Refs.{refTile}
 
@@ -25,7 +24,7 @@ abbrev pub writtenFrom : List Write → List ℕ
 writtenFrom ws = map (λ w. w .ref) ws
 
 -- a write is its own path's: it comes from one of the m references that counting made, of that reference's line and that line's path; the
--- reference's tile lies in that path's range, and the slot in that tile's; both ends lie in the tile
+-- reference's tile lies in that path's range, and the slot in that tile's; both ends lie in the tile, and its y_edge is finite
 pub record OwnWrite (nos : List ℕ) (coords : List Float) (paths : List ℕ) (cs rs : List ℕ) (m : ℕ) (w : Write) : Type 0 where
   pub counted : w .ref < m
   pub line : w .line ≡ lineAt rs (w .ref)
@@ -35,8 +34,7 @@ pub record OwnWrite (nos : List ℕ) (coords : List Float) (paths : List ℕ) (c
   pub tile-high : refTile nos coords paths rs (w .ref) < endOf (pathAt paths (w .path))
   pub slot-low : first cs (refTile nos coords paths rs (w .ref)) ≤ w .slot
   pub slot-high : w .slot < first cs (refTile nos coords paths rs (w .ref)) + getD cs (refTile nos coords paths rs (w .ref)) 0
-  pub from-end : InTile (w .segment .p0)
-  pub to-end : InTile (w .segment .p1)
+  pub straight : Straight (w .segment)
 
 -- what the tiling of all m references came to
 pub record NoStray (nos : List ℕ) (coords : List Float) (paths : List ℕ) (cs rs : List ℕ) (m : ℕ) (segs : List Float) (r : Range) : Type 0 where

@@ -43,6 +43,8 @@ pub enum Refusal {
     BadFile = 18,
     /// 19: a pixel's column or row over 15.
     OffTile = 19,
+    /// 20: a fill's segment with an end outside 0 to 16, or a y_edge not finite.
+    BadSegment = 20,
     /// 21: a text that is no path data of SVG.
     BadText = 21,
     /// 22: a curve halved more than 6 times.
@@ -52,12 +54,12 @@ pub enum Refusal {
 impl Refusal {
     /// All of them, by their numbers.
     #[rustfmt::skip]
-    pub const ALL: [Refusal; 21] = {
+    pub const ALL: [Refusal; 22] = {
         use Refusal::*;
         [
             NotWhole, TooMany, BadBox, BadRange, LineNumber, Coordinate, NoSuch, CountOver, NoRoom,
             Outside, SumOver, Crooked, PastEnd, Unknown, TooLong, BadScreen, BadSize, BadFile,
-            OffTile, BadText, TooDeep,
+            OffTile, BadSegment, BadText, TooDeep,
         ]
     };
 
@@ -90,6 +92,7 @@ impl Refusal {
             BadSize => "a picture's width or height outside 1 to 16,384",
             BadFile => "no P6 file: another header, or bytes missing or left over",
             OffTile => "a pixel's column or row over 15",
+            BadSegment => "a fill's segment with an end outside 0..16, or a y_edge not finite",
             BadText => "a text that is no path data of SVG",
             TooDeep => "a curve halved more than 6 times",
         }

@@ -20,7 +20,8 @@ pub struct Fill {
     pub y_tile: f32,
 }
 
-/// The coverage of a tile's 256 pixels, into `area`, which must be 256 long.
+/// The coverage of a tile's 256 pixels, into `area`, which must be 256 long. Segments with an end outside
+/// 0 to 16, or with a y_edge that is not finite, are refused (20).
 ///
 /// ```
 /// use groatpocket::{fill, Fill};
@@ -30,6 +31,8 @@ pub struct Fill {
 /// assert!(area.iter().all(|a| *a == 1.0));
 /// fill(&[], Fill { even_odd: true, ..whole }, &mut area).unwrap();
 /// assert!(area.iter().all(|a| *a == 0.0));
+/// let crooked = [8.0, 0.0, 8.0, 16.1, 1e9];
+/// assert_eq!(fill(&crooked, Fill { number: 1, ..whole }, &mut area).unwrap_err().refusal.number(), 20);
 /// ```
 pub fn fill(segments: &[f32], fill: Fill, area: &mut [f32]) -> Result<(), Refused> {
     let rule = fill.even_odd as u32;

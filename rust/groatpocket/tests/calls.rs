@@ -214,6 +214,42 @@ fn nineteen_comes_first() {
     assert_eq!(number(pixel_area(&[], one, 0, 0)), 13);
 }
 
+/// A fill of three segments, the second with one float altered: 20 in every call that takes it, and nothing changes.
+#[test]
+fn twenty_at_every_border() {
+    let within = [0.0, -0.0, f32::from_bits(1), 15.999999, 16.0];
+    let outside = [-f32::from_bits(1), 16.000002, f32::MAX, f32::NEG_INFINITY, f32::INFINITY, f32::NAN];
+    let edges = [f32::NEG_INFINITY, f32::INFINITY, f32::NAN];
+    let three = Fill { first: 0, number: 3, even_odd: false, backdrop: 0, x_tile: 0.0, y_tile: 0.0 };
+    let words = [0, 1, 6, 0, 0, 3, 0xffff_ffff, 0];
+    let screen = Screen { width: 16, cols: 1, rows: 1 };
+    let asked = |at: usize, v: f32| {
+        let mut segments = [1.0, 2.0, 3.0, 4.0, 1e9].repeat(3);
+        segments[5 + at] = v;
+        let (mut area, mut pixels) = ([7.0; 256], [7; 256]);
+        let number = |r: Result<(), Refused>| r.map_or_else(|no| no.refusal.number(), |()| 0);
+        let all = [
+            number(fill(&segments, three, &mut area)),
+            number(fine(&words, &segments, screen, 0, 1, &mut pixels)),
+            number(pixel_area(&segments, three, 3, 3).map(|_| ())),
+            number(pixel(&words, &segments, 0, 3, 3).map(|_| ())),
+        ];
+        assert_eq!(
+            fill(&segments, Fill { number: 1, ..three }, &mut [7.0; 256]),
+            Ok(()),
+            "one that the fill doesn't name"
+        );
+        let kept = area == [7.0; 256] && pixels == [7; 256];
+        (all, kept)
+    };
+    for at in 0..4 {
+        within.iter().for_each(|&v| assert_eq!(asked(at, v), ([0; 4], false), "float {at}: {v}"));
+        outside.iter().for_each(|&v| assert_eq!(asked(at, v), ([20; 4], true), "float {at}: {v}"));
+    }
+    edges.iter().for_each(|&v| assert_eq!(asked(4, v), ([20; 4], true), "y_edge {v}"));
+    [-f32::MAX, f32::MAX].iter().for_each(|&v| assert_eq!(asked(4, v), ([0; 4], false), "y_edge {v}"));
+}
+
 #[cfg(feature = "picture")]
 #[test]
 fn a_picture_comes_back() {

@@ -407,14 +407,11 @@ struct Cover {
     down: u32,
 }
 
-/// A box's record and tile, as a path in its place: box, first tile, and no more.
-fn path_over(cover: &Cover, p: u32) -> Vec<u32> {
+fn path_over(cover: &Cover, p: u32) -> [u32; rules::limits::PATH] {
     let [w, h] = cover.size;
     let across = cover.screen[0] / w;
     let (x, y) = (p % across * w, p / across * cover.down);
-    let mut record = vec![x, y, x + w, y + h, p * w * h];
-    record.resize(rules::limits::PATH, 0);
-    record
+    path([x, y, x + w, y + h], p * w * h)
 }
 
 /// The lists of whole screens, which the Rust here lacks: nanoseconds a screen tile, and a covered tile, a tile for each path that lies over

@@ -1,4 +1,4 @@
-//! Segments for fills: legal, crooked, tiny in height, infinite and NaN.
+//! Segments for fills: legal, at a tile's borders, crooked, tiny in height, infinite and NaN.
 
 use crate::floats::{any_bits, ulps};
 use crate::Rng;
@@ -9,12 +9,23 @@ use rules::limits::SEGMENT;
 pub enum Kind {
     Legal,
     Grid,
+    Border,
     Crooked,
     Tiny,
     Any,
 }
 
-pub const KINDS: [Kind; 5] = [Kind::Legal, Kind::Grid, Kind::Crooked, Kind::Tiny, Kind::Any];
+pub const KINDS: [Kind; 6] = [Kind::Legal, Kind::Grid, Kind::Border, Kind::Crooked, Kind::Tiny, Kind::Any];
+
+/// Those whose segments are taken, or nearly all of them.
+const STRAIGHT: [Kind; 3] = [Kind::Legal, Kind::Grid, Kind::Tiny];
+
+/// At a tile's borders, a step inside and a step outside each: the two zeros, the least numbers beside them, 16 and its neighbours, the
+/// largest numbers, the infinities and NaN.
+#[rustfmt::skip]
+const BORDERS: [u32; 12] = [
+    0, 0x8000_0000, 1, 0x8000_0001, 0x417f_ffff, 0x4180_0000, 0x4180_0001, 0x7f7f_ffff, 0xff7f_ffff, 0x7f80_0000, 0xff80_0000, 0x7fc0_0000,
+];
 
 fn edge(rng: &mut Rng) -> f32 {
     match rng.below(4) {
@@ -40,6 +51,11 @@ pub fn of_kind(rng: &mut Rng, kind: Kind) -> [f32; 5] {
             }
             s
         }
+        Kind::Border => {
+            let mut s = of_kind(rng, Kind::Legal);
+            s[rng.below(5) as usize] = f32::from_bits(rng.pick(&BORDERS));
+            s
+        }
         Kind::Crooked => {
             let far = rng.power(0.0, 8.0);
             let mut s = [0.0; 5];
@@ -59,8 +75,9 @@ pub fn of_kind(rng: &mut Rng, kind: Kind) -> [f32; 5] {
     }
 }
 
+/// A list of one kind, mostly of segments that are taken, and among them here and there one of any kind.
 pub fn list(rng: &mut Rng, n: usize) -> Vec<f32> {
-    let kind = rng.pick(&KINDS);
+    let kind = if rng.one_in(4) { rng.pick(&KINDS) } else { rng.pick(&STRAIGHT) };
     let mut out = Vec::with_capacity(SEGMENT * n);
     for _ in 0..n {
         let kind = if rng.one_in(8) { rng.pick(&KINDS) } else { kind };

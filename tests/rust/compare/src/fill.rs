@@ -38,7 +38,7 @@ fn held(words: usize) -> Vec<u32> {
 impl Stage for Fill {
     type Case = Case;
     const NAME: &'static str = "fill";
-    const REACHED: &'static [u32] = &[0, 1, 13];
+    const REACHED: &'static [u32] = &[0, 1, 13, 20];
     const LEAST: u64 = 20_000;
 
     fn make(&self, rng: &mut Rng) -> Case {

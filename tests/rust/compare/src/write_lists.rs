@@ -7,9 +7,9 @@ use crate::table::Table;
 use cases::commands::{color, Command, Lists};
 use cases::memory::{as_f32, Lent};
 use cases::{boxes, segments, Rng};
-use rules::limits::{EDGE_MOST, LINE, PATH, PATHS_MOST, ROOM_MOST, SEGMENT};
+use rules::limits::{BAD_SEGMENT, EDGE_MOST, LINE, PATH, PATHS_MOST, ROOM_MOST, SEGMENT};
 use rules::lists::{Pair, Tables};
-use rules::records::{box_at, first_at, no_tiles, paths_in, words_of};
+use rules::records::{box_at, first_at, no_tiles, path, paths_in, words_of};
 
 #[derive(Clone, Debug)]
 pub struct Case {
@@ -41,7 +41,7 @@ fn near_boxes(rng: &mut Rng, n: usize, most: i64) -> (Vec<u32>, usize) {
         if n < 8 && rng.one_in(200) {
             w = EDGE_MOST - x; // as far right as a box may reach, most of it off the screen
         }
-        paths.extend([x, y, x + w, y + h, next].map(|v| v as u32));
+        paths.extend(path([x, y, x + w, y + h].map(|v| v as u32), next as u32));
         next += w * h + rng.one_in(6) as i64;
     }
     (paths, next as usize)
@@ -371,7 +371,8 @@ impl Stage for WriteLists {
     }
 }
 
-/// Fine over the lists, and each tile painted without a list from the rules' tables: by the rules, and by the Rust.
+/// Fine over the lists, and each tile painted without a list from the rules' tables: by the rules, and by the Rust. It stops at the first tile
+/// on which a fill has a crooked segment, and only there.
 fn draw(case: &Case, lists: &Memory, by_rules: &Memory, sides: Sides, table: &mut Table) -> Result<(), String> {
     let (cols, rows) = (case.cols, case.rows);
     let width = 16 * cols as usize;
@@ -379,11 +380,18 @@ fn draw(case: &Case, lists: &Memory, by_rules: &Memory, sides: Sides, table: &mu
     let mut item = 0;
     let fine = if sides.ours && ours::has::FINE { ours::fine } else { rules::fine };
     let number = fine(lists.words.u32s(), lists.segments.f32s(), width as u32, cols, rows, 0, cols * rows, &mut pixels, &mut item);
-    same("fine's answer over the written lists", (number, item), (0, 0))?;
     let (tables, segments) = (by_rules.read(), by_rules.segments.f32s());
+    let place = |t: u32| ((t % cols) as i64, (t / cols) as i64);
+    let crooked = |t: &u32| rules::lists::crooked(&tables.pairs(place(*t).0, place(*t).1), segments);
+    let stop = (0..cols * rows).find(crooked);
+    same("fine's answer over the written lists", (number, item), stop.map_or((0, 0), |t| (BAD_SEGMENT, t)))?;
+    if case.frame.is_some() {
+        same("a frame's segments are taken", stop, None)?;
+    }
+    table.add("screens with a crooked segment", stop.is_some() as u64);
     let records = oracle::segments_of(segments);
-    for t in 0..cols * rows {
-        let (x, y) = ((t % cols) as i64, (t / cols) as i64);
+    for t in 0..stop.unwrap_or(cols * rows) {
+        let (x, y) = place(t);
         let at = |row: usize| width * (16 * y as usize + row) + 16 * x as usize;
         let drawn: Vec<u32> = (0..16).flat_map(|row| pixels[at(row)..at(row) + 16].to_vec()).collect();
         let pairs = tables.pairs(x, y);

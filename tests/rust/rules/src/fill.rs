@@ -49,13 +49,23 @@ pub fn pixel(segments: &[f32], even_odd: bool, backdrop: i32, i: usize, j: usize
     }
 }
 
-/// The segments `first..first + number`, where they are lent.
-pub fn range(segments: &[f32], first: u32, number: u32) -> Option<&[f32]> {
+/// Whether a segment has both ends in its tile, the edges with it and either zero, and a y_edge that is a number.
+pub fn straight(s: &[f32]) -> bool {
+    s[..4].iter().all(|v| (0.0..=16.0).contains(v)) && s[4].is_finite()
+}
+
+/// The segments `first..first + number`: where they aren't all lent, 13; where one of them is crooked, 20.
+pub fn range(segments: &[f32], first: u32, number: u32) -> Result<&[f32], u32> {
     let end = first as i64 + number as i64;
     if end > (segments.len() / SEGMENT) as i64 {
-        return None;
+        return Err(PAST_END);
     }
-    Some(&segments[SEGMENT * first as usize..SEGMENT * end as usize])
+    let named = &segments[SEGMENT * first as usize..SEGMENT * end as usize];
+    if named.chunks_exact(SEGMENT).all(straight) {
+        Ok(named)
+    } else {
+        Err(BAD_SEGMENT)
+    }
 }
 
 pub fn cover(segments: &[f32], even_odd: bool, backdrop: i32, x_tile: f32, y_tile: f32, area: &mut [f32]) {
@@ -68,7 +78,9 @@ pub fn fill(segments: &[f32], first: u32, number: u32, even_odd: u32, backdrop: 
     if !segments.len().is_multiple_of(SEGMENT) || area.len() != 256 {
         return BAD_SHAPE;
     }
-    let Some(named) = range(segments, first, number) else { return PAST_END };
-    cover(named, even_odd != 0, backdrop, x_tile, y_tile, area);
+    match range(segments, first, number) {
+        Ok(named) => cover(named, even_odd != 0, backdrop, x_tile, y_tile, area),
+        Err(no) => return no,
+    }
     DONE
 }

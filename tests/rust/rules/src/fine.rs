@@ -48,7 +48,7 @@ pub fn tile_pixels(words: &[u32], segments: &[f32], start: u64) -> Result<[u32; 
         match tag {
             FILL => {
                 let (number_and_rule, first, backdrop) = (word(at + 1)?, word(at + 2)?, word(at + 3)?);
-                let named = range(segments, first, number_and_rule / 2).ok_or(PAST_END)?;
+                let named = range(segments, first, number_and_rule / 2)?;
                 cover(named, number_and_rule % 2 == 1, backdrop as i32, 0.0, 0.0, &mut area);
                 at += 4;
             }

@@ -41,5 +41,6 @@ pub const UNKNOWN: u32 = 14;
 pub const TOO_LONG: u32 = 15;
 pub const BAD_SCREEN: u32 = 16;
 pub const OFF_PIXEL: u32 = 19;
+pub const BAD_SEGMENT: u32 = 20;
 pub const BAD_TEXT: u32 = 21;
 pub const TOO_DEEP: u32 = 22;

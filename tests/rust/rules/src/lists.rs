@@ -1,7 +1,7 @@
 //! The lists of commands: what each path puts on a screen tile, and how a list is laid out in regions of 64 words.
 
 use crate::checks::*;
-use crate::fill::cover;
+use crate::fill::{cover, range};
 use crate::fine::{over, pack, unpack, COLOR, END, FILL, JUMP, SOLID};
 use crate::limits::*;
 use crate::walk::Place;
@@ -160,6 +160,14 @@ fn has_slots(pair: &Pair, room: u32) -> bool {
         Pair::Fill { first, number, .. } => first as i64 + number as i64 <= (room as i64).min(ROOM_MOST),
         Pair::Solid { .. } => true,
     }
+}
+
+/// Whether a fill of the pairs has a crooked segment.
+pub fn crooked(pairs: &[Pair], segments: &[f32]) -> bool {
+    pairs.iter().any(|pair| match *pair {
+        Pair::Fill { number, first, .. } => range(segments, first, number).is_err(),
+        Pair::Solid { .. } => false,
+    })
 }
 
 /// The pixels of a tile on which the paths are painted one after another, without a list.

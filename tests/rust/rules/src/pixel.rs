@@ -23,8 +23,10 @@ pub fn pixel_area(
     if !whole(segments.len(), SEGMENT) {
         return BAD_SHAPE;
     }
-    let Some(named) = range(segments, first, number) else { return PAST_END };
-    *area = coverage(named, even_odd != 0, backdrop, column as usize, row as usize, x_tile, y_tile);
+    match range(segments, first, number) {
+        Ok(named) => *area = coverage(named, even_odd != 0, backdrop, column as usize, row as usize, x_tile, y_tile),
+        Err(no) => return no,
+    }
     DONE
 }
 

@@ -2,41 +2,38 @@
 use mathlib.Core.Path.{_≡_, refl, sym, ap, _∙_}
 use mathlib.Core.List.{List}
 use Prim.Native.Nat.{ℕ, suc, _-_, _+_, _≤_}
-use lib.ListN.{length, length-replicate}
+use lib.ListN.{length}
 use denote.Ref.{now}
 use lib.Ieee.{Float}
-use Rattle.util.specs.Constants.{zero}
 use Rattle.panel.specs.Limits.{mostCommands}
 use Rattle.panel.specs.declared.kinds.Verdict.{Verdict}
 use Rattle.coverage.specs.Tile.{tileSize}
 use Rattle.commands.specs.Moves.{Trace, ends, does, traceOf}
-use Rattle.commands.specs.Pixel.{coverAll, paintAll, noArea, ran, runOf}
+use Rattle.commands.specs.Pixel.{coverAll, paintAll, Ran, ran}
+use Rattle.commands.specs.Alike.{sameArea, runFrom}
 use Rattle.commands.specs.declared.steps.Act.{Act}
 use Rattle.commands.proofs.Acts.{length-cover, length-paint, move-within}
 use Rattle.commands.proofs.Traced.{found, more, trace-past, trace-end, trace-full, trace-stop, trace-goes, left, left-ends, left-does, left-starts}
+use Rattle.commands.proofs.AlikeLaws.{same-area-length}
 use native.Mathlib.Omega.{arith}
 use borrow.Author.Needs.{needs}
 use Rattle.commands.proofs.run.run.Statement.{statement}
 use Rattle.commands.proofs.run.run.Tie as tie
 
-no-area-length : length noArea ≡ tileSize
-unfolding noArea
-no-area-length = length-replicate tileSize zero
+begins : (segs : List Float) (t : Trace) (a : Float) (rgba : List (List Float)) (area : List Float) → length rgba ≡ tileSize → area ≡ sameArea a
+    → left segs t area rgba ≡ runFrom segs t a rgba
+begins segs t a rgba area h e = ap (λ (l : List Float). left segs t l rgba) e ∙ left-starts segs t a rgba h
 
-begins : (ws : List ℕ) (segs : List Float) (start : ℕ) (rgba : List (List Float)) (area : List Float) → length rgba ≡ tileSize → area ≡ noArea
-    → left segs (traceOf (mostCommands - 0) ws segs start) area rgba ≡ runOf ws segs start rgba
-begins ws segs start rgba area h e = ap (λ (l : List Float). left segs (traceOf mostCommands ws segs start) l rgba) e ∙ left-starts segs ws start rgba h
-
-module _ (ws : List ℕ) (segs : List Float) (start : ℕ) (rgba₀ : List (List Float)) (area : List Float) (rgba : List (List Float)) (at count : ℕ)
-    (inv : left segs (traceOf (mostCommands - count) ws segs at) area rgba ≡ runOf ws segs start rgba₀) where
+module _ (ws : List ℕ) (segs : List Float) (all : Ran) (area : List Float) (rgba : List (List Float)) (at count : ℕ)
+    (inv : left segs (traceOf (mostCommands - count) ws segs at) area rgba ≡ all) where
   -- the commands end here
-  stop : (n : ℕ) (v : Verdict) → mostCommands - count ≡ n → traceOf n ws segs at ≡ ends v → ran v rgba ≡ runOf ws segs start rgba₀
+  stop : (n : ℕ) (v : Verdict) → mostCommands - count ≡ n → traceOf n ws segs at ≡ ends v → ran v rgba ≡ all
   stop n v f e = sym (left-ends segs v area rgba) ∙ ap (λ (t : Trace). left segs t area rgba) (sym (ap (λ (k : ℕ). traceOf k ws segs at) f ∙ e)) ∙ inv
 
   -- one more is carried out
   turn : (a : Act) (next : ℕ) (area′ : List Float) (rgba′ : List (List Float)) → count ≤ mostCommands → (count ≡ mostCommands → ⊥) → length area ≡ length rgba
       → traceOf (suc (mostCommands - (count + 1))) ws segs at ≡ does a (traceOf (mostCommands - (count + 1)) ws segs next) → area′ ≡ coverAll a segs area → rgba′ ≡ paintAll a area rgba
-      → left segs (traceOf (mostCommands - (count + 1)) ws segs next) area′ rgba′ ≡ runOf ws segs start rgba₀
+      → left segs (traceOf (mostCommands - (count + 1)) ws segs next) area′ rgba′ ≡ all
   turn a next area′ rgba′ h z l e p q =
       let t = traceOf (mostCommands - (count + 1)) ws segs next in
       ap (λ (x : List Float). left segs t x rgba′) p ∙ ap (left segs t (coverAll a segs area)) q ∙ sym (left-does segs a t area rgba l)
@@ -47,16 +44,19 @@ lengths : (a : Act) (segs area area′ : List Float) (rgba rgba′ : List (List 
 lengths a segs area area′ rgba rgba′ p q m n = (ap length p ∙ length-cover a segs area ∙ m, ap length q ∙ length-paint a area rgba ∙ n)
 
 abbrev Inv-loop : tie.InvT-loop
-Inv-loop words segments start rgba₀ area₀ at₀ count₀ rgba area at count = (count ≤ mostCommands) × (length area ≡ tileSize) × (length rgba ≡ tileSize) × (left segments (traceOf (mostCommands - count) words segments at) area rgba ≡ runOf words segments start rgba₀)
+Inv-loop words segments start gone a rgba₀ area₀ at₀ count₀ rgba area at count = (count ≤ mostCommands) × (length area ≡ tileSize) × (length rgba ≡ tileSize) × (left segments (traceOf (mostCommands - count) words segments at) area rgba ≡ runFrom segments (traceOf (mostCommands - gone) words segments start) a rgba₀)
 
 abbrev μ-loop : tie.MeasureT-loop
-μ-loop words segments start rgba₀ area₀ at₀ count₀ rgba area at count = mostCommands - count
+μ-loop words segments start gone a rgba₀ area₀ at₀ count₀ rgba area at count = mostCommands - count
 
-no-area-requires : tie.Need-no-area-requires Inv-loop μ-loop
-no-area-requires c κs = search needs
+same-area-requires : tie.Need-same-area-requires Inv-loop μ-loop
+same-area-requires c κs = search needs
 
 loop-holds : tie.Need-loop-holds Inv-loop μ-loop
-loop-holds c = (search needs, ap length (c .no-area .ensures) ∙ no-area-length, c .before .before .before .pre, begins (now (c .before .before .before .args .words)) (now (c .before .before .before .args .segments)) (c .before .before .before .args .start) (now (c .before .before .before .args .rgba)) _ (c .before .before .before .pre) (c .no-area .ensures))
+loop-holds c =
+    let s = c .before .before .before in
+    let t = traceOf (mostCommands - s .args .gone) (now (s .args .words)) (now (s .args .segments)) (s .args .start) in
+    (s .pre .1, ap length (c .same-area .ensures) ∙ same-area-length (s .args .a), s .pre .0, begins (now (s .args .segments)) t (s .args .a) (now (s .args .rgba)) _ (s .pre .0) (c .same-area .ensures))
 
 peek-from-requires : tie.Need-peek-from-requires Inv-loop μ-loop
 peek-from-requires c κs = search needs
@@ -71,19 +71,19 @@ returns : tie.Need-returns Inv-loop μ-loop
 returns c =
     let s = c .before .before .before .before .before .before .before in
     let l = c .before .before .before .loop in
-    stop (now (s .args .words)) (now (s .args .segments)) (s .args .start) (now (s .args .rgba)) (l .area) (l .rgba) (l .at) (l .count) (l .inv .3) _ _ refl (trace-past (now (s .args .words)) (now (s .args .segments)) (l .at) _ (sym (c .before .before .peek-from .ensures) ∙ c .enum-told .given .1))
+    stop (now (s .args .words)) (now (s .args .segments)) _ (l .area) (l .rgba) (l .at) (l .count) (l .inv .3) _ _ refl (trace-past (now (s .args .words)) (now (s .args .segments)) (l .at) _ (sym (c .before .before .peek-from .ensures) ∙ c .enum-told .given .1))
 
 returns-2 : tie.Need-returns-2 Inv-loop μ-loop
 returns-2 c =
     let s = c .before .before .before .before .before .before .before .before .before in
     let l = c .before .before .before .before .before .loop in
-    stop (now (s .args .words)) (now (s .args .segments)) (s .args .start) (now (s .args .rgba)) (l .area) (l .rgba) (l .at) (l .count) (l .inv .3) _ _ refl (trace-end (now (s .args .words)) (now (s .args .segments)) (l .at) _ (sym (c .before .before .before .before .peek-from .ensures) ∙ c .before .before .tag .given .1) _ (c .if1 .taken))
+    stop (now (s .args .words)) (now (s .args .segments)) _ (l .area) (l .rgba) (l .at) (l .count) (l .inv .3) _ _ refl (trace-end (now (s .args .words)) (now (s .args .segments)) (l .at) _ (sym (c .before .before .before .before .peek-from .ensures) ∙ c .before .before .tag .given .1) _ (c .if1 .taken))
 
 returns-3 : tie.Need-returns-3 Inv-loop μ-loop
 returns-3 c =
     let s = c .before .before .before .before .before .before .before .before .before .before in
     let l = c .before .before .before .before .before .before .loop in
-    stop (now (s .args .words)) (now (s .args .segments)) (s .args .start) (now (s .args .rgba)) (l .area) (l .rgba) (l .at) (l .count) (l .inv .3) 0 _ (omega arith) (trace-full (now (s .args .words)) (now (s .args .segments)) (l .at) _ (sym (c .before .before .before .before .before .peek-from .ensures) ∙ c .before .before .before .tag .given .1) (c .before .if1 .left))
+    stop (now (s .args .words)) (now (s .args .segments)) _ (l .area) (l .rgba) (l .at) (l .count) (l .inv .3) 0 _ (omega arith) (trace-full (now (s .args .words)) (now (s .args .segments)) (l .at) _ (sym (c .before .before .before .before .before .peek-from .ensures) ∙ c .before .before .before .tag .given .1) (c .before .if1 .left))
 
 op-of-requires : tie.Need-op-of-requires Inv-loop μ-loop
 op-of-requires c κs = search needs
@@ -98,7 +98,7 @@ returns-4 : tie.Need-returns-4 Inv-loop μ-loop
 returns-4 c =
     let s = c .before .before .before .before .before .before .before .before .before .before .before .before .before .before .before in
     let l = c .before .before .before .before .before .before .before .before .before .before .before .loop in
-    stop (now (s .args .words)) (now (s .args .segments)) (s .args .start) (now (s .args .rgba)) (l .area) (l .rgba) (l .at) (l .count) (l .inv .3) _ _ (more (l .count) (l .inv .0) (c .before .before .before .before .before .if2 .left))
+    stop (now (s .args .words)) (now (s .args .segments)) _ (l .area) (l .rgba) (l .at) (l .count) (l .inv .3) _ _ (more (l .count) (l .inv .0) (c .before .before .before .before .before .if2 .left))
     (trace-stop (now (s .args .words)) (now (s .args .segments)) (l .at) _ (sym (c .before .before .before .before .before .before .before .before .before .before .peek-from .ensures) ∙ c .before .before .before .before .before .before .before .before .tag .given .1) (c .before .before .before .before .before .before .if1 .left) _ (c .before .before .before .before .op-of .ensures) _ (c .before .before .before .move-at .ensures) _ _ (c .before .no .given .1))
 
 enum-known-act : tie.Need-enum-known-act Inv-loop μ-loop
@@ -124,7 +124,7 @@ loop-again c =
       omega arith,
       n .0,
       n .1,
-      turn (now (s .args .words)) (now (s .args .segments)) (s .args .start) (now (s .args .rgba)) (l .area) (l .rgba) (l .at) (l .count) (l .inv .3) _ _ _ _ (l .inv .0) (c .before .before .before .before .before .before .before .before .before .if2 .left) (l .inv .1 ∙ sym (l .inv .2))
+      turn (now (s .args .words)) (now (s .args .segments)) _ (l .area) (l .rgba) (l .at) (l .count) (l .inv .3) _ _ _ _ (l .inv .0) (c .before .before .before .before .before .before .before .before .before .if2 .left) (l .inv .1 ∙ sym (l .inv .2))
           (trace-goes (now (s .args .words)) (now (s .args .segments)) (l .at) _ (sym (c .before .before .before .before .before .before .before .before .before .before .before .before .before .before .peek-from .ensures) ∙ c .before .before .before .before .before .before .before .before .before .before .before .before .tag .given .1) (c .before .before .before .before .before .before .before .before .before .before .if1 .left) _ (c .before .before .before .before .before .before .before .before .op-of .ensures) _ (c .before .before .before .before .before .before .before .move-at .ensures) _ _ _ (c .before .before .before .before .before .act .given .1)) (c .before .carry-out .ensures .0) (c .before .carry-out .ensures .1),
     )
 
@@ -134,7 +134,7 @@ run-spec =
     (tie.spec
     Inv-loop
     μ-loop
-    no-area-requires
+    same-area-requires
     loop-holds
     peek-from-requires
     enum-known-tag

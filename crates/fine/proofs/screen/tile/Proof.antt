@@ -1,5 +1,5 @@
 -- `fine::screen::tile` meets its contract. Assumes nothing.
-use mathlib.Core.Path.{_≡_, sym, ap, _∙_}
+use mathlib.Core.Path.{_≡_, refl, sym, ap, _∙_}
 use mathlib.Core.Bool.{cond}
 use mathlib.Core.List.{List, []}
 use Prim.Native.Nat.{ℕ, _+_, _*_, _/_, _%_, _<_}
@@ -15,8 +15,12 @@ use Rattle.coverage.specs.Tile.{tileWidth, tileHeight, tileSize}
 use Rattle.colours.specs.Colour.{packOf}
 use Rattle.commands.specs.Numbers.{startOf}
 use Rattle.commands.specs.Pixel.{point, pointOf, Ran, ran, runOf}
+use Rattle.commands.specs.Alike.{sameColour}
 use Rattle.commands.proofs.Acts.{mapi-cong}
+use Rattle.commands.proofs.AlikeLaws.{same-colour-length}
+use lib.ListN.{length}
 use Rattle.fine.specs.Screen.{inTile, placeOf, putTile, packed, fromList, clear, noColour, tileTrace, endsAt, colourAt, ifFine, tilePixels}
+use Rattle.fine.proofs.Openings.{goes-on, one-colour, put-one}
 use borrow.Author.Needs.{needs}
 use Rattle.fine.proofs.screen.tile.Statement.{statement}
 use Rattle.fine.proofs.screen.tile.Tie as tie
@@ -54,17 +58,39 @@ module _ (ws : List ℕ) (segs : List Float) (t w tx ty : ℕ) (pixels : List �
       let s : Against k ≡ endsAt ws segs t = sym d ∙ ended in
       (s, ap (λ (x : Verdict). ifFine x (putTile (packed (colourAt ws segs t) w) w tx ty pixels) pixels) s)
 
-no-colour-requires : tie.Need-no-colour-requires
-no-colour-requires c κs = search needs
-
 mul-start : tie.Need-mul-start
 mul-start c = search needs
 
 add-start : tie.Need-add-start
 add-start c = search needs
 
+begin-requires : tie.Need-begin-requires
+begin-requires c κs = search needs
+
+ends-at-requires : tie.Need-ends-at-requires
+ends-at-requires c κs = search needs
+
+pack-requires : tie.Need-pack-requires
+pack-requires c κs = search needs
+
+fill-tile-requires : tie.Need-fill-tile-requires
+fill-tile-requires c κs = search needs
+
+same-length : tie.Need-same-length
+same-length c = search needs
+
+returns : tie.Need-returns
+returns c =
+    let a = c .before .before .before .before .before .before .before .before .before .before .before .before .args in
+    let o = c .before .before .before .before .before .before .before .begin .result in
+    let e = one-colour (now (a .words)) (now (a .segments)) (a .t) (o .at) (o .count) (o .area) (c .before .before .before .before .before .before .before .begin .last .1 .1 .1 .0) (c .before .before .before .before .before .before .before .begin .ensures .1) (sym (c .before .before .before .before .before .before .ends-at .ensures) ∙ c .before .before .before .before .before .if1 .taken) in
+    done (now (a .words)) (now (a .segments)) (a .t) (a .width) (a .tx) (a .ty) (now (a .pixels)) Fine (sameColour (c .before .before .before .before .before .before .before .begin .last .1 .1 .1 .0)) noColour refl e _ refl (c .before .before .fill-tile .ensures ∙ put-one (a .width) (a .tx) (a .ty) _ (c .before .before .before .before .before .before .before .begin .last .1 .1 .1 .0) (now (a .pixels)) (c .before .before .before .pack .ensures))
+
+same-colour-requires : tie.Need-same-colour-requires
+same-colour-requires c κs = search needs
+
 run-requires : tie.Need-run-requires
-run-requires c κs = search needs
+run-requires c κs = (ap length (c .before .same-colour .ensures) ∙ same-colour-length _, c .before .before .before .before .begin .ensures .0)
 
 enum-told : tie.Need-enum-told
 enum-told c = search needs
@@ -75,30 +101,40 @@ put-tile-requires c κs = search needs
 enum-known-v : tie.Need-enum-known-v
 enum-known-v c = search needs
 
-same-length : tie.Need-same-length
-same-length c = search needs
-
-returns : tie.Need-returns
-returns c =
-    let a = c .before .before .before .before .before .before .before .before .before .before .before .before .before .args in
-    done (now (a .words)) (now (a .segments)) (a .t) (a .width) (a .tx) (a .ty) (now (a .pixels)) _ _ _ (c .before .before .before .before .before .before .before .before .before .no-colour .ensures) (c .before .before .before .before .before .before .before .run .ensures) _ (c .before .before .before .before .before .enum-told .given .1) (c .before .before .put-tile .ensures)
+same-length-2 : tie.Need-same-length-2
+same-length-2 c = search needs
 
 returns-2 : tie.Need-returns-2
 returns-2 c =
-    let a = c .before .before .before .before .before .before .before .before .before .args in
-    stopped (now (a .words)) (now (a .segments)) (a .t) (a .width) (a .tx) (a .ty) (now (a .pixels)) _ _ _ (c .before .before .before .before .before .no-colour .ensures) (c .before .before .before .run .ensures) _ (c .before .v .given .1)
+    let a = c .before .before .before .before .before .before .before .before .before .before .before .before .before .before .before .before .before .args in
+    let o = c .before .before .before .before .before .before .before .before .before .before .before .before .begin .result in
+    let e = goes-on (now (a .words)) (now (a .segments)) (a .t) (o .at) (o .count) (o .area) (c .before .before .before .before .before .before .before .before .before .before .before .before .begin .last .1 .1 .1 .0) (c .before .before .before .before .before .before .before .before .before .before .before .before .begin .ensures .1) _ _ _ (c .before .before .before .before .before .before .before .before .before .same-colour .ensures) (c .before .before .before .before .before .before .before .run .ensures) in
+    done (now (a .words)) (now (a .segments)) (a .t) (a .width) (a .tx) (a .ty) (now (a .pixels)) _ _ noColour refl e _ (c .before .before .before .before .before .enum-told .given .1) (c .before .before .put-tile .ensures)
+
+returns-3 : tie.Need-returns-3
+returns-3 c =
+    let a = c .before .before .before .before .before .before .before .before .before .before .before .before .before .args in
+    let o = c .before .before .before .before .before .before .before .before .begin .result in
+    let e = goes-on (now (a .words)) (now (a .segments)) (a .t) (o .at) (o .count) (o .area) (c .before .before .before .before .before .before .before .before .begin .last .1 .1 .1 .0) (c .before .before .before .before .before .before .before .before .begin .ensures .1) _ _ _ (c .before .before .before .before .before .same-colour .ensures) (c .before .before .before .run .ensures) in
+    stopped (now (a .words)) (now (a .segments)) (a .t) (a .width) (a .tx) (a .ty) (now (a .pixels)) _ _ noColour refl e _ (c .before .v .given .1)
 
 pub tile-spec : {M : Type 1} → statement M
 tile-spec =
     tie.close
     (tie.spec
-    no-colour-requires
     mul-start
     add-start
+    begin-requires
+    ends-at-requires
+    pack-requires
+    fill-tile-requires
+    same-length
+    returns
+    same-colour-requires
     run-requires
     enum-told
     put-tile-requires
     enum-known-v
-    same-length
-    returns
-    returns-2)
+    same-length-2
+    returns-2
+    returns-3)

@@ -1,0 +1,51 @@
+-- Pixels that are alike: until its first FILL a tile has one colour and one area, so that its commands run on one pixel for all. Only proofs lean
+-- on this: no promise of a public call does. Definitions only.
+use mathlib.Core.Bool.{Bool, true, false}
+use mathlib.Core.List.{List}
+use Prim.Native.Nat.{ℕ}
+use lib.Dec.{eqb}
+use lib.ListN.{replicate}
+use lib.Ieee.{Float}
+use Rattle.util.specs.Constants.{one}
+use Rattle.lists.specs.Grid.{mapi}
+use Rattle.coverage.specs.Tile.{tileSize}
+use Rattle.reader.specs.Look.{lookAt}
+use Rattle.reader.specs.declared.Look.{Look}
+use Rattle.reader.specs.declared.Look.the-variants.{Word, Past}
+use Rattle.commands.specs.Numbers.{endNo}
+use Rattle.commands.specs.Moves.{Trace, endOf}
+use Rattle.commands.specs.Pixel.{point, pointOf, Ran, ran}
+use Rattle.commands.specs.declared.steps.Act.{Act}
+use Rattle.commands.specs.declared.steps.Act.the-variants.{Fill, Solid, Color, Jump}
+
+-- whether a command leaves pixels alike that were, and the area that all have then
+abbrev pub alike : Act → Bool
+alike (Fill rule first backdrop) = false
+alike Solid = true
+alike (Color word) = true
+alike Jump = true
+
+abbrev pub coverOne : Act → Float → Float
+coverOne (Fill rule first backdrop) a = a
+coverOne Solid a = one
+coverOne (Color word) a = a
+coverOne Jump a = a
+
+-- a tile's areas, and its colours, all the same. Shut, so that a goal does not write out all of them
+unfoldable pub sameArea : Float → List Float
+sameArea a = replicate tileSize a
+
+unfoldable pub sameColour : List Float → List (List Float)
+sameColour c = replicate tileSize c
+
+-- these commands over the colours there are, each pixel's area a at first
+unfoldable pub runFrom : List Float → Trace → Float → List (List Float) → Ran
+runFrom segments t a rgba = ran (endOf t) (mapi (λ k colour. pointOf segments k t (point a colour) .colour) rgba)
+
+-- whether END stands at a place
+abbrev pub isEnd : Look → Bool
+isEnd (Word w) = eqb w endNo
+isEnd Past = false
+
+abbrev pub endsHere : List ℕ → ℕ → Bool
+endsHere words at = isEnd (lookAt words at)
