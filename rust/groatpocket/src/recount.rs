@@ -30,7 +30,7 @@ impl core::error::Error for RecountStopped {}
 /// use groatpocket::{count, recount, Refusal, Running, PATH_WORDS};
 /// // Path 0: a box of two by two tiles, from tile 0 on.
 /// let mut paths = [0; PATH_WORDS];
-/// (paths[2], paths[3]) = (2, 2);
+/// paths[..4].copy_from_slice(&[0, 0, 2, 2]);
 /// let (mut backdrops, mut counts, mut refs) = ([0; 4], [0; 4], [0; 8]);
 /// count(
 ///     Running::default(), 1, &[0], &[8.0, 8.0, 8.0, 24.0], &paths, &mut backdrops, &mut counts, &mut refs,
