@@ -11,7 +11,7 @@ use lib.ListN.{getD, replicate}
 use lib.Ieee.{Float, nan, binary32, ofBits, isNan}
 use Rattle.util.specs.Constants as Number
 use Rattle.lists.specs.Grid.{tabFrom}
-use Rattle.panel.specs.Refusals.{notWhole, noRoom, noSuch, badSize, badFile, badText}
+use Rattle.panel.specs.Refusals.{notWhole, noRoom, noSuch, badSize, badFile}
 use Rattle.panel.specs.Kinds.{runningOf}
 use Rattle.panel.specs.declared.kinds.Answer.{Answer}
 use Rattle.panel.specs.declared.kinds.Answer.the-variants.{Done, Refused}
@@ -43,6 +43,7 @@ use Rattle.ppm_read.specs.Header.{numberFrom, headerOf}
 use Rattle.ppm_read.specs.Read.{readOf, ReadMet}
 use Rattle.ppm_read.specs.declared.Answer as Read
 use Rattle.ppm_read.specs.declared.Answer.the-variants as Reading
+use Rattle.panel.specs.Refusals.{badText}
 use Rattle.svg.specs.Lines.{LinesMet}
 use Rattle.svg.specs.declared.Answer as Svg
 use Rattle.svg.specs.declared.Answer.the-variants as Drawing
