@@ -2,7 +2,7 @@
 // laid over a tile's pixels, and packed for the screen. fine.rs, lines 34 to 49 and 153 to 165;
 // docs/RULES.md, "Coverage and colour".
 use coverage::tile::TILE_SIZE;
-use util::pick;
+use float32::pick;
 ghost use mathlib.Core.Path.{_≡_};
 ghost use Prim.Native.Nat.{_<_};
 ghost use lib.ListN.{length};

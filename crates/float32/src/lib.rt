@@ -22,9 +22,9 @@ pub fn abs(x: f32) -> f32
     }
 }
 
-// `if t { x } else { y }`, as a call: the choice becomes no branch, since which of two numbers is the
-// smaller can't be foretold.
-fn pick(t: bool, x: f32, y: f32) -> f32
+// `if t { x } else { y }`, as a call: what makes the choice has no branches that meet, in its proof and in the
+// compiled code; which of two numbers is the smaller can't be foretold.
+pub fn pick(t: bool, x: f32, y: f32) -> f32
     ensures { λ r. ⌜ r ≡ cond t x y ⌝ }
 {
     if t { x } else { y }

@@ -6,10 +6,10 @@ ghost use Prim.Native.Nat.{_≤_, _<_};
 ghost use Rattle.panel.specs.Limits.{edgeMost};
 ghost use Rattle.panel.specs.Widths.{stepRange};
 ghost use Rattle.segment.specs.Clips.{cornerOf, farOf, atRowOf, atColOf, clipOf, makeOf, edgeOf, offOf, turnOf, firstOf, lastOf, segmentOf, pieceOf};
+use float32::pick;
 use panel::segments::Segment;
 use panel::segments::held;
 use util::Vec2;
-use util::pick;
 use walk::kinds::Walk;
 
 // path_tiling.rs: what a clipped end keeps from its tile's left or top edge, what an end on a whole

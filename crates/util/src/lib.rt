@@ -1,7 +1,6 @@
 // What the stages use of util.rs: Vec2 with its operators as methods by value, `span`, and the
 // constants of util.rs and of the tile; and the choice of two floats as a call. The definitions stand in specs/.
 ghost use mathlib.Core.Path.{_≡_};
-ghost use mathlib.Core.Bool.{cond};
 ghost use Rattle.util.specs.Vec.{newOf, addOf, subOf, scaleOf};
 ghost use Rattle.util.specs.Span.{spanOf};
 ghost use Rattle.util.specs.Constants.{oneMinusUlp, robustEpsilon, tileScale, tileSide};
@@ -100,12 +99,4 @@ pub fn span(a: f32, b: f32) -> u32
         float32::ceil(float32::max(a, b)) - float32::floor(float32::min(a, b)),
         1.0,
     ))
-}
-
-// `if t { x } else { y }`: a choice as a call, so that what makes it has no branches that meet, in its proof and
-// in the compiled code.
-pub fn pick(t: bool, x: f32, y: f32) -> f32
-    ensures { λ r. ⌜ r ≡ cond t x y ⌝ }
-{
-    if t { x } else { y }
 }

@@ -4,7 +4,7 @@ ghost use mathlib.Core.Bool.{cond};
 ghost use Rattle.walk.specs.Num.{cutOf, negOf, insideOf, rowOf};
 use util::Vec2;
 
-// `if t { x } else { y }`, of two points and of two tests; of two floats it is `util::pick`.
+// `if t { x } else { y }`, of two points and of two tests; of two floats it is `float32::pick`.
 pub fn pick_vec(t: bool, p: Vec2, q: Vec2) -> Vec2
     ensures { λ r. ⌜ r ≡ cond t p q ⌝ }
 {

@@ -19,6 +19,7 @@ use super::kinds::Pace;
 use super::kinds::Slope;
 use super::kinds::Walk;
 use super::kinds::Walked;
+use float32::pick;
 use panel::kinds::Path;
 use panel::limits::COORD_MOST;
 use panel::lines::line_at;
@@ -30,7 +31,6 @@ use util::ONE_MINUS_ULP;
 use util::ROBUST_EPSILON;
 use util::TILE_SCALE;
 use util::Vec2;
-use util::pick;
 
 // Check 6: all four coordinates are finite and of magnitude up to the limit.
 pub fn reached(p0: Vec2, p1: Vec2) -> bool
