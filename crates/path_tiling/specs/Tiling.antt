@@ -62,19 +62,6 @@ slotsOf floats = min (floats / segmentFloats) mostSlots
 abbrev pub applied : List Write → List Float → List Float
 applied ws segs = actAll (λ w. putOf (w .slot) (w .segment)) ws segs
 
--- one reference: the verdict on it, and the segments afterwards
-pub record One : Type 0 where
-  pub verdict : Verdict
-  pub segments : List Float
-
-abbrev pub one : Verdict → List Float → One
-one v segs = record { verdict = v; segments = segs }
-
-abbrev pub oneOf : Look → List Float → One
-oneOf (Put slot s) segs = one Verdict.Fine (putOf (slot .0) s segs)
-oneOf Empty segs = one Verdict.Fine segs
-oneOf (Against why) segs = one (Verdict.Against why) segs
-
 -- refusal 1, by the lengths lent
 unfoldable pub wholeOf : (from to lines coords paths refs segs : ℕ) → Bool
 wholeOf from to lines coords paths refs segs =
@@ -92,13 +79,6 @@ checksOf from to L segs =
     cond (wholeOf from to (length (L .pathNos)) (length (L .coords)) (length (L .paths)) (length (L .refs)) (length segs))
     (pathsAnswer (L .paths) (length (L .stored)))
     (Refused notWhole 0)
-
--- what is known of the lent once it is checked
-pub record Ready (from to : ℕ) (L : Lent) : Type 0 where
-  pub forward : from ≤ to
-  pub there : to ≤ length (L .refs) / refWords
-  pub lines : length (L .pathNos) * lineFloats ≤ length (L .coords)
-  pub paths : pathsAnswer (L .paths) (length (L .stored)) ≡ Done
 
 -- where that refuses, nothing is written
 abbrev pub checkedThen : Answer → Range → Range
@@ -127,7 +107,27 @@ tiledOf from to L segs = rangeTiled (callOf from to L segs) segs
 abbrev pub TileMet : ℕ → ℕ → Lent → (segs : List Float) → Answer → (segs′ : List Float) → Type 0
 TileMet from to L segs r segs′ = tiled r segs′ ≡ tiledOf from to L segs
 
--- ---- what the laws of proofs/WriteLaws.antt speak of
+-- ---- Only proofs lean on this: what the inner functions' contracts and the laws of proofs/WriteLaws.antt speak of. No promise of a public call does.
+
+-- what is known of the lent once it is checked
+pub record Ready (from to : ℕ) (L : Lent) : Type 0 where
+  pub forward : from ≤ to
+  pub there : to ≤ length (L .refs) / refWords
+  pub lines : length (L .pathNos) * lineFloats ≤ length (L .coords)
+  pub paths : pathsAnswer (L .paths) (length (L .stored)) ≡ Done
+
+-- one reference: the verdict on it, and the segments afterwards
+pub record One : Type 0 where
+  pub verdict : Verdict
+  pub segments : List Float
+
+abbrev pub one : Verdict → List Float → One
+one v segs = record { verdict = v; segments = segs }
+
+abbrev pub oneOf : Look → List Float → One
+oneOf (Put slot s) segs = one Verdict.Fine (putOf (slot .0) s segs)
+oneOf Empty segs = one Verdict.Fine segs
+oneOf (Against why) segs = one (Verdict.Against why) segs
 
 -- one range after another: the second is tiled only where the first was not refused
 abbrev pub thenOn : Answer → List Write → Range → Range
