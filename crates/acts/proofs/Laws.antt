@@ -20,7 +20,33 @@ use Rattle.panel.specs.declared.kinds.Verdict.{Verdict}
 use Rattle.panel.specs.declared.kinds.Verdict.the-variants.{Fine, Against}
 use Rattle.panel.specs.Signed.{inI32}
 use Rattle.panel.proofs.BoolLaws.{both}
-use Rattle.acts.specs.Acts.{St, stOf, Act, mark, visit, stop, Hit, on, off, rowActs, crossActs, stepActs, stepsActs, marked, packed, visited, takeIf, act, runActs, orElse, fineIf, actNo, checkNo, isDone, verdictOf}
+use Rattle.acts.specs.Acts.{
+  St,
+  stOf,
+  Act,
+  mark,
+  visit,
+  stop,
+  Hit,
+  on,
+  off,
+  rowActs,
+  crossActs,
+  stepActs,
+  stepsActs,
+  marked,
+  packed,
+  visited,
+  takeIf,
+  act,
+  runActs,
+  orElse,
+  fineIf,
+  actNo,
+  checkNo,
+  isDone,
+  verdictOf,
+}
 use Rattle.acts.specs.Rows.{RowsIn}
 use Rattle.acts.specs.declared.rows.Rows.{Rows}
 

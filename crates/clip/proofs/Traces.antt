@@ -63,7 +63,8 @@ two = boxed 0 0 2 2 0
 
 -- names all that a trace computes with
 unfoldable computing : ℕ
-unfolding add sub mul div neg le lt eq ne ofInt ofBits toSigned toUnsigned isNan floorOf ceilOf roundOf absOf minOf maxOf signed signOf spanOf coordMost pathAt cutOf insideOf rowOf endsOf lineOf flatOf pastOf zAt tileIn stepOf crossesAt lineAt walkedOf walkAt clippedOf stepsFrom
+unfolding add sub mul div neg le lt eq ne ofInt ofBits toSigned toUnsigned isNan floorOf ceilOf roundOf absOf minOf maxOf signed signOf spanOf coordMost pathAt
+    cutOf insideOf rowOf endsOf lineOf flatOf pastOf zAt tileIn stepOf crossesAt lineAt walkedOf walkAt clippedOf stepsFrom
 computing = 0
 
 -- (8,8)-(8,24): two steps, and the second marks the tile right of it

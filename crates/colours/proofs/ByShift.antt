@@ -107,7 +107,8 @@ none-off r h = sub-zero r h
 
 stepped-rounds : (x : Float) → Plus 255 x → stepped x ≡ roundOf x
 unfolding ofBits
-stepped-rounds x p = subst (λ (z : Float). stepped z ≡ roundOf z) (sym (p .is)) (go y (round-near (p .m) (p .e) (p .fit) (omega (arith, p .most, down-pos (p .e)))) (le (halves.half false) (sub binary32 y (even y))) refl)
+stepped-rounds x p = subst (λ (z : Float). stepped z ≡ roundOf z) (sym (p .is))
+    (go y (round-near (p .m) (p .e) (p .fit) (omega (arith, p .most, down-pos (p .e)))) (le (halves.half false) (sub binary32 y (even y))) refl)
   where
     y : Float
     y = fin false (p .m) (p .e)

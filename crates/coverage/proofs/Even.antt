@@ -3,7 +3,28 @@ use mathlib.Core.Path.{_≡_, refl, sym, ap, subst, _∙_}
 use mathlib.Core.Bool.{Bool, true, false, not, cond, _&&_, _||_}
 use mathlib.Core.Logic.{_⊎_, inl, inr, ⊎-elim}
 use Prim.Native.Nat.{ℕ, zero, suc, _+_, _-_, _*_, _%_, _^_, _<_, _≤_, zero-le}
-use native.Mathlib.Nat.{zero-mul, add-mul, eq-of-mul-eq-mul-right, le-mul-of-pos-right, div-eq-of-lt, div-add-mod, mod-lt, div-eq-of-lt-le, lt-of-lt-of-le, mul-comm, mul-assoc, mul-right-comm, mul-left-comm, mul-one, one-mul, le-trans, le-of-eq, mul-le-mul-right, le-of-mul-le-mul-right, mul-pos}
+use native.Mathlib.Nat.{
+  zero-mul,
+  add-mul,
+  eq-of-mul-eq-mul-right,
+  le-mul-of-pos-right,
+  div-eq-of-lt,
+  div-add-mod,
+  mod-lt,
+  div-eq-of-lt-le,
+  lt-of-lt-of-le,
+  mul-comm,
+  mul-assoc,
+  mul-right-comm,
+  mul-left-comm,
+  mul-one,
+  one-mul,
+  le-trans,
+  le-of-eq,
+  mul-le-mul-right,
+  le-of-mul-le-mul-right,
+  mul-pos,
+}
 use native.Mathlib.Omega.{arith}
 use lib.Dec.{T, leb, ltb, eqb, ltb→lt}
 use native.Mathlib.Numerals.{add-one}
@@ -140,7 +161,21 @@ away-value (fin t m e) s a c p v =
   where
     cross : (x de a c : ℕ) → x * c ≡ a * de → (x * 2 + de) * (c * 2) ≡ (a * 2 + c) * (de * 2)
     cross x de a c h =
-        omega (arith, add-mul (x * 2) de (c * 2), mul-right-comm x 2 (c * 2), mul-assoc x c 2, ap (λ (z : ℕ). z * 2) (mul-assoc x c 2), mul-assoc de c 2, add-mul (a * 2) c (de * 2), mul-right-comm a 2 (de * 2), mul-assoc a de 2, ap (λ (z : ℕ). z * 2) (mul-assoc a de 2), mul-assoc c de 2, ap (λ (z : ℕ). z * 2) (mul-comm de c))
+        omega (
+          arith,
+          add-mul (x * 2) de (c * 2),
+          mul-right-comm x 2 (c * 2),
+          mul-assoc x c 2,
+          ap (λ (z : ℕ). z * 2) (mul-assoc x c 2),
+          mul-assoc de c 2,
+          add-mul (a * 2) c (de * 2),
+          mul-right-comm a 2 (de * 2),
+          mul-assoc a de 2,
+          ap (λ (z : ℕ). z * 2) (mul-assoc a de 2),
+          mul-assoc c de 2,
+          ap
+              (λ (z : ℕ). z * 2) (mul-comm de c),
+        )
 
 abbrev pub withSign : Bool → Float → Float
 withSign s nan = nan
@@ -304,8 +339,10 @@ small-case s m e t p u a b =
     let d5 : R ≤ R * D = le-mul-of-pos-right R dp in
     let r-small : R < 16777216 = omega arith in
     let vy : HasValue (mul binary32 twoF (round binary32 s R 1)) s (2 * R) 1 =
-    twice (round binary32 s R 1) s R R 150 r-small (lt-of-lt-of-le (shl-lt 24 150 r-small) (lit≤ tt)) (ap (λ (z : ℕ). z * 2 ^ 149) (mul-comm 2 R) ∙ mul-assoc R 2 (2 ^ 149)) (round-whole binary32 s R (omega arith)) in
-    rest s m e h (mul binary32 twoF (round binary32 s R 1)) R (half-is s m e ∙ ap (λ (x : ℕ). round binary32 s x (2 * D)) (one-mul N)) (ap (mul binary32 twoF) (away-value h s N (2 * D) (omega arith) vh)) vy (omega arith) (omega arith)
+    twice (round binary32 s R 1) s R R 150 r-small (lt-of-lt-of-le (shl-lt 24 150 r-small) (lit≤ tt))
+    (ap (λ (z : ℕ). z * 2 ^ 149) (mul-comm 2 R) ∙ mul-assoc R 2 (2 ^ 149)) (round-whole binary32 s R (omega arith)) in
+    rest s m e h (mul binary32 twoF (round binary32 s R 1)) R (half-is s m e ∙ ap (λ (x : ℕ). round binary32 s x (2 * D)) (one-mul N))
+    (ap (mul binary32 twoF) (away-value h s N (2 * D) (omega arith) vh)) vy (omega arith) (omega arith)
 
 -- `omega` stops at numbers of more than 38 digits, so these are stated by themselves
 halve : (M B : ℕ) → 2 * M < 2 * B → M < B
@@ -335,7 +372,8 @@ large-case s m k a b =
     let b149 : m * 2 ^ (k + 149) < 2 ^ 277 = subst (λ (z : ℕ). z < 2 ^ 277) (sym e149) (lt-of-lt-of-le (shl-lt 127 149 small) (lit≤ tt)) in
     let b150 : m * 2 ^ (k + 150) < 2 ^ 277 = subst (λ (z : ℕ). z < 2 ^ 277) (sym e150) (shl-lt 127 150 small) in
     let h = round binary32 s N 2 in
-    let vh : HasValue h s N 2 = round-exact binary32 s N 2 m (k + 149) (lit< tt) a b149 (ap (λ (z : ℕ). z * 2 ^ 149) twice-M ∙ mul-assoc 2 M (2 ^ 149) ∙ ap (λ (z : ℕ). 2 * z) (sym e149) ∙ mul-comm 2 (m * 2 ^ (k + 149))) in
+    let vh : HasValue h s N 2 = round-exact binary32 s N 2 m (k + 149) (lit< tt) a b149
+    (ap (λ (z : ℕ). z * 2 ^ 149) twice-M ∙ mul-assoc 2 M (2 ^ 149) ∙ ap (λ (z : ℕ). 2 * z) (sym e149) ∙ mul-comm 2 (m * 2 ^ (k + 149))) in
     let R = near-div N 2 in
     let whole : R ≡ M = div-eq-of-lt-le {k = M} 4 {m = N * 2 + 2} (quarter-lo M N twice-M) (quarter-hi M N twice-M) in
     let vr : HasValue (round binary32 s M 1) s M 1 = round-exact binary32 s M 1 m (k + 149) (lit< tt) a b149 (sym e149 ∙ sym (mul-one (m * 2 ^ (k + 149)))) in

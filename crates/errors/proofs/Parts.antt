@@ -7,7 +7,23 @@ use mathlib.Core.Path.{_≡_, refl, sym, ap, _∙_, subst}
 use mathlib.Core.Bool.{Bool, true, false, not, cond, true≢false, false≢true}
 use mathlib.Core.Logic.{_⊎_, inl, inr}
 use Prim.Native.Nat.{ℕ, zero, suc, _+_, _-_, _*_, _^_, _≤_, _<_}
-use native.Mathlib.Nat.{le-trans, le-of-eq, lt-of-lt-of-le, lt-irrefl, mul-one, one-mul, zero-mul, mul-assoc, mul-comm, mul-left-comm, mul-right-comm, mul-mul-mul-comm, mul-pos, add-mul, mul-le-mul-right}
+use native.Mathlib.Nat.{
+  le-trans,
+  le-of-eq,
+  lt-of-lt-of-le,
+  lt-irrefl,
+  mul-one,
+  one-mul,
+  zero-mul,
+  mul-assoc,
+  mul-comm,
+  mul-left-comm,
+  mul-right-comm,
+  mul-mul-mul-comm,
+  mul-pos,
+  add-mul,
+  mul-le-mul-right,
+}
 use native.Mathlib.Omega.{arith}
 use lib.Dec.{T, ltb, eqb, lit<}
 use lib.IntN.{ℤ, pos, negsuc}
@@ -80,7 +96,8 @@ le-parts (fin false a e) (fin false b d) n m v w h =
 pub round-above : (x : Float) (n a c : ℕ) → T (fits binary32 x) → Is x n → 0 < c → n * c ≤ a * parts → T (finite (round binary32 false a c)) → n ≤ grid binary32 a c
 round-above x n a c h v C l f =
     le-parts x (round binary32 false a c) n (grid binary32 a c) v (round-parts a c f)
-    (subst (λ (y : Float). le y (round binary32 false a c) ≡ true) (parts-round x n h v) (is-true (le (round binary32 false n parts) (round binary32 false a c)) (round-mono binary32 n parts a c parts-pos C l)))
+    (subst (λ (y : Float). le y (round binary32 false a c) ≡ true) (parts-round x n h v)
+    (is-true (le (round binary32 false n parts) (round binary32 false a c)) (round-mono binary32 n parts a c parts-pos C l)))
 
 -- ---- sums
 sums : (A D B E P n m : ℕ) → A * P ≡ n * D → B * P ≡ m * E → (A * E + B * D) * P ≡ (n + m) * (D * E)

@@ -77,7 +77,8 @@ abs-of-signed s (fin t m e) = refl
 
 pub small-round : (s : Bool) (a c N : ℕ) → 0 < c → N ≤ 2 ^ 24 → a ≤ N * c → Small (round binary32 s a c) N
 small-round s a c N C b h =
-    let r : le (round binary32 false a c) (whole false N) ≡ true = is-true (le (round binary32 false a c) (whole false N)) (round-mono binary32 a c N 1 C (lit< tt) (le-trans (le-of-eq (mul-one a)) h)) in
+    let r : le (round binary32 false a c) (whole false N) ≡ true = is-true (le (round binary32 false a c) (whole false N))
+    (round-mono binary32 a c N 1 C (lit< tt) (le-trans (le-of-eq (mul-one a)) h)) in
     let e : absOf (round binary32 s a c) ≡ round binary32 false a c =
     ap absOf (round-signed s a c) ∙ abs-of-signed s (round binary32 false a c) ∙ sym (round-signed false a c) in
     small-of-le (round binary32 s a c) N b (subst (λ (y : Float). le y (whole false N) ≡ true) (sym e) r)
@@ -289,7 +290,8 @@ span-small N few some a b f g h k =
     let d = sub binary32 (ceilOf u) (floorOf v) in
     let n = ceilZ u -ℤ floorZ v in
     let c : natAbs n ≤ N + N = omega (arith, abs-sum (ceilZ u) (negℤ (floorZ v)), abs-neg (floorZ v), ceil-small u N hu, floor-small v N hv) in
-    let w : IsWhole d n = sub-whole (ceilOf u) (floorOf v) (ceilZ u) (floorZ v) (ceil-whole u (max-fits a b f g) (small-finite u N hu)) (floor-whole v (min-fits a b f g) (small-finite v N hv)) (omega arith) in
+    let w : IsWhole d n = sub-whole (ceilOf u) (floorOf v) (ceilZ u) (floorZ v) (ceil-whole u (max-fits a b f g) (small-finite u N hu))
+    (floor-whole v (min-fits a b f g) (small-finite v N hv)) (omega arith) in
     cast-most (maxOf d one) (N + N) (max-small d one (N + N) (whole-small d n (N + N) w c) (one-small (N + N) (omega arith)))
 
 -- of checked coordinates

@@ -5,7 +5,22 @@ use mathlib.Core.Path.{_≡_, refl, sym, ap, _∙_, subst}
 use mathlib.Core.Bool.{Bool, true, false, not, cond, true≢false}
 use mathlib.Core.Logic.{_⊎_, inl, inr}
 use Prim.Native.Nat.{ℕ, suc, _+_, _-_, _*_, _^_, _≤_, _<_}
-use native.Mathlib.Nat.{le-trans, le-of-eq, le-antisymm, lt-of-lt-of-le, lt-irrefl, mul-one, mul-assoc, mul-right-comm, mul-pos, mul-le-mul-right, mul-lt-mul-of-pos-right, le-of-mul-le-mul-right, div-add-mod', mod-lt}
+use native.Mathlib.Nat.{
+  le-trans,
+  le-of-eq,
+  le-antisymm,
+  lt-of-lt-of-le,
+  lt-irrefl,
+  mul-one,
+  mul-assoc,
+  mul-right-comm,
+  mul-pos,
+  mul-le-mul-right,
+  mul-lt-mul-of-pos-right,
+  le-of-mul-le-mul-right,
+  div-add-mod',
+  mod-lt,
+}
 use native.Mathlib.Omega.{arith}
 use lib.Dec.{T, lit<}
 use lib.Pow.{pow-add, pow-pos, pow-lt, pow-mono, shl-lt}

@@ -88,7 +88,8 @@ one-more : (i : Bool) (r y old : ℕ) (f : ℕ → ℕ) → cond (i && eqb r y) 
 one-more false r y old f = refl
 one-more true r y old f =
     ⊎-elim
-    (λ (h : y ≤ r). ⊎-elim (λ (e : y ≡ r). rw (eq-eqb r y (sym e), le-ltb r y h, lt-ltb r (y + 1) (omega arith))) (λ (l : y < r). rw (ne-eqb r y (λ (e : r ≡ y). omega arith), le-ltb r y h, le-ltb r (y + 1) (omega arith))) (eq-or-lt-of-le h))
+    (λ (h : y ≤ r). ⊎-elim (λ (e : y ≡ r). rw (eq-eqb r y (sym e), le-ltb r y h, lt-ltb r (y + 1) (omega arith)))
+    (λ (l : y < r). rw (ne-eqb r y (λ (e : r ≡ y). omega arith), le-ltb r y h, le-ltb r (y + 1) (omega arith))) (eq-or-lt-of-le h))
     (λ (h : r < y). rw (ne-eqb r y (λ (e : r ≡ y). omega arith), lt-ltb r y h, lt-ltb r (y + 1) (omega arith)))
     (le-or-lt y r)
 

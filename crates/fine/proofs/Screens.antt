@@ -62,7 +62,8 @@ module _ (ws : List ℕ) (segs : List Float) (w cols rows : ℕ) where
   unfolding fineOf
   went a b pixels mid e = go (firstNo (fineChecks (length segs) w cols rows a b (length pixels))) refl (tilesOf ws segs w cols a b pixels) refl e
     where
-      go : (v : Verdict) → firstNo (fineChecks (length segs) w cols rows a b (length pixels)) ≡ v → (r : Ran (List ℕ) No) → tilesOf ws segs w cols a b pixels ≡ r → unlessNo v pixels (shownOf r) ≡ shown Done mid
+      go : (v : Verdict) → firstNo (fineChecks (length segs) w cols rows a b (length pixels)) ≡ v → (r : Ran (List ℕ) No) → tilesOf ws segs w cols a b pixels ≡
+          r → unlessNo v pixels (shownOf r) ≡ shown Done mid
           → (firstNo (fineChecks (length segs) w cols rows a b (length pixels)) ≡ Fine) × (tilesOf ws segs w cols a b pixels ≡ done mid)
       go Fine p (done x) q f = (p, q ∙ ap done (ap (λ (s : Shown). s .pixels) f))
       go Fine p (refused x why) q f = let z : _≡_ {A = ℕ} 0 1 = clash _ _ _ (ap (λ (s : Shown). s .answer) f) in absurd (omega arith)
@@ -83,8 +84,10 @@ module _ (ws : List ℕ) (segs : List Float) (w cols rows : ℕ) where
       let ok = all-ok (fineChecks (length segs) w cols rows a b (length pixels)) (g .0) in
       let p : a ≤ b = leb-true a b (ok .1 .0) in
       let n : length mid ≡ length pixels = ap (λ (r : Ran (List ℕ) No). length (left r)) (sym (g .1)) ∙ tiles-length ws segs w cols a b pixels in
-      let r : tilesOf ws segs w cols a c pixels ≡ tilesOf ws segs w cols b c mid = two-ranges ws segs w cols a b c pixels p h ∙ ap (λ (x : Ran (List ℕ) No). andThen x (tilesOf ws segs w cols b c)) (g .1) in
+      let r : tilesOf ws segs w cols a c pixels ≡ tilesOf ws segs w cols b c mid = two-ranges ws segs w cols a b c pixels p h ∙ ap
+      (λ (x : Ran (List ℕ) No). andThen x (tilesOf ws segs w cols b c)) (g .1) in
       let u : firstNo (fineChecks (length segs) w cols rows a c (length pixels)) ≡ Fine = passes a b a c (length pixels) (g .0) (le-trans p h) k in
       let v : firstNo (fineChecks (length segs) w cols rows b c (length mid)) ≡ Fine =
       ap (λ (m : ℕ). firstNo (fineChecks (length segs) w cols rows b c m)) n ∙ passes a b b c (length pixels) (g .0) h k in
-      ap (λ (x : Verdict). unlessNo x mid (shownOf (tilesOf ws segs w cols b c mid))) v ∙ ap shownOf (sym r) ∙ sym (ap (λ (x : Verdict). unlessNo x pixels (shownOf (tilesOf ws segs w cols a c pixels))) u)
+      ap (λ (x : Verdict). unlessNo x mid (shownOf (tilesOf ws segs w cols b c mid))) v ∙ ap shownOf (sym r) ∙ sym
+      (ap (λ (x : Verdict). unlessNo x pixels (shownOf (tilesOf ws segs w cols a c pixels))) u)

@@ -109,7 +109,8 @@ pub fn tile(
     pixels: &mut [u32],
 ) -> Verdict
     requires { ⌜ (t < mostTiles) × (tx < mostTiles) × (ty < mostTiles) × (tileWidth * tx + tileWidth ≤ width) × (width * (tileHeight * ty + tileHeight) ≤ length (now pixels)) ⌝ }
-    ensures { λ r. ⌜ (r ≡ endsAt (now (words .entry)) (now (segments .entry)) t) × (now (pixels .exit) ≡ tilePixels (now (words .entry)) (now (segments .entry)) t width tx ty (now (pixels .entry))) ⌝ }
+    ensures { λ r. ⌜ (r ≡ endsAt (now (words .entry)) (now (segments .entry)) t) ×
+        (now (pixels .exit) ≡ tilePixels (now (words .entry)) (now (segments .entry)) t width tx ty (now (pixels .entry))) ⌝ }
 {
     let mut px = [0.0f32; 4];
     let start = TILE_WORDS * t + LIST_START;

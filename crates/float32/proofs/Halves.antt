@@ -79,7 +79,11 @@ at-part : (m : ℕ) (e : ℤ) (r : Float) → T (fits binary32 (fin false m e)) 
 unfolding truncOf
 at-part m e r h i =
     rw i
-    (record { more = round-up (fin false m e) h; stay = λ f. round-stay (fin false m e) h f (minus-half-below (sub binary32 (fin false m e) (whole false (m * up e / down e))) (m * up e % down e) (down e) (rest-value false m e h)) })
+    (record {
+      more = round-up (fin false m e) h;
+      stay = λ f. round-stay (fin false m e) h f
+          (minus-half-below (sub binary32 (fin false m e) (whole false (m * up e / down e))) (m * up e % down e) (down e) (rest-value false m e h));
+    })
 
 at-next : (m : ℕ) (e : ℤ) (r : Float) (n : ℕ) → T (fits binary32 (fin false m e)) → HasValue r false n 1 → r ≡ whole false (m * up e / down e + 1) → m * up e < n * down e
     → down e ≤ m * up e % down e * 2 → Rounded (fin false m e) r
@@ -176,7 +180,8 @@ round-within (inf false) h l = absurd (false≢true (first (lt (inf false) big) 
 round-within (fin false m e) h l =
     round-near m e h (ltb-true (m * up e) (8388608 * down e) (sym (lt-plus m e big 8388608 (refl, refl)) ∙ first (lt (fin false m e) big) (lt (neg big) (fin false m e)) l))
 round-within (fin true m e) h l =
-    round-near m e (abs-fits (fin true m e) h) (ltb-true (m * up e) (8388608 * down e) (sym (gt-minus m e (neg big) 8388608 (refl, refl)) ∙ second (lt (fin true m e) big) (lt (neg big) (fin true m e)) l))
+    round-near m e (abs-fits (fin true m e) h) (ltb-true (m * up e) (8388608 * down e)
+    (sym (gt-minus m e (neg big) 8388608 (refl, refl)) ∙ second (lt (fin true m e) big) (lt (neg big) (fin true m e)) l))
 
 -- from 2 ^ 23 up there is no fraction
 whole-from : (s : Bool) (m : ℕ) (e : ℤ) → T (fits binary32 (fin s m e)) → 8388608 * down e ≤ m * up e → (n : ℕ) × (m * up e ≡ n * down e)
@@ -201,7 +206,9 @@ unfolding lt neg
 round-far nan h l = unfold roundOf in refl
 round-far (inf s) h l = unfold roundOf in refl
 round-far (fin false m e) h l =
-    far-own false m e h (ltb-false (m * up e) (8388608 * down e) (sym (lt-plus m e big 8388608 (refl, refl)) ∙ left (lt (fin false m e) big) (ltb 0 (1 * 2 ^ 23 * down e + m * up e * 1)) (lt-ltb 0 (1 * 2 ^ 23 * down e + m * up e * 1) (some (down e) (m * up e) (down-pos e))) l))
+    far-own false m e h (ltb-false (m * up e) (8388608 * down e)
+    (sym (lt-plus m e big 8388608 (refl, refl)) ∙ left (lt (fin false m e) big) (ltb 0 (1 * 2 ^ 23 * down e + m * up e * 1))
+    (lt-ltb 0 (1 * 2 ^ 23 * down e + m * up e * 1) (some (down e) (m * up e) (down-pos e))) l))
   where
     some : (D A : ℕ) → 0 < D → 0 < 1 * 2 ^ 23 * D + A * 1
     some D A p = omega arith
@@ -210,7 +217,9 @@ round-far (fin false m e) h l =
     left true b p q = absurd (true≢false (sym p ∙ q))
     left false b p q = refl
 round-far (fin true m e) h l =
-    far-own true m e h (ltb-false (m * up e) (8388608 * down e) (sym (gt-minus m e (neg big) 8388608 (refl, refl)) ∙ right (ltb 0 (m * up e * 1 + 1 * 2 ^ 23 * down e)) (lt (neg big) (fin true m e)) (lt-ltb 0 (m * up e * 1 + 1 * 2 ^ 23 * down e) (some (down e) (m * up e) (down-pos e))) l))
+    far-own true m e h (ltb-false (m * up e) (8388608 * down e)
+    (sym (gt-minus m e (neg big) 8388608 (refl, refl)) ∙ right (ltb 0 (m * up e * 1 + 1 * 2 ^ 23 * down e)) (lt (neg big) (fin true m e))
+    (lt-ltb 0 (m * up e * 1 + 1 * 2 ^ 23 * down e) (some (down e) (m * up e) (down-pos e))) l))
   where
     some : (D A : ℕ) → 0 < D → 0 < A * 1 + 1 * 2 ^ 23 * D
     some D A p = omega arith

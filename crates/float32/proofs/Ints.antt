@@ -5,7 +5,23 @@ use mathlib.Core.Path.{_≡_, refl, sym, ap, _∙_, subst}
 use mathlib.Core.Bool.{Bool, true, false, not, cond, true≢false}
 use mathlib.Core.Logic.{_⊎_, inl, inr}
 use Prim.Native.Nat.{ℕ, zero, suc, _+_, _-_, _*_, _/_, _%_, _^_, _≤_, _<_, compare, Ordering, Ordering·lt, Ordering·eq, Ordering·gt}
-use native.Mathlib.Nat.{eq-or-lt-of-le, le-trans, le-of-eq, lt-of-lt-of-le, lt-of-le-of-lt, lt-of-not-le, not-le-of-lt, one-mul, mul-comm, mul-assoc, div-one, mul-le-mul-right, mul-lt-mul-of-pos-right, le-div-iff-mul-le, div-lt-iff-lt-mul}
+use native.Mathlib.Nat.{
+  eq-or-lt-of-le,
+  le-trans,
+  le-of-eq,
+  lt-of-lt-of-le,
+  lt-of-le-of-lt,
+  lt-of-not-le,
+  not-le-of-lt,
+  one-mul,
+  mul-comm,
+  mul-assoc,
+  div-one,
+  mul-le-mul-right,
+  mul-lt-mul-of-pos-right,
+  le-div-iff-mul-le,
+  div-lt-iff-lt-mul,
+}
 use native.Mathlib.Omega.{arith}
 use lib.Dec.{T, leb, isLe, isEq, leb→le, nleb→lt, eqb→eq, ltb, lit<, lit≤}
 use lib.Pow.{pow-add, pow-pos, pow-mono, pow-lt, shl-lt, shr-lt}
@@ -105,7 +121,8 @@ module _ (k m : ℕ) (few : k ≤ 8) (l : 2 ^ 23 ≤ m) (u : m ≤ 2 ^ 24) where
           let w : (8388608 + 0) * 2 ^ (151 + k - 1) ≡ m * 2 ^ (k + 149) = rw (j, pow-add 2 1, e) (sym (mul-assoc 8388608 2 (2 ^ (k + 149)))) in
           rw w at v
       go (inr h) =
-          let v : HasValue (ofBits binary32 (bits k m)) false ((8388608 + (m - 8388608)) * 2 ^ (150 + k - 1)) (2 ^ 149) = by-fields (150 + k) (m - 8388608) (omega arith) (omega arith) (omega arith) (omega arith) in
+          let v : HasValue (ofBits binary32 (bits k m)) false ((8388608 + (m - 8388608)) * 2 ^ (150 + k - 1)) (2 ^ 149) = by-fields (150 + k) (m - 8388608)
+          (omega arith) (omega arith) (omega arith) (omega arith) in
           let t : 8388608 + (m - 8388608) ≡ m = omega arith in
           let e : 150 + k - 1 ≡ k + 149 = omega arith in
           rw (t, e) at v
@@ -116,7 +133,8 @@ module _ (n k : ℕ) (leads : 2 ^ (23 + k) ≤ n) (ends : n < 2 ^ (24 + k)) wher
   drop-is : size (n * 2 ^ 149 / 1) - 24 ≡ k + 149
   drop-is =
       let l : 2 ^ (23 + k + 149) ≤ n * 2 ^ 149 / 1 = le-trans (le-of-eq (pow-add 2 (23 + k) 149)) (le-trans (mul-le-mul-right (2 ^ 149) leads) (le-of-eq (sym (div-one (n * 2 ^ 149))))) in
-      let u : n * 2 ^ 149 / 1 < 2 ^ (24 + k + 149) = lt-of-le-of-lt (le-of-eq (div-one (n * 2 ^ 149))) (lt-of-lt-of-le (mul-lt-mul-of-pos-right ends (pow-pos 149)) (le-of-eq (sym (pow-add 2 (24 + k) 149)))) in
+      let u : n * 2 ^ 149 / 1 < 2 ^ (24 + k + 149) = lt-of-le-of-lt (le-of-eq (div-one (n * 2 ^ 149)))
+      (lt-of-lt-of-le (mul-lt-mul-of-pos-right ends (pow-pos 149)) (le-of-eq (sym (pow-add 2 (24 + k) 149)))) in
       let e : 24 + k + 149 ≡ suc (23 + k + 149) = omega arith in
       let z : size (n * 2 ^ 149 / 1) ≡ suc (23 + k + 149) = size-is _ (23 + k + 149) l (rw e at u) in
       omega arith

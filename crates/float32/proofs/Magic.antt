@@ -4,7 +4,38 @@ use mathlib.Core.Path.{_≡_, refl, sym, ap, _∙_, subst}
 use mathlib.Core.Bool.{Bool, true, false, not, _&&_, _||_, Bool·beq, cond, true≢false, false≢true}
 use mathlib.Core.Logic.{_⊎_, inl, inr}
 use Prim.Native.Nat.{ℕ, zero, suc, _+_, _-_, _*_, _/_, _%_, _^_, _≤_, _<_, zero-le, min, compare, Ordering, Ordering·lt, Ordering·eq, Ordering·gt}
-use native.Mathlib.Nat.{sub-zero, div-mul-le-self, div-add-mod', mod-lt, mul-div-cancel, eq-of-mul-eq-mul-right, le-refl, le-trans, le-of-eq, le-of-lt, le-antisymm, lt-of-lt-of-le, lt-of-le-of-lt, lt-irrefl, mul-one, one-mul, mul-assoc, mul-comm, mul-right-comm, mul-pos, mul-sub, add-mul, div-one, div-eq-of-lt-le, le-div-iff-mul-le, div-lt-iff-lt-mul, mul-le-mul-right, mul-lt-mul-of-pos-right, lt-of-mul-lt-mul-right, le-of-mul-le-mul-right}
+use native.Mathlib.Nat.{
+  sub-zero,
+  div-mul-le-self,
+  div-add-mod',
+  mod-lt,
+  mul-div-cancel,
+  eq-of-mul-eq-mul-right,
+  le-refl,
+  le-trans,
+  le-of-eq,
+  le-of-lt,
+  le-antisymm,
+  lt-of-lt-of-le,
+  lt-of-le-of-lt,
+  lt-irrefl,
+  mul-one,
+  one-mul,
+  mul-assoc,
+  mul-comm,
+  mul-right-comm,
+  mul-pos,
+  mul-sub,
+  add-mul,
+  div-one,
+  div-eq-of-lt-le,
+  le-div-iff-mul-le,
+  div-lt-iff-lt-mul,
+  mul-le-mul-right,
+  mul-lt-mul-of-pos-right,
+  lt-of-mul-lt-mul-right,
+  le-of-mul-le-mul-right,
+}
 use native.Mathlib.Omega.{arith}
 use lib.Dec.{T, ltb, eqb, le→leb, lt→ltb, lit<, lit≤}
 use lib.Pow.{pow-pos, pow-mono}
@@ -142,7 +173,8 @@ one-off n y h = taken-off 1 0 n y h
 -- x added
 added-plus : (k j m : ℕ) (e : ℤ) → add binary32 (fin false m e) (shift k j) ≡ round binary32 false (m * up e + k * 2 ^ j * down e) (down e)
 unfolding add sum
-added-plus k j m e = ap (λ (z : ℕ). round binary32 false (z + k * 2 ^ j * down e) (down e * 1)) (mul-one (m * up e)) ∙ ap (λ (z : ℕ). round binary32 false (m * up e + k * 2 ^ j * down e) z) (mul-one (down e))
+added-plus k j m e = ap (λ (z : ℕ). round binary32 false (z + k * 2 ^ j * down e) (down e * 1)) (mul-one (m * up e)) ∙ ap
+    (λ (z : ℕ). round binary32 false (m * up e + k * 2 ^ j * down e) z) (mul-one (down e))
 
 added-minus : (k j m : ℕ) (e : ℤ) → m * up e < k * 2 ^ j * down e → add binary32 (fin true m e) (shift k j) ≡ round binary32 false (k * 2 ^ j * down e - m * up e) (down e)
 unfolding add sum
@@ -421,7 +453,8 @@ floor-least x step h l u w = go (floor-near x h l u) (eq x (near x)) refl w
     from : sub binary32 (near x) step ≡ floorOf x → Least x (sub binary32 (near x) step)
     from i = record { below = λ t. i; level = λ t. floor-own x h (near-finite x l u) (sym (ap (λ (y : Float). lt y x) i) ∙ t) }
 
-    go : Floored x (near x) → (t : Bool) → eq x (near x) ≡ t → ((lt x (near x) ≡ true) × (step ≡ unit false)) ⊎ ((lt x (near x) ≡ false) × (step ≡ fin false 0 (pos 0))) → Least x (sub binary32 (near x) step)
+    go : Floored x (near x) → (t : Bool) → eq x (near x) ≡ t → ((lt x (near x) ≡ true) × (step ≡ unit false)) ⊎
+        ((lt x (near x) ≡ false) × (step ≡ fin false 0 (pos 0))) → Least x (sub binary32 (near x) step)
     go F false e (inl w) = from (ap (sub binary32 (near x)) (w .1) ∙ F .less e (w .0))
     go F false e (inr w) = from (stays F (w .1) ∙ F .more e (w .0))
     go F true e (inl w) = absurd (clash (w .0) (eq-not-lt x (near x) e))

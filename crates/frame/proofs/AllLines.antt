@@ -64,7 +64,8 @@ module _ (nos : List ℕ) (coords : List Float) (paths : List ℕ) (bs : List �
   pub all-lines : counted (runningOf 0 0) (min (length nos) (mostLines + 1)) nos coords paths bs cs rs ≡ counted (runningOf 0 0) (length nos) nos coords paths bs cs rs
   all-lines = go (leb (length nos) (mostLines + 1)) refl
     where
-      go : (b : Bool) → leb (length nos) (mostLines + 1) ≡ b → counted (runningOf 0 0) (min (length nos) (mostLines + 1)) nos coords paths bs cs rs ≡ counted (runningOf 0 0) (length nos) nos coords paths bs cs rs
+      go : (b : Bool) → leb (length nos) (mostLines + 1) ≡ b → counted (runningOf 0 0) (min (length nos) (mostLines + 1)) nos coords paths bs cs rs ≡ counted
+          (runningOf 0 0) (length nos) nos coords paths bs cs rs
       go true q =
           let h = leb-true (length nos) (mostLines + 1) q in
           let e : min (length nos) (mostLines + 1) ≡ length nos = omega arith in

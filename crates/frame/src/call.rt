@@ -59,7 +59,8 @@ pub fn frame(
     refs: &mut [u32],
     segments: &mut [f32],
 ) -> Framed
-    ensures { λ r. ⌜ FrameMet (now («path_nos» .entry)) (now (coords .entry)) (now (paths .entry)) (now (backdrops .entry)) (now (stored .entry)) (now (tally .entry)) (now (refs .entry)) (now (segments .entry))
+    ensures { λ r. ⌜ FrameMet (now («path_nos» .entry)) (now (coords .entry)) (now (paths .entry)) (now (backdrops .entry)) (now (stored .entry))
+        (now (tally .entry)) (now (refs .entry)) (now (segments .entry))
         r (now (backdrops .exit)) (now (stored .exit)) (now (tally .exit)) (now (refs .exit)) (now (segments .exit)) ⌝ }
 {
     let none = Running { lines: 0, refs: 0 };

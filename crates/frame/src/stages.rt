@@ -41,7 +41,8 @@ fn place(
 ) -> Framed
     requires { ⌜ (pathsAnswer (now paths) (length (now stored)) ≡ Done) × (length (now backdrops) ≡ length (now stored)) ⌝ }
     ensures { λ r. ⌜ outOf r (now (backdrops .exit)) (now (stored .exit)) (now (tally .exit)) (now (refs .entry)) (now (segments .exit))
-        ≡ placedOf s (now («path_nos» .entry)) (now (coords .entry)) (now (paths .entry)) (now (backdrops .entry)) (now (stored .entry)) (now (tally .entry)) (now (refs .entry)) (now (segments .entry)) ⌝ }
+        ≡ placedOf s (now («path_nos» .entry)) (now (coords .entry)) (now (paths .entry)) (now (backdrops .entry)) (now (stored .entry)) (now (tally .entry))
+        (now (refs .entry)) (now (segments .entry)) ⌝ }
 {
     let summed = backdrop::backdrop_checked(paths, backdrops);
     if let Answer::Refused(why, item) = summed {
@@ -81,7 +82,8 @@ pub(crate) fn draw(
 ) -> Framed
     requires { ⌜ (pathsAnswer (now paths) (length (now stored)) ≡ Done) × (length (now backdrops) ≡ length (now stored)) ⌝ }
     ensures { λ r. ⌜ outOf r (now (backdrops .exit)) (now (stored .exit)) (now (tally .exit)) (now (refs .exit)) (now (segments .exit))
-        ≡ drawnOf (now («path_nos» .entry)) (now (coords .entry)) (now (paths .entry)) (now (backdrops .entry)) (now (stored .entry)) (now (tally .entry)) (now (refs .entry)) (now (segments .entry)) ⌝ }
+        ≡ drawnOf (now («path_nos» .entry)) (now (coords .entry)) (now (paths .entry)) (now (backdrops .entry)) (now (stored .entry)) (now (tally .entry))
+        (now (refs .entry)) (now (segments .entry)) ⌝ }
 {
     // What an older frame left would be counted on.
     let marks = backdrops.len();

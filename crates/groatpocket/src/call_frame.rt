@@ -58,7 +58,8 @@ pub extern "C" fn gp_frame(
     lines: &mut u32,
     made: &mut u32,
 ) -> u32
-    ensures { λ r. ⌜ GpFrameMet (now («path_nos» .entry)) (now (coords .entry)) (now (paths .entry)) (now (backdrops .entry)) (now (stored .entry)) (now (tally .entry)) (now (refs .entry)) (now (segments .entry))
+    ensures { λ r. ⌜ GpFrameMet (now («path_nos» .entry)) (now (coords .entry)) (now (paths .entry)) (now (backdrops .entry)) (now (stored .entry))
+        (now (tally .entry)) (now (refs .entry)) (now (segments .entry))
         r (now (stage .exit)) (now (item .exit)) (now (lines .exit)) (now (made .exit))
         (now (backdrops .exit)) (now (stored .exit)) (now (tally .exit)) (now (refs .exit)) (now (segments .exit)) ⌝ }
 {

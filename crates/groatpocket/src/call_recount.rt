@@ -47,7 +47,8 @@ pub extern "C" fn gp_recount(
     made: &mut u32,
     at: &mut u32,
 ) -> u32
-    ensures { λ r. ⌜ GpRecountMet path (now («line_nos» .entry)) (now («path_nos» .entry)) (now (coords .entry)) (now (paths .entry)) (now (backdrops .entry)) (now (counts .entry)) (now (refs .entry))
+    ensures { λ r. ⌜ GpRecountMet path (now («line_nos» .entry)) (now («path_nos» .entry)) (now (coords .entry)) (now (paths .entry)) (now (backdrops .entry))
+        (now (counts .entry)) (now (refs .entry))
         (now («kept_backdrops» .entry)) (now («kept_counts» .entry))
         r (now (at .exit)) (now (made .exit)) (now (backdrops .exit)) (now (counts .exit)) (now (refs .exit)) (now («kept_backdrops» .exit)) (now («kept_counts» .exit)) ⌝ }
 {

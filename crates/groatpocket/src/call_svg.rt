@@ -43,7 +43,8 @@ pub extern "C" fn gp_svg_lines(
     lines: &mut usize,
     place: &mut usize,
 ) -> u32
-    ensures { λ r. ⌜ GpSvgMet (now (text .entry)) depth path (now («path_nos» .entry)) (now (coords .entry)) r (now (lines .exit)) (now (place .exit)) (now («path_nos» .exit)) (now (coords .exit)) ⌝ }
+    ensures { λ r. ⌜ GpSvgMet (now (text .entry)) depth path (now («path_nos» .entry)) (now (coords .entry)) r (now (lines .exit)) (now (place .exit))
+        (now («path_nos» .exit)) (now (coords .exit)) ⌝ }
 {
     let a = svg::lines(text, depth, path, path_nos, coords);
     *lines = svg_count(a);

@@ -58,14 +58,17 @@ laid-in (p ∷ ps) at left fresh h = go (fits p left) refl (laid-in ps)
     go true e ih =
         let f : pairSize p + jumpWords ≤ left = leb-true (pairSize p + jumpWords) left e in (
           inl (omega arith, omega arith),
-          all-map _ _ (λ c. ⊎-elim (λ q. inl (omega arith, omega arith)) (λ q. inr (omega arith, omega arith))) (laid (penAt (at + pairSize p) (left - pairSize p) fresh) ps) (ih (at + pairSize p) (left - pairSize p) fresh (omega arith)),
+          all-map _ _ (λ c. ⊎-elim (λ q. inl (omega arith, omega arith)) (λ q. inr (omega arith, omega arith)))
+              (laid (penAt (at + pairSize p) (left - pairSize p) fresh) ps) (ih (at + pairSize p) (left - pairSize p) fresh (omega arith)),
         )
     go false e ih =
         let f : pairSize p + jumpWords ≤ tileWords = pair-most p in (
           inl (omega arith, omega arith),
           (
             inr (omega arith, omega arith),
-            all-map _ _ (λ c. ⊎-elim (λ q. inr (omega arith, omega arith)) (λ q. inr (omega arith, omega arith))) (laid (penAt (fresh + pairSize p) (tileWords - pairSize p) (fresh + tileWords)) ps) (ih (fresh + pairSize p) (tileWords - pairSize p) (fresh + tileWords) (omega arith)),
+            all-map _ _ (λ c. ⊎-elim (λ q. inr (omega arith, omega arith)) (λ q. inr (omega arith, omega arith)))
+                (laid (penAt (fresh + pairSize p) (tileWords - pairSize p) (fresh + tileWords)) ps)
+                (ih (fresh + pairSize p) (tileWords - pairSize p) (fresh + tileWords) (omega arith)),
           ),
         )
 
@@ -106,7 +109,8 @@ module _ (s : Tables) (cols : ℕ) where
       let j = jumpsOf ownWords (tilePairs s cols t) in
       all-append _ (laid (penOf t fresh) (tilePairs s cols t)) (listsFrom s cols (fresh + tileWords * j) (from (suc t) n))
       (all-map _ _ (λ c. ⊎-elim (λ q. inl (omega arith, omega arith)) (λ q. inr (omega arith, omega arith))) (laid (penOf t fresh) (tilePairs s cols t)) (tile-in t fresh))
-      (all-map _ _ (λ c. ⊎-elim (λ q. inl (omega arith, omega arith)) (λ q. inr (omega arith, omega arith))) (listsFrom s cols (fresh + tileWords * j) (from (suc t) n)) (lists-in n (suc t) (fresh + tileWords * j)))
+      (all-map _ _ (λ c. ⊎-elim (λ q. inl (omega arith, omega arith)) (λ q. inr (omega arith, omega arith)))
+      (listsFrom s cols (fresh + tileWords * j) (from (suc t) n)) (lists-in n (suc t) (fresh + tileWords * j)))
 
   pub lists-apart : (n t fresh : ℕ) → tileWords * (t + n) ≤ fresh → AllApart (listsFrom s cols fresh (from t n))
   lists-apart zero t fresh h = tt
@@ -118,7 +122,8 @@ module _ (s : Tables) (cols : ℕ) where
       (all-map _ (λ c. All (Apart c) rest) (λ c q. all-map _ (Apart c) (λ d r. across c d q r) rest (lists-in n (suc t) (fresh + tileWords * j))) mine (tile-in t fresh))
     where
       across : (c d : Chunk) → In (tileWords * t) (tileWords * (t + 1)) fresh (fresh + tileWords * jumpsOf ownWords (tilePairs s cols t)) c
-          → In (tileWords * suc t) (tileWords * (suc t + n)) (fresh + tileWords * jumpsOf ownWords (tilePairs s cols t)) (fresh + tileWords * jumpsOf ownWords (tilePairs s cols t) + tileWords * freshOf s cols (from (suc t) n)) d → Apart c d
+          → In (tileWords * suc t) (tileWords * (suc t + n)) (fresh + tileWords * jumpsOf ownWords (tilePairs s cols t))
+          (fresh + tileWords * jumpsOf ownWords (tilePairs s cols t) + tileWords * freshOf s cols (from (suc t) n)) d → Apart c d
       across c d (inl q) (inl r) = inl (omega arith)
       across c d (inl q) (inr r) = inl (omega arith)
       across c d (inr q) (inl r) = inr (omega arith)
@@ -129,10 +134,17 @@ module _ (s : Tables) (cols : ℕ) where
   tile-among P zero t fresh u h k p = absurd (omega arith)
   tile-among P (suc n) t fresh u h k p = go (ℕ-discrete t u) (tile-among P n (suc t) (fresh + tileWords * jumpsOf ownWords (tilePairs s cols t)) u)
     where
-      go : Dec (t ≡ u) → (suc t ≤ u → u < suc t + n → All P (listsFrom s cols (fresh + tileWords * jumpsOf ownWords (tilePairs s cols t)) (from (suc t) n)) → (f : ℕ) × All P (laid (penOf u f) (tilePairs s cols u)))
+      go : Dec (t ≡ u) → (suc t ≤ u → u < suc t + n → All P (listsFrom s cols (fresh + tileWords * jumpsOf ownWords (tilePairs s cols t)) (from (suc t) n)) →
+          (f : ℕ) × All P (laid (penOf u f) (tilePairs s cols u)))
           → (f : ℕ) × All P (laid (penOf u f) (tilePairs s cols u))
-      go (yes e) ih = (fresh, subst (λ (v : ℕ). All P (laid (penOf v fresh) (tilePairs s cols v))) e (all-first P (laid (penOf t fresh) (tilePairs s cols t)) (listsFrom s cols (fresh + tileWords * jumpsOf ownWords (tilePairs s cols t)) (from (suc t) n)) p))
-      go (no e) ih = ih (omega arith) (omega arith) (all-then P (laid (penOf t fresh) (tilePairs s cols t)) (listsFrom s cols (fresh + tileWords * jumpsOf ownWords (tilePairs s cols t)) (from (suc t) n)) p)
+      go (yes e) ih = (
+        fresh,
+        subst (λ (v : ℕ). All P (laid (penOf v fresh) (tilePairs s cols v))) e
+            (all-first P (laid (penOf t fresh) (tilePairs s cols t))
+            (listsFrom s cols (fresh + tileWords * jumpsOf ownWords (tilePairs s cols t)) (from (suc t) n)) p),
+      )
+      go (no e) ih = ih (omega arith) (omega arith) (all-then P (laid (penOf t fresh) (tilePairs s cols t))
+          (listsFrom s cols (fresh + tileWords * jumpsOf ownWords (tilePairs s cols t)) (from (suc t) n)) p)
 
   -- no chunk is over the first word of a tile's own region
   pub first-off : (n t fresh u : ℕ) → tileWords * u < fresh → All (Off (tileWords * u)) (listsFrom s cols fresh (from t n))

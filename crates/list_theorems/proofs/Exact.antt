@@ -90,7 +90,8 @@ module _ (s : Tables) (cols : ℕ) where
   long-first (suc n) t k u e = go (leb (commandsAt s cols t) mostCommands) refl (long-first n (suc t) k u) e
     where
       go : (b : Bool) → leb (commandsAt s cols t) mostCommands ≡ b
-          → (longFrom s cols (from (suc t) n) ≡ Refused k u → (suc t ≤ u) × (u < suc t + n) × (mostCommands < commandsAt s cols u) × ((v : ℕ) → suc t ≤ v → v < u → commandsAt s cols v ≤ mostCommands))
+          → (longFrom s cols (from (suc t) n) ≡ Refused k u → (suc t ≤ u) × (u < suc t + n) × (mostCommands < commandsAt s cols u) ×
+          ((v : ℕ) → suc t ≤ v → v < u → commandsAt s cols v ≤ mostCommands))
           → cond b (longFrom s cols (from (suc t) n)) (Refused tooLong t) ≡ Refused k u
           → (t ≤ u) × (u < t + suc n) × (mostCommands < commandsAt s cols u) × ((v : ℕ) → t ≤ v → v < u → commandsAt s cols v ≤ mostCommands)
       go true q ih f = let w = ih f in (omega arith, omega arith, w .2, λ v a b. at v a b (ℕ-discrete t v) (w .3))
@@ -108,7 +109,8 @@ module _ (s : Tables) (cols : ℕ) where
   first-long (suc n) t u a b h f = go (ℕ-discrete t u) (first-long n (suc t) u)
     where
       go : Dec (t ≡ u)
-          → (suc t ≤ u → u < suc t + n → mostCommands < commandsAt s cols u → ((v : ℕ) → suc t ≤ v → v < u → commandsAt s cols v ≤ mostCommands) → longFrom s cols (from (suc t) n) ≡ Refused tooLong u)
+          → (suc t ≤ u → u < suc t + n → mostCommands < commandsAt s cols u → ((v : ℕ) → suc t ≤ v → v < u → commandsAt s cols v ≤ mostCommands) →
+          longFrom s cols (from (suc t) n) ≡ Refused tooLong u)
           → cond (leb (commandsAt s cols t) mostCommands) (longFrom s cols (from (suc t) n)) (Refused tooLong t) ≡ Refused tooLong u
       go (yes d) ih = rw (d, lt-leb (commandsAt s cols u) mostCommands h)
       go (no d) ih = rw (le-leb (commandsAt s cols t) mostCommands (f t (omega arith) (omega arith))) (ih (omega arith) (omega arith) h (λ v x y. f v (omega arith) y))

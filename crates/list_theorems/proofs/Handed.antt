@@ -125,8 +125,10 @@ module _ (paths paints : List ℕ) (backdrops : List ℤ) (stored tally : List �
       let n = tileWords * regionsOf s cols rows in
       let f = none-fails (roomChecks (regionsOf s cols rows) (length ws) (fillsFit s cols room (screenTiles cols rows))) (le-leb n (length ws) c, (handed-fits (screenTiles cols rows), tt)) in
       ap (λ (x : Answer). onDone x ws (written (listsOf s cols rows) ws))
-      (ap (λ (x : Answer). thenCheck x (thenCheck (longFrom s cols (screenTiles cols rows)) (unless (firstNo (roomChecks (regionsOf s cols rows) (length ws) (fillsFit s cols room (screenTiles cols rows)))) 0 Done))) a
-      ∙ ap (λ (x : Answer). thenCheck x (unless (firstNo (roomChecks (regionsOf s cols rows) (length ws) (fillsFit s cols room (screenTiles cols rows)))) 0 Done)) (short-done s cols (cols * rows) 0 (λ v x y. b v (omega arith)))
+      (ap (λ (x : Answer). thenCheck x (thenCheck (longFrom s cols (screenTiles cols rows))
+      (unless (firstNo (roomChecks (regionsOf s cols rows) (length ws) (fillsFit s cols room (screenTiles cols rows)))) 0 Done))) a
+      ∙ ap (λ (x : Answer). thenCheck x (unless (firstNo (roomChecks (regionsOf s cols rows) (length ws) (fillsFit s cols room (screenTiles cols rows)))) 0
+      Done)) (short-done s cols (cols * rows) 0 (λ v x y. b v (omega arith)))
       ∙ unless-fine (firstNo (roomChecks (regionsOf s cols rows) (length ws) (fillsFit s cols room (screenTiles cols rows)))) 0 Done f)
 
 -- told no more room than the slots handed out, the writer writes the same

@@ -85,7 +85,8 @@ passed s cols rows room ws words e =
     let b = then-done (callAnswer s cols rows) _ (a .0) in
     let c = then-done (longFrom s cols (screenTiles cols rows)) _ (b .1) in
     let d = all-ok (roomChecks (regionsOf s cols rows) (length ws) (fillsFit s cols room (screenTiles cols rows))) (unless-done _ 0 Done (c .1) .0) in
-    let f = all-ok (lentChecks (length (s .paths)) (length (s .paints)) (length (s .backdrops)) (length (s .stored)) (length (s .tally)) cols rows) (unless-done _ 0 (pathsAnswer (s .paths) (length (s .backdrops))) (b .0) .0) in
+    let f = all-ok (lentChecks (length (s .paths)) (length (s .paints)) (length (s .backdrops)) (length (s .stored)) (length (s .tally)) cols rows)
+    (unless-done _ 0 (pathsAnswer (s .paths) (length (s .backdrops))) (b .0) .0) in
     record {
       few-tiles = leb-true (cols * rows) mostTiles (f .1 .1 .1 .1 .0);
       short = λ t h. few-commands s cols (cols * rows) 0 t (omega arith) (omega arith) (c .0);

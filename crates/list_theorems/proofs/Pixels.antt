@@ -101,7 +101,8 @@ module _ (segs : List Float) (k : ℕ) where
     where
       go : (f c : Bool)
           → actAll (paintPair segs k) (cond f (Fill count rule (not32 stored) (bitsOf b) colour ∷ []) (cond c (Solid colour ∷ []) [])) px
-          ≡ cond f (Colour.overOf (Colour.colourOf colour) (pixelOf segs (not32 stored) count (evenOddOf rule) b Number.zero Number.zero k) px) (cond c (Colour.overOf (Colour.colourOf colour) Number.one px) px)
+          ≡ cond f (Colour.overOf (Colour.colourOf colour) (pixelOf segs (not32 stored) count (evenOddOf rule) b Number.zero Number.zero k) px)
+          (cond c (Colour.overOf (Colour.colourOf colour) Number.one px) px)
       go true c = fill-paints colour rule count stored b px h
       go false true = solid-paints colour px
       go false false = refl

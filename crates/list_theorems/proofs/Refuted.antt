@@ -46,7 +46,10 @@ use Rattle.list_theorems.proofs.Exact.{lists-exact}
 
 -- names all that an instance computes with
 unfoldable computing : ℕ
-unfolding edgeMost add sub mul div neg le lt eq ne ofInt ofBits toSigned toUnsigned isNan round floorOf ceilOf roundOf absOf minOf maxOf clampOf signed signOf mapFrom pathAt pathsFrom pathsAnswer areaAfter finishOf sumOf pixelOf channelOf colourOf overOf byteOf packOf cover paint pointOf opOf fillMove wholeMove moveOf traceOf putTile tileTrace shownAt tilePixels tileStep tilesOf fineOf onTile onPath tilePairs callAnswer regionsOf answerOf listsOf writeListsOf paintTile paintPath screenOf
+unfolding edgeMost add sub mul div neg le lt eq ne ofInt ofBits toSigned toUnsigned isNan round floorOf ceilOf roundOf absOf minOf maxOf clampOf signed signOf
+    mapFrom pathAt pathsFrom pathsAnswer areaAfter finishOf sumOf pixelOf channelOf colourOf overOf byteOf packOf cover paint pointOf opOf fillMove wholeMove
+    moveOf traceOf putTile tileTrace shownAt tilePixels tileStep tilesOf fineOf onTile onPath tilePairs callAnswer regionsOf answerOf listsOf writeListsOf
+    paintTile paintPath screenOf
 computing = 0
 
 -- ---- JUMPs left out of a list's commands
@@ -149,7 +152,8 @@ pair-not = refl
 
 pub order-counts : LikeThis lastFirst → ⊥
 order-counts f =
-    let e = f pair 1 1 0 (replicate 64 9) pair-words [] pair-wrote (record { whole = refl; enough = omega arith; straight = λ k h. absurd (omega arith) }) (refl, (refl, tt)) tileWidth (replicate tileSize 0)
+    let e = f pair 1 1 0 (replicate 64 9) pair-words [] pair-wrote (record { whole = refl; enough = omega arith; straight = λ k h. absurd (omega arith) })
+    (refl, (refl, tt)) tileWidth (replicate tileSize 0)
     (record { wide = omega arith; high = omega arith }) in
     let z : _≡_ {A = ℕ} 0xff20_4060 0xff60_4020 = sym pair-shows ∙ ap first-pixel e ∙ pair-not in
     omega arith
@@ -192,7 +196,8 @@ isFine (Against n) = 0
 pub room-in-segments : RoomInFloats → ⊥
 unfolding isFine
 room-in-segments f =
-    let e = f filled 1 1 2 (replicate 64 9) filled-words (replicate 5 zero) filled-wrote refl (omega arith) (λ k h. subst (λ (i : ℕ). Straight (segmentAt (replicate 5 zero) i)) (only k h) zero-straight) 0 (omega arith) in
+    let e = f filled 1 1 2 (replicate 64 9) filled-words (replicate 5 zero) filled-wrote refl (omega arith)
+    (λ k h. subst (λ (i : ℕ). Straight (segmentAt (replicate 5 zero) i)) (only k h) zero-straight) 0 (omega arith) in
     let z : _≡_ {A = ℕ} 0 1 = ap isFine (sym filled-ends ∙ e) in
     omega arith
 

@@ -118,7 +118,8 @@ module _ (colour : ℕ → ℕ → ℕ → List Float) (w c : ℕ) where
             let x = columnOf w p in
             let y = rowOf w p in
             where-both (eqb x (t % c)) (eqb y (t / c)) (packOf (colourAt ws segs t (placeOf w p))) (packOf (colour x y (placeOf w p))) (upTo t p old)
-            (λ a b. ap packOf (is t h (placeOf w p) ∙ sym (ap (λ (u : ℕ). colour u (t / c) (placeOf w p)) (eqb-true x (t % c) a)) ∙ sym (ap (λ (u : ℕ). colour x u (placeOf w p)) (eqb-true y (t / c) b))))
+            (λ a b. ap packOf (is t h (placeOf w p) ∙ sym (ap (λ (u : ℕ). colour u (t / c) (placeOf w p)) (eqb-true x (t % c) a)) ∙ sym
+            (ap (λ (u : ℕ). colour x u (placeOf w p)) (eqb-true y (t / c) b))))
             ∙ one-more x y t old (packOf (colour x y (placeOf w p))) z
 
     tiles-put : (m t : ℕ) (l : List ℕ) → 0 < c → t + m ≡ n → tilesOf ws segs w c t n (mapi (upTo t) l) ≡ done (mapi (upTo n) l)

@@ -140,7 +140,10 @@ module _ {A : Type 0} (f : ℕ → A → A) where
 pub within-cong : {A : Type 0} (f g : ℕ → A → A) (a b : ℕ) (d : A) (l : List A) → ((k : ℕ) (x : A) → a ≤ k → k < b → f k x ≡ g k x) → mapi (within a b f) l ≡ mapi (within a b g) l
 within-cong f g a b d l e =
     mapi-is (within a b g) l (mapi (within a b f) l) d d (length-mapi (within a b f) l)
-    (λ k h. getD-mapi (within a b f) l k d d h ∙ ⊎-elim (λ (t : a ≤ k). ⊎-elim (λ (u : b ≤ k). within-high f a b k (getD l k d) u ∙ sym (within-high g a b k (getD l k d) u)) (λ (u : k < b). within-in f a b k (getD l k d) t u ∙ e k (getD l k d) t u ∙ sym (within-in g a b k (getD l k d) t u)) (le-or-lt b k)) (λ (t : k < a). within-low f a b k (getD l k d) t ∙ sym (within-low g a b k (getD l k d) t)) (le-or-lt a k))
+    (λ k h. getD-mapi (within a b f) l k d d h ∙ ⊎-elim (λ (t : a ≤ k). ⊎-elim
+    (λ (u : b ≤ k). within-high f a b k (getD l k d) u ∙ sym (within-high g a b k (getD l k d) u))
+    (λ (u : k < b). within-in f a b k (getD l k d) t u ∙ e k (getD l k d) t u ∙ sym (within-in g a b k (getD l k d) t u)) (le-or-lt b k))
+    (λ (t : k < a). within-low f a b k (getD l k d) t ∙ sym (within-low g a b k (getD l k d) t)) (le-or-lt a k))
 
 mapFrom-replicate : {A B : Type 0} (j n : ℕ) (f : ℕ → A → B) (b : A) → mapFrom j f (replicate n b) ≡ tabFrom j n (λ k. f k b)
 unfolding mapFrom tabFrom

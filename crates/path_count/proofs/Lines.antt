@@ -135,23 +135,27 @@ module _ (room l : ℕ) (w : Walk) (b : Path) (c : Clip) (e : c ≡ clippedOf w 
     walk-full k = by-clip (halted noRoom) (plan-full room l _ s (not-far (c .imin) (c .imax) h) (no-room room (s .made + (c .imax - c .imin)) k))
 
     module _ (k : (ltb room (s .made + (c .imax - c .imin)) || ltb mostSlots (s .made + (c .imax - c .imin))) ≡ false) where
-      module _ (backs counts : ℕ) (o : OnTiles b backs counts) (g : Walkable w b) (v : Verdict) (q : v ≡ checkNo (deltaOf (not (w .e .«is_down»))) (planActs (planBy (not (w .e .«is_down»)) (w .pace) b c)) (s .backs) (s .counts)) where
+      module _ (backs counts : ℕ) (o : OnTiles b backs counts) (g : Walkable w b) (v : Verdict)
+          (q : v ≡ checkNo (deltaOf (not (w .e .«is_down»))) (planActs (planBy (not (w .e .«is_down»)) (w .pace) b c)) (s .backs) (s .counts)) where
         pub walk-refused : (m : ℕ) → v ≡ Against m → refused s m ≡ lineRan (planStep room l (planOf w b) s) s
         walk-refused m r =
             by-clip (halted m)
             (plan-refused room l (planBy (not (w .e .«is_down»)) (w .pace) b c) s
-            (plan-marks (planBy (not (w .e .«is_down»)) (w .pace) b c) stepRange (apart (w .pace) b (starts w b g) (o .boxed)) (not-past (c .imin) (c .imax) h) (omega (arith, g .wide)) (left w b c e .top))
+            (plan-marks (planBy (not (w .e .«is_down»)) (w .pace) b c) stepRange (apart (w .pace) b (starts w b g) (o .boxed)) (not-past (c .imin) (c .imax) h)
+            (omega (arith, g .wide)) (left w b c e .top))
             (plan-visits (planBy (not (w .e .«is_down»)) (w .pace) b c) stepRange (apart (w .pace) b (starts w b g) (o .boxed)) (not-past (c .imin) (c .imax) h) (omega (arith, g .wide)))
             v q (not-far (c .imin) (c .imax) h) (has-room room (s .made + (c .imax - c .imin)) k) m r)
 
         pub walk-fine : v ≡ Fine → isDone (runActs (deltaOf (not (w .e .«is_down»))) l (planActs (planBy (not (w .e .«is_down»)) (w .pace) b c)) s) ≡ true
         walk-fine r =
             plan-fine room l (planBy (not (w .e .«is_down»)) (w .pace) b c) s
-            (plan-marks (planBy (not (w .e .«is_down»)) (w .pace) b c) stepRange (apart (w .pace) b (starts w b g) (o .boxed)) (not-past (c .imin) (c .imax) h) (omega (arith, g .wide)) (left w b c e .top))
+            (plan-marks (planBy (not (w .e .«is_down»)) (w .pace) b c) stepRange (apart (w .pace) b (starts w b g) (o .boxed)) (not-past (c .imin) (c .imax) h)
+            (omega (arith, g .wide)) (left w b c e .top))
             (plan-visits (planBy (not (w .e .«is_down»)) (w .pace) b c) stepRange (apart (w .pace) b (starts w b g) (o .boxed)) (not-past (c .imin) (c .imax) h) (omega (arith, g .wide)))
             v q r
 
-      pub walk-done : (s′ : St) → done s′ ≡ runActs (deltaOf (not (w .e .«is_down»))) l (planActs (planBy (not (w .e .«is_down»)) (w .pace) b c)) s → done s′ ≡ lineRan (planStep room l (planOf w b) s) s
+      pub walk-done : (s′ : St) → done s′ ≡ runActs (deltaOf (not (w .e .«is_down»))) l (planActs (planBy (not (w .e .«is_down»)) (w .pace) b c)) s → done s′ ≡
+          lineRan (planStep room l (planOf w b) s) s
       walk-done s′ q = by-clip (taken s′) (plan-done room l _ s s′ (not-far (c .imin) (c .imax) h) (has-room room (s .made + (c .imax - c .imin)) k) q)
 
 -- ---- a line's outcome

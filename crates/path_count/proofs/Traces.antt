@@ -54,14 +54,32 @@ done n = doneNo ∷ 1 ∷ n ∷ []
 
 abbrev pub cases : List Case
 cases =
-    record { box = two; ends = 8 ∷ 8 ∷ 8 ∷ 24 ∷ []; before = empty; told = record { paper = done 2; backs = pos 0 ∷ pos 0 ∷ pos 0 ∷ negsuc 0 ∷ []; counts = 1 ∷ 0 ∷ 1 ∷ 0 ∷ []; refs = 0 ∷ 0 ∷ 0 ∷ 1 ∷ [] } }
+    record {
+      box = two;
+      ends = 8 ∷ 8 ∷ 8 ∷ 24 ∷ [];
+      before = empty;
+      told = record
+          { paper = done 2; backs = pos 0 ∷ pos 0 ∷ pos 0 ∷ negsuc 0 ∷ []; counts = 1 ∷ 0 ∷ 1 ∷ 0 ∷ []; refs = 0 ∷ 0 ∷ 0 ∷ 1 ∷ [] };
+    }
     ∷ record { box = two; ends = 0 ∷ 16 ∷ 32 ∷ 16 ∷ []; before = empty; told = record { paper = done 0; backs = none; counts = empty; refs = empty } }
     ∷ record { box = two; ends = 5 ∷ 5 ∷ 5 ∷ 5 ∷ []; before = empty; told = record { paper = done 0; backs = none; counts = empty; refs = empty } }
     ∷ record { box = two; ends = 0 ∷ 8 ∷ 32 ∷ 8 ∷ []; before = empty; told = record { paper = done 2; backs = none; counts = 1 ∷ 1 ∷ 0 ∷ 0 ∷ []; refs = 0 ∷ 0 ∷ 0 ∷ 1 ∷ [] } }
     ∷ record { box = right; ends = 8 ∷ 8 ∷ 8 ∷ 24 ∷ []; before = empty; told = record { paper = done 0; backs = pos 0 ∷ pos 0 ∷ negsuc 0 ∷ pos 0 ∷ []; counts = empty; refs = empty } }
     ∷ record { box = right; ends = 8 ∷ 24 ∷ 8 ∷ 8 ∷ []; before = empty; told = record { paper = done 0; backs = pos 0 ∷ pos 0 ∷ pos 1 ∷ pos 0 ∷ []; counts = empty; refs = empty } }
-    ∷ record { box = two; ends = 8 ∷ 8 ∷ 8 ∷ 24 ∷ []; before = 0 ∷ 0 ∷ 65535 ∷ 0 ∷ []; told = record { paper = done 2; backs = pos 0 ∷ pos 0 ∷ pos 0 ∷ negsuc 0 ∷ []; counts = 1 ∷ 0 ∷ 65536 ∷ 0 ∷ []; refs = 0 ∷ 0 ∷ 0 ∷ 0xFFFF_0001 ∷ [] } }
-    ∷ record { box = two; ends = 8 ∷ 8 ∷ 8 ∷ 24 ∷ []; before = 0 ∷ 0 ∷ 65536 ∷ 0 ∷ []; told = record { paper = countOver ∷ 0 ∷ 0 ∷ 0 ∷ []; backs = none; counts = 0 ∷ 0 ∷ 65536 ∷ 0 ∷ []; refs = empty } }
+    ∷ record {
+      box = two;
+      ends = 8 ∷ 8 ∷ 8 ∷ 24 ∷ [];
+      before = 0 ∷ 0 ∷ 65535 ∷ 0 ∷ [];
+      told = record
+          { paper = done 2; backs = pos 0 ∷ pos 0 ∷ pos 0 ∷ negsuc 0 ∷ []; counts = 1 ∷ 0 ∷ 65536 ∷ 0 ∷ []; refs = 0 ∷ 0 ∷ 0 ∷ 0xFFFF_0001 ∷ [] };
+    }
+    ∷ record {
+      box = two;
+      ends = 8 ∷ 8 ∷ 8 ∷ 24 ∷ [];
+      before = 0 ∷ 0 ∷ 65536 ∷ 0 ∷ [];
+      told = record
+          { paper = countOver ∷ 0 ∷ 0 ∷ 0 ∷ []; backs = none; counts = 0 ∷ 0 ∷ 65536 ∷ 0 ∷ []; refs = empty };
+    }
     ∷ []
 
 abbrev pub Hold : List Case → Type 0
@@ -70,7 +88,9 @@ Hold (c ∷ more) = (ran c ≡ c .told) × Hold more
 
 -- each case comes to what it says
 pub all-hold : Hold cases
-unfolding add sub mul div neg le lt eq ne ofInt ofBits toSigned toUnsigned isNan floorOf ceilOf roundOf absOf minOf maxOf signed signOf spanOf edgeMost mostSteps coordMost stepRange pathAt pathsFrom pathsAnswer cutOf insideOf rowOf endsOf lineOf flatOf pastOf zAt tileIn stepOf lineAt walkedOf walkAt clippedOf rowActs stepsActs runActs planStep batchOf hitAt planOf lineStep callAnswer counted
+unfolding add sub mul div neg le lt eq ne ofInt ofBits toSigned toUnsigned isNan floorOf ceilOf roundOf absOf minOf maxOf signed signOf spanOf edgeMost
+    mostSteps coordMost stepRange pathAt pathsFrom pathsAnswer cutOf insideOf rowOf endsOf lineOf flatOf pastOf zAt tileIn stepOf lineAt walkedOf walkAt
+    clippedOf rowActs stepsActs runActs planStep batchOf hitAt planOf lineStep callAnswer counted
 all-hold = (refl, (refl, (refl, (refl, (refl, (refl, (refl, (refl, tt))))))))
 
 -- ---- the limits, by their names
@@ -100,5 +120,7 @@ Bounds [] = Unit {0}
 Bounds (c ∷ more) = (c .0 ≡ c .1) × Bounds more
 
 pub border-holds : Bounds border
-unfolding add sub mul div neg le lt eq ne ofInt ofBits toSigned toUnsigned isNan floorOf ceilOf roundOf absOf minOf maxOf signed signOf spanOf edgeMost mostSteps coordBits coordMost stepRange pathAt pathsFrom pathsAnswer cutOf insideOf rowOf endsOf lineOf flatOf pastOf zAt tileIn stepOf lineAt walkedOf walkAt clippedOf rowActs stepsActs runActs planStep batchOf hitAt planOf lineStep callAnswer counted
+unfolding add sub mul div neg le lt eq ne ofInt ofBits toSigned toUnsigned isNan floorOf ceilOf roundOf absOf minOf maxOf signed signOf spanOf edgeMost
+    mostSteps coordBits coordMost stepRange pathAt pathsFrom pathsAnswer cutOf insideOf rowOf endsOf lineOf flatOf pastOf zAt tileIn stepOf lineAt walkedOf
+    walkAt clippedOf rowActs stepsActs runActs planStep batchOf hitAt planOf lineStep callAnswer counted
 border-holds = (refl, (refl, (refl, (refl, (refl, (refl, (refl, (refl, tt))))))))

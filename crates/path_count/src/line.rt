@@ -239,7 +239,8 @@ pub(crate) fn count_noted(
 ) -> Tallied
     requires { ⌜ Lent (now paths) (length (now backs)) (length (now counts)) × There place (length (now «path_nos»)) (length (now coords)) × (length (now notes) ≡ noteWords) ⌝ }
     ensures { λ r. ⌜ tallyRan r (stOf (now (backs .exit)) (now (counts .exit)) (now (refs .exit))) made
-        ≡ lineRan (lineStep (now («path_nos» .entry)) (now (coords .entry)) (now (paths .entry)) (length (now (refs .entry)) / refWords) (line .0) place (stOf (now (backs .entry)) (now (counts .entry)) (now (refs .entry)) made))
+        ≡ lineRan (lineStep (now («path_nos» .entry)) (now (coords .entry)) (now (paths .entry)) (length (now (refs .entry)) / refWords) (line .0) place
+        (stOf (now (backs .entry)) (now (counts .entry)) (now (refs .entry)) made))
         (stOf (now (backs .entry)) (now (counts .entry)) (now (refs .entry)) made) ⌝ }
 {
     if line.0 >= MOST_LINES {
@@ -266,7 +267,8 @@ pub fn count_line(
 ) -> Tallied
     requires { ⌜ Lent (now paths) (length (now backs)) (length (now counts)) × There place (length (now «path_nos»)) (length (now coords)) ⌝ }
     ensures { λ r. ⌜ tallyRan r (stOf (now (backs .exit)) (now (counts .exit)) (now (refs .exit))) made
-        ≡ lineRan (lineStep (now («path_nos» .entry)) (now (coords .entry)) (now (paths .entry)) (length (now (refs .entry)) / refWords) (line .0) place (stOf (now (backs .entry)) (now (counts .entry)) (now (refs .entry)) made))
+        ≡ lineRan (lineStep (now («path_nos» .entry)) (now (coords .entry)) (now (paths .entry)) (length (now (refs .entry)) / refWords) (line .0) place
+        (stOf (now (backs .entry)) (now (counts .entry)) (now (refs .entry)) made))
         (stOf (now (backs .entry)) (now (counts .entry)) (now (refs .entry)) made) ⌝ }
 {
     let mut notes = [0u32; 256];

@@ -186,7 +186,8 @@ module _ (L : Lent) (slots line : ℕ) where
           let same : suc k + n ≡ k + suc n = omega arith in
           let named : lineAt (L .refs) k ≡ line = eqb-true _ _ e in
           rw (look-is L slots k, named)
-          (look-after (k + suc n) k (foundTo (L .stored) slots (packedAt (L .refs) k) (foundOf (L .pathNos) (L .coords) (L .paths) line)) (rangeOf L slots n (suc k)) rest segs (λ s. rw same at (h s)))
+          (look-after (k + suc n) k (foundTo (L .stored) slots (packedAt (L .refs) k) (foundOf (L .pathNos) (L .coords) (L .paths) line))
+          (rangeOf L slots n (suc k)) rest segs (λ s. rw same at (h s)))
       go h false e = let left : k + suc n - k ≡ suc n = omega arith in rw left refl
 
 -- what holds at each turn of the loop over the runs of a range

@@ -25,7 +25,10 @@ use Rattle.path_tiling.specs.Tiling.{Tiled, tiled, rangeOf, wholeOf, che
 
 -- names all that a trace computes with
 unfoldable computing : ℕ
-unfolding add sub mul div neg le lt eq ne ofInt ofBits toSigned toUnsigned isNan floorOf ceilOf roundOf absOf minOf maxOf clampOf signed signOf spanOf edgeMost coordMost stepRange pathAt pathsFrom pathsAnswer cutOf insideOf endsOf lineOf flatOf pastOf zAt tileIn stepOf lineAt walkedOf walkAt cornerOf farOf atRowOf atColOf clipOf makeOf edgeOf offOf turnOf heldOf firstOf lastOf segmentOf pieceOf foundOf pieceTo wordTo stepTo foundTo lookOf rangeOf wholeOf checksOf callOf
+unfolding add sub mul div neg le lt eq ne ofInt ofBits toSigned toUnsigned isNan floorOf ceilOf roundOf absOf minOf maxOf clampOf signed signOf spanOf edgeMost
+    coordMost stepRange pathAt pathsFrom pathsAnswer cutOf insideOf endsOf lineOf flatOf pastOf zAt tileIn stepOf lineAt walkedOf walkAt cornerOf farOf atRowOf
+    atColOf clipOf makeOf edgeOf offOf turnOf heldOf firstOf lastOf segmentOf pieceOf foundOf pieceTo wordTo stepTo foundTo lookOf rangeOf wholeOf checksOf
+    callOf
 computing = 0
 
 -- floats by their bits, and so many zeros

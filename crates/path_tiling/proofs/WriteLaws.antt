@@ -22,7 +22,26 @@ use Rattle.panel.specs.declared.kinds.Answer.the-variants.{Done, Refused}
 use Rattle.panel.specs.declared.segments.Segment.{Segment}
 use Rattle.path_tiling.specs.Look.{Lent, lineAt, packedAt, foundOf, lookOf}
 use Rattle.panel.specs.Segments.{floatsOf, putOf}
-use Rattle.path_tiling.specs.Tiling.{Write, writeOf, Range, range, lookThen, rangeOf, slotsOf, applied, wholeOf, checksOf, checkedThen, callOf, Tiled, tiled, rangeTiled, thenOn, thenRange, Made}
+use Rattle.path_tiling.specs.Tiling.{
+  Write,
+  writeOf,
+  Range,
+  range,
+  lookThen,
+  rangeOf,
+  slotsOf,
+  applied,
+  wholeOf,
+  checksOf,
+  checkedThen,
+  callOf,
+  Tiled,
+  tiled,
+  rangeTiled,
+  thenOn,
+  thenRange,
+  Made,
+}
 use Rattle.path_tiling.specs.declared.look.Look.{Look}
 use Rattle.path_tiling.specs.declared.look.Look.the-variants.{Put, Empty, Against}
 use Rattle.path_tiling.proofs.PutLaws.{Good, put-good}

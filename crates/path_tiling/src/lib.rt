@@ -105,7 +105,9 @@ fn tile_range(
     segments: &mut [f32],
 ) -> Answer
     requires { ⌜ Ready from to (lent (now «path_nos») (now coords) (now paths) (now stored) (now refs)) ⌝ }
-    ensures { λ r. ⌜ tiled r (now (segments .exit)) ≡ rangeTiled (rangeOf (lent (now («path_nos» .entry)) (now (coords .entry)) (now (paths .entry)) (now (stored .entry)) (now (refs .entry))) (slotsOf (length (now (segments .entry)))) (to - from) from) (now (segments .entry)) ⌝ }
+    ensures { λ r. ⌜ tiled r (now (segments .exit)) ≡ rangeTiled
+        (rangeOf (lent (now («path_nos» .entry)) (now (coords .entry)) (now (paths .entry)) (now (stored .entry)) (now (refs .entry)))
+        (slotsOf (length (now (segments .entry)))) (to - from) from) (now (segments .entry)) ⌝ }
 {
     let slots = slots_of(segments.len());
     let mut k = from;
@@ -156,7 +158,8 @@ pub fn tile_checked(
     segments: &mut [f32],
 ) -> Answer
     requires { ⌜ pathsAnswer (now paths) (length (now stored)) ≡ Done ⌝ }
-    ensures { λ r. ⌜ TileMet from to (lent (now («path_nos» .entry)) (now (coords .entry)) (now (paths .entry)) (now (stored .entry)) (now (refs .entry))) (now (segments .entry)) r (now (segments .exit)) ⌝ }
+    ensures { λ r. ⌜ TileMet from to (lent (now («path_nos» .entry)) (now (coords .entry)) (now (paths .entry)) (now (stored .entry)) (now (refs .entry)))
+        (now (segments .entry)) r (now (segments .exit)) ⌝ }
 {
     if !whole(
         from,
@@ -185,7 +188,8 @@ pub fn tile(
     refs: &[u32],
     segments: &mut [f32],
 ) -> Answer
-    ensures { λ r. ⌜ TileMet from to (lent (now («path_nos» .entry)) (now (coords .entry)) (now (paths .entry)) (now (stored .entry)) (now (refs .entry))) (now (segments .entry)) r (now (segments .exit)) ⌝ }
+    ensures { λ r. ⌜ TileMet from to (lent (now («path_nos» .entry)) (now (coords .entry)) (now (paths .entry)) (now (stored .entry)) (now (refs .entry)))
+        (now (segments .entry)) r (now (segments .exit)) ⌝ }
 {
     if !whole(
         from,

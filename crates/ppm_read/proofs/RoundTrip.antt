@@ -124,7 +124,8 @@ accepted ps w h out n = go (sideOk w && sideOk h) refl (eqb (length ps) (w * h))
         eqb (length ps) (w * h) ≡ b →
         (c : Bool) →
         cond a (cond b (cond c (wrote (fileOf ps w h) out) (refused noRoom out)) (refused notWhole out)) (refused badSize out) .answer ≡ doneNo ∷ n ∷ [] →
-        (sideOk w && sideOk h ≡ true) × (length ps ≡ w * h) × (cond a (cond b (cond c (wrote (fileOf ps w h) out) (refused noRoom out)) (refused notWhole out)) (refused badSize out) ≡ wrote (fileOf ps w h) out)
+        (sideOk w && sideOk h ≡ true) × (length ps ≡ w * h) × (cond a (cond b (cond c (wrote (fileOf ps w h) out) (refused noRoom out)) (refused notWhole out))
+        (refused badSize out) ≡ wrote (fileOf ps w h) out)
     go true ea true eb true e = (ea, eqb-true (length ps) (w * h) eb, refl)
     go true ea true eb false e = let z : _≡_ {A = ℕ} noRoom doneNo = cc in absurd (omega arith)
     go true ea false eb c e = let z : _≡_ {A = ℕ} notWhole doneNo = cc in absurd (omega arith)

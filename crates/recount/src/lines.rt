@@ -52,7 +52,8 @@ fn own_line(
     requires { ⌜ Lent (now paths) (length (now backs)) (length (now counts)) × (path < pathCount (now paths))
         × (0 < length (now «path_nos»)) × (lineFloats ≤ length (now coords)) ⌝ }
     ensures { λ r. ⌜ tallyRan r (stOf (now (backs .exit)) (now (counts .exit)) (now (refs .exit))) made
-        ≡ lineRan (ownStep path (now («path_nos» .entry)) (now (coords .entry)) (now (paths .entry)) (length (now (refs .entry)) / refWords) (line .0) 0 (stOf (now (backs .entry)) (now (counts .entry)) (now (refs .entry)) made))
+        ≡ lineRan (ownStep path (now («path_nos» .entry)) (now (coords .entry)) (now (paths .entry)) (length (now (refs .entry)) / refWords) (line .0) 0
+        (stOf (now (backs .entry)) (now (counts .entry)) (now (refs .entry)) made))
         (stOf (now (backs .entry)) (now (counts .entry)) (now (refs .entry)) made) ⌝ }
 {
     let named = path_nos[0];

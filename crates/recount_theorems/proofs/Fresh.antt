@@ -99,7 +99,8 @@ module _
       counts-in : (t : ℕ) → t < n → InPath paths p t → getD (u .counts) t 0 ≡ getD csF t 0
       counts-in t k i =
           ap (λ (l : List ℕ). getD l t 0) (w .counts)
-          ∙ count-seen paths t (drawn nosN coordsN (length nosN)) (clearedOf 0 (pathAt paths p .first) (tilesIn (pathAt paths p)) cs) (omega (arith, k, few, length-cleared 0 (pathAt paths p .first) (tilesIn (pathAt paths p)) cs))
+          ∙ count-seen paths t (drawn nosN coordsN (length nosN)) (clearedOf 0 (pathAt paths p .first) (tilesIn (pathAt paths p)) cs)
+          (omega (arith, k, few, length-cleared 0 (pathAt paths p .first) (tilesIn (pathAt paths p)) cs))
           ∙ ap (actAll (λ d w. w + occ t (tilesOf paths d)) (drawn nosN coordsN (length nosN)))
           (cleared-in 0 (pathAt paths p .first) (tilesIn (pathAt paths p)) cs t (i .1) (i .2) (omega (arith, k, few)))
           ∙ ap (λ (ds : List Drawn). actAll (λ d w. w + occ t (tilesOf paths d)) ds 0) (sym (list .own))
@@ -108,7 +109,8 @@ module _
       backs-in : (t : ℕ) → t < n → InPath paths p t → getD (u .backs) t (pos 0) ≡ getD bsF t (pos 0)
       backs-in t k i =
           ap (λ (l : List ℤ). getD l t (pos 0)) (w .backs)
-          ∙ back-seen paths t (drawn nosN coordsN (length nosN)) (clearedOf (pos 0) (pathAt paths p .first) (tilesIn (pathAt paths p)) bs) (omega (arith, k, few, paired, length-cleared (pos 0) (pathAt paths p .first) (tilesIn (pathAt paths p)) bs))
+          ∙ back-seen paths t (drawn nosN coordsN (length nosN)) (clearedOf (pos 0) (pathAt paths p .first) (tilesIn (pathAt paths p)) bs)
+          (omega (arith, k, few, paired, length-cleared (pos 0) (pathAt paths p .first) (tilesIn (pathAt paths p)) bs))
           ∙ ap (actAll (λ d. marksAt t (marksOf paths d)) (drawn nosN coordsN (length nosN)))
           (cleared-in (pos 0) (pathAt paths p .first) (tilesIn (pathAt paths p)) bs t (i .1) (i .2) (omega (arith, k, few, paired)))
           ∙ ap (λ (ds : List Drawn). actAll (λ d. marksAt t (marksOf paths d)) ds (pos 0)) (sym (list .own))
@@ -155,7 +157,8 @@ module _
             → (recountedOf p lineNos nosN coordsN paths bs cs rs kb kc .backs ≡ bsF) × (recountedOf p lineNos nosN coordsN paths bs cs rs kb kc .counts ≡ csF)
         go Answer.Done f =
             let k = asked-done p paths (length lineNos) (length nosN) (length coordsN) (length bs) (length cs) (length rs) (length kb) (length kc) f in
-            rw (out-is p lineNos nosN coordsN paths bs cs rs kb kc f) (by-ran k (ran p lineNos nosN coordsN paths bs cs rs kb kc) refl (rw (out-is p lineNos nosN coordsN paths bs cs rs kb kc f) at e))
+            rw (out-is p lineNos nosN coordsN paths bs cs rs kb kc f)
+            (by-ran k (ran p lineNos nosN coordsN paths bs cs rs kb kc) refl (rw (out-is p lineNos nosN coordsN paths bs cs rs kb kc f) at e))
         go (Answer.Refused q item) f =
             let g : q ∷ item ∷ 0 ∷ [] ≡ doneNo ∷ m ∷ [] = sym (out-no p lineNos nosN coordsN paths bs cs rs kb kc q item f .2) ∙ e in
             let z : _≡_ {A = ℕ} 0 1 = cc in absurd (omega arith)

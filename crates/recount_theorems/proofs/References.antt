@@ -240,7 +240,8 @@ module _
             → SameRefs p nosF rs (recountedOf p lineNos nosN coordsN paths bs cs rs kb kc .refs) m refsF rsF mF
         go Answer.Done f =
             let k = asked-done p paths (length lineNos) (length nosN) (length coordsN) (length bs) (length cs) (length rs) (length kb) (length kc) f in
-            rw (out-is p lineNos nosN coordsN paths bs cs rs kb kc f) (by-ran k (ran p lineNos nosN coordsN paths bs cs rs kb kc) refl (rw (out-is p lineNos nosN coordsN paths bs cs rs kb kc f) at e))
+            rw (out-is p lineNos nosN coordsN paths bs cs rs kb kc f)
+            (by-ran k (ran p lineNos nosN coordsN paths bs cs rs kb kc) refl (rw (out-is p lineNos nosN coordsN paths bs cs rs kb kc f) at e))
         go (Answer.Refused q item) f =
             let g : q ∷ item ∷ 0 ∷ [] ≡ doneNo ∷ m ∷ [] = sym (out-no p lineNos nosN coordsN paths bs cs rs kb kc q item f .2) ∙ e in
             let z : _≡_ {A = ℕ} 0 1 = cc in absurd (omega arith)

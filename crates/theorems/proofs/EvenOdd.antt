@@ -212,7 +212,8 @@ module _ (segs : List Float) (first : ℕ) (xt : Float) (k : ℕ) (row : k / til
       let before = areaAfter segs first xt Number.zero n k a in
       let ih : Small before (N + n) = calm-sum n a N h (omega arith) (λ j l. s j (omega arith)) (λ j l. q j (omega arith)) in
       let e : Small (r .edge) 1 = edge-small (segmentAt segs (first + n)) xt (s n (omega arith)) (k / tileWidth) row in
-      subst (λ (x : Bool). Small (cond x (slanted (reachOf w r) (r .edge) (r .dy) k before) (cond (ne (r .edge) Number.zero) (add binary32 before (r .edge)) before)) (N + suc n)) (sym (q n (omega arith)))
+      subst (λ (x : Bool). Small (cond x (slanted (reachOf w r) (r .edge) (r .dy) k before)
+      (cond (ne (r .edge) Number.zero) (add binary32 before (r .edge)) before)) (N + suc n)) (sym (q n (omega arith)))
       (more n N before (r .edge) (ne (r .edge) Number.zero) ih e b)
     where
       more : (n N : ℕ) (before edge : Float) (t : Bool) → Small before (N + n) → Small edge 1 → N + suc n ≤ 2 ^ 24 → Small (cond t (add binary32 before edge) before) (N + suc n)
@@ -242,5 +243,6 @@ unfolding straightFrom straightOf heldOf segmentAt ofBits le lt eq
 thin-taken = refl
 
 pub thin-even-odd : pixelOf thin 0 1 true (pos 0) Number.zero Number.zero 5 ≡ nan
-unfolding pixelOf sumOf areaAfter finishOf stepSegment stepWay stepRow wayOf rowOf reachOf slanted edged addedOf segmentAt clampOf minOf maxOf signumOf absOf roundOf signed signOf ofInt ofBits add sub mul div neg lt le eq ne isNan round sum
+unfolding pixelOf sumOf areaAfter finishOf stepSegment stepWay stepRow wayOf rowOf reachOf slanted edged addedOf segmentAt clampOf minOf maxOf signumOf absOf
+    roundOf signed signOf ofInt ofBits add sub mul div neg lt le eq ne isNan round sum
 thin-even-odd = refl

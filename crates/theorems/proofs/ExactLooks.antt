@@ -63,7 +63,8 @@ module _ (L : Lent) (slots k n : ℕ) where
   found-why h (Found.Line w b) e f = step-why w b (h, e) (stepOf (w .pace) b (stepNo (packedAt (L .refs) k))) refl f
   found-why h Found.Skipped e f = sevenSkipped (cc) h e
   found-why h (Found.Refused m) e f =
-      go (reachedOf p0 p1) refl (ltb (getD (L .pathNos) (Look.lineAt (L .refs) k) 0) (pathCount (L .paths))) refl (walkedOf p0 p1 (pathAt (L .paths) (getD (L .pathNos) (Look.lineAt (L .refs) k) 0))) refl e
+      go (reachedOf p0 p1) refl (ltb (getD (L .pathNos) (Look.lineAt (L .refs) k) 0) (pathCount (L .paths))) refl
+      (walkedOf p0 p1 (pathAt (L .paths) (getD (L .pathNos) (Look.lineAt (L .refs) k) 0))) refl e
     where
       p0 : Vec2
       p0 = lineAt (L .coords) (Look.lineAt (L .refs) k) .p0
@@ -142,7 +143,8 @@ module _ (L : Lent) (slots k n : ℕ) where
       why e = go (decLt (Look.lineAt (L .refs) k) (length (L .pathNos)))
         where
           go : Dec (Look.lineAt (L .refs) k < length (L .pathNos)) → LookWhy L slots k n
-          go (yes h) = found-why h (walkAt (L .pathNos) (L .coords) (L .paths) (Look.lineAt (L .refs) k)) refl (sym (is-found h (walkAt (L .pathNos) (L .coords) (L .paths) (Look.lineAt (L .refs) k)) refl) ∙ e)
+          go (yes h) = found-why h (walkAt (L .pathNos) (L .coords) (L .paths) (Look.lineAt (L .refs) k)) refl
+              (sym (is-found h (walkAt (L .pathNos) (L .coords) (L .paths) (Look.lineAt (L .refs) k)) refl) ∙ e)
           go (no h) = let f : Against noSuch ≡ Against n = sym (no-line (omega arith)) ∙ e in sevenLine (cc) (omega arith)
 
       halts : LookWhy L slots k n → lookOf L slots k ≡ Against n

@@ -33,7 +33,27 @@ use Rattle.frame.specs.declared.kinds.Framed.the-variants.{Refused}
 use Rattle.theorems.specs.Drawn.{actsBy, walkOf, drawnAt}
 use Rattle.theorems.specs.Events.{Event, EventOwn, eventsIn, eventsOf, tilesEv, sliceOf}
 use Rattle.theorems.specs.Refs.{AllCounted}
-use Rattle.theorems.specs.Refusing.{StopsAt, ActWhy, LineWhy, five, six, seven, eight, nine, ten, stops, RangeWhy, LookWhy, sevenLine, sixLine, sevenPath, sevenSkipped, tenStep, nineSlot, twelve}
+use Rattle.theorems.specs.Refusing.{
+  StopsAt,
+  ActWhy,
+  LineWhy,
+  five,
+  six,
+  seven,
+  eight,
+  nine,
+  ten,
+  stops,
+  RangeWhy,
+  LookWhy,
+  sevenLine,
+  sixLine,
+  sevenPath,
+  sevenSkipped,
+  tenStep,
+  nineSlot,
+  twelve,
+}
 use Rattle.theorems.proofs.Slots.{slice-below}
 use Rattle.theorems.proofs.SumLaws.{noEvent, eventAt, all-at, in-list, events, whole, Whole, tiles-below, owned, ref-line, ref-step, ref-slice, event-tile, sums}
 use Rattle.theorems.proofs.Counting.{length-tiles}
@@ -154,7 +174,8 @@ module _ (nos : List ℕ) (coords : List Float) (paths : List ℕ) (backs : List
       let f = frame-refused nos coords paths backs tiles tally refs segs bs ts ks rs sg s why k e in
       let c = f .counts in
       let r = frame-why nos coords paths backs tiles tally refs segs bs ts ks rs sg s why k e in
-      let h : LookWhy (lent nos coords paths (hand 0 ks) rs) (slotsOf (length segs)) k why = rw (f .handed) at (look-exact (lent nos coords paths ts rs) (slotsOf (length segs)) k why .0 (r .halts)) in
+      let h : LookWhy (lent nos coords paths (hand 0 ks) rs) (slotsOf (length segs)) k why = rw (f .handed) at
+      (look-exact (lent nos coords paths ts rs) (slotsOf (length segs)) k why .0 (r .halts)) in
       (crooked-alone (length nos) nos coords paths (length tiles) refs (c .marks) ks rs (s .refs) (c .all) (slotsOf (length segs)) (f .room) k (omega (arith, r .high)) why h, r)
 
   -- 1 to 4 come from the checks of what is lent alone

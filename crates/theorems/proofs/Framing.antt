@@ -181,7 +181,16 @@ module _ (nos : List ℕ) (coords : List Float) (paths : List ℕ) (backs : List
           let z : 0 ≤ s .refs = omega arith in
           let m : s .refs ≤ length rs / refWords = omega (arith, sums (length nos) nos coords paths (length tiles) refs (c .marks) cs rs (s .refs) (c .all) .there) in
           let q : length rs % refWords ≡ 0 = rw r e in
-          rw (row .0 .0, row .0 .1 .0, eq-eqb (length paths % pathWords) 0 p, eq-eqb (length rs % refWords) 0 q, row .0 .1 .1 .1 .1 .1 .0, le-leb 0 (s .refs) z, le-leb (s .refs) (length rs / refWords) m)
+          rw (
+            row .0 .0,
+            row .0 .1 .0,
+            eq-eqb (length paths % pathWords) 0 p,
+            eq-eqb (length rs % refWords) 0 q,
+            row .0 .1 .1 .1 .1 .1 .0,
+            le-leb 0
+                (s .refs) z,
+            le-leb (s .refs) (length rs / refWords) m,
+          )
 
       pub tiling-why : (why k : ℕ) (sg : List Float) → tiledOf 0 (s .refs) (lent nos coords paths (hand 0 cs) rs) segs ≡ tiled (Answer.Refused why k) sg
           → RangeWhy (lent nos coords paths (hand 0 cs) rs) (slotsOf (length segs)) (s .refs) 0 why k
@@ -207,7 +216,8 @@ module _ (nos : List ℕ) (coords : List Float) (paths : List ℕ) (backs : List
             → Ways (goOnCounted (countedOn (t .paper)) (λ f. outOf f (t .backs) (t .counts) tally (t .refs) segs) (λ s. placedOf s nos coords paths (t .backs) (t .counts) tally (t .refs) segs))
         go t q (Counted.Refused m item s) e =
             let zero : fromZero (length nos) nos coords paths (length tiles) refs ≡ t = rw paired at q in
-            let told : t ≡ toldOf (paperOf (Counted.Refused m item s)) (stOf (t .backs) (t .counts) (t .refs) (s .refs)) = λ i. record { paper = e i; backs = t .backs; counts = t .counts; refs = t .refs } in
+            let told : t ≡ toldOf (paperOf (Counted.Refused m item s)) (stOf (t .backs) (t .counts) (t .refs) (s .refs)) = λ i. record
+            { paper = e i; backs = t .backs; counts = t .counts; refs = t .refs } in
             let w = count-halts m item s (t .backs) (t .counts) (t .refs) (zero ∙ told) in
             rw (e, w .0) (line-refused m s (t .backs) (t .counts) (t .refs) ok (w .1) refl)
         go t q (Counted.Done s) e =
@@ -278,7 +288,12 @@ module _ (nos : List ℕ) (coords : List Float) (paths : List ℕ) (n : ℕ) (re
       go : HandCase (slotsOf (length segs)) cs cs → HandOut.handOutOf (slotsOf (length segs)) cs cs ≡ HandOut.outOf Answer.Done (hand 0 cs) cs
       go (unpaired a e) = absurd (a refl)
       go (many a b e) =
-          absurd (omega (arith, counts-long (length nos) nos coords paths n refs (c .marks) cs rs (s .refs) (c .all), checked paths n (passed (length nos) nos coords paths n refs (c .marks) cs rs (s .refs) (c .all)) .tiled))
+          absurd (omega (
+            arith,
+            counts-long (length nos) nos coords paths n refs (c .marks) cs rs (s .refs) (c .all),
+            checked paths n
+                (passed (length nos) nos coords paths n refs (c .marks) cs rs (s .refs) (c .all)) .tiled,
+          ))
       go (over a b d e) = absurd (omega (arith, total))
       go (fine a b d e) = e
 
@@ -317,9 +332,12 @@ module _ (nos : List ℕ) (coords : List Float) (paths : List ℕ) (backs : List
     where
       go : Way nos coords paths backs tiles tally refs segs (frameOf nos coords paths backs tiles tally refs segs)
           → Framing nos coords paths (length tiles) refs segs s bs ts ks rs sg a
-      go (lent-refused m item q o) = not-tiled (Refused Stage.Lent m item (runningOf 0 0)) a s (omega arith) (omega arith) (is-one (tiledAs a s) e (Refused Stage.Lent m item (runningOf 0 0)) backs tiles tally refs segs o)
-      go (line-refused m u bs′ cs rs′ q t o) = not-tiled (Refused Stage.Count m (u .lines) u) a s (omega arith) (omega arith) (is-one (tiledAs a s) e (Refused Stage.Count m (u .lines) u) bs′ cs tally rs′ segs o)
-      go (slots-refused u bs′ cs rs′ q c h o) = not-tiled (Refused Stage.HandOut noRoom 0 u) a s (omega arith) (omega arith) (is-one (tiledAs a s) e (Refused Stage.HandOut noRoom 0 u) bs′ cs tally rs′ segs o)
+      go (lent-refused m item q o) = not-tiled (Refused Stage.Lent m item (runningOf 0 0)) a s (omega arith) (omega arith)
+          (is-one (tiledAs a s) e (Refused Stage.Lent m item (runningOf 0 0)) backs tiles tally refs segs o)
+      go (line-refused m u bs′ cs rs′ q t o) = not-tiled (Refused Stage.Count m (u .lines) u) a s (omega arith) (omega arith)
+          (is-one (tiledAs a s) e (Refused Stage.Count m (u .lines) u) bs′ cs tally rs′ segs o)
+      go (slots-refused u bs′ cs rs′ q c h o) = not-tiled (Refused Stage.HandOut noRoom 0 u) a s (omega arith) (omega arith)
+          (is-one (tiledAs a s) e (Refused Stage.HandOut noRoom 0 u) bs′ cs tally rs′ segs o)
       go (tiled-out a′ u bs′ cs rs′ sg′ q c h t o) =
           let w = out-once (tiledAs a′ u) (tiledAs a s) bs′ bs (hand 0 cs) ts cs ks rs′ rs sg′ sg (sym o ∙ e) in
           let v = tiled-once a′ a u s (w .0) in
@@ -343,9 +361,12 @@ module _ (nos : List ℕ) (coords : List Float) (paths : List ℕ) (backs : List
     where
       go : Way nos coords paths backs tiles tally refs segs (frameOf nos coords paths backs tiles tally refs segs)
           → RangeWhy (lent nos coords paths ts rs) (slotsOf (length segs)) (s .refs) 0 why k
-      go (lent-refused m item q o) = clash (Refused Stage.Lent m item (runningOf 0 0)) (Refused Stage.Tile why k s) (omega arith) (is-one (Refused Stage.Tile why k s) e (Refused Stage.Lent m item (runningOf 0 0)) backs tiles tally refs segs o)
-      go (line-refused m u bs′ cs rs′ q t o) = clash (Refused Stage.Count m (u .lines) u) (Refused Stage.Tile why k s) (omega arith) (is-one (Refused Stage.Tile why k s) e (Refused Stage.Count m (u .lines) u) bs′ cs tally rs′ segs o)
-      go (slots-refused u bs′ cs rs′ q c h o) = clash (Refused Stage.HandOut noRoom 0 u) (Refused Stage.Tile why k s) (omega arith) (is-one (Refused Stage.Tile why k s) e (Refused Stage.HandOut noRoom 0 u) bs′ cs tally rs′ segs o)
+      go (lent-refused m item q o) = clash (Refused Stage.Lent m item (runningOf 0 0)) (Refused Stage.Tile why k s) (omega arith)
+          (is-one (Refused Stage.Tile why k s) e (Refused Stage.Lent m item (runningOf 0 0)) backs tiles tally refs segs o)
+      go (line-refused m u bs′ cs rs′ q t o) = clash (Refused Stage.Count m (u .lines) u) (Refused Stage.Tile why k s) (omega arith)
+          (is-one (Refused Stage.Tile why k s) e (Refused Stage.Count m (u .lines) u) bs′ cs tally rs′ segs o)
+      go (slots-refused u bs′ cs rs′ q c h o) = clash (Refused Stage.HandOut noRoom 0 u) (Refused Stage.Tile why k s) (omega arith)
+          (is-one (Refused Stage.Tile why k s) e (Refused Stage.HandOut noRoom 0 u) bs′ cs tally rs′ segs o)
       go (tiled-out a u bs′ cs rs′ sg′ q c h t o) =
           let w = out-once (tiledAs a u) (Refused Stage.Tile why k s) bs′ bs (hand 0 cs) ts cs ks rs′ rs sg′ sg (sym o ∙ e) in
           let v = tiled-once a (Answer.Refused why k) u s (w .0) in
@@ -364,9 +385,12 @@ module _ (nos : List ℕ) (coords : List Float) (paths : List ℕ) (backs : List
           let a : m ≡ why = cc in
           let b : i ≡ item = cc in
           (rw (a, b) at q, sym (w .1), sym (w .2), sym (w .3), sym (w .4), sym (w .5))
-      go (line-refused m u bs′ cs rs′ q t o) = clash (Refused Stage.Count m (u .lines) u) (Refused Stage.Lent why item s) (omega arith) (is-one (Refused Stage.Lent why item s) e (Refused Stage.Count m (u .lines) u) bs′ cs tally rs′ segs o)
-      go (slots-refused u bs′ cs rs′ q c h o) = clash (Refused Stage.HandOut noRoom 0 u) (Refused Stage.Lent why item s) (omega arith) (is-one (Refused Stage.Lent why item s) e (Refused Stage.HandOut noRoom 0 u) bs′ cs tally rs′ segs o)
-      go (tiled-out a u bs′ cs rs′ sg′ q c h t o) = not-tiled (Refused Stage.Lent why item s) a u (omega arith) (omega arith) (sym (is-one (Refused Stage.Lent why item s) e (tiledAs a u) bs′ (hand 0 cs) cs rs′ sg′ o))
+      go (line-refused m u bs′ cs rs′ q t o) = clash (Refused Stage.Count m (u .lines) u) (Refused Stage.Lent why item s) (omega arith)
+          (is-one (Refused Stage.Lent why item s) e (Refused Stage.Count m (u .lines) u) bs′ cs tally rs′ segs o)
+      go (slots-refused u bs′ cs rs′ q c h o) = clash (Refused Stage.HandOut noRoom 0 u) (Refused Stage.Lent why item s) (omega arith)
+          (is-one (Refused Stage.Lent why item s) e (Refused Stage.HandOut noRoom 0 u) bs′ cs tally rs′ segs o)
+      go (tiled-out a u bs′ cs rs′ sg′ q c h t o) = not-tiled (Refused Stage.Lent why item s) a u (omega arith) (omega arith)
+          (sym (is-one (Refused Stage.Lent why item s) e (tiledAs a u) bs′ (hand 0 cs) cs rs′ sg′ o))
 
   -- A frame is refused at a line: it is the first line refused, with that line's number and ground; the lines before it are counted, and the tally and the
   -- segments are as they were
@@ -378,7 +402,8 @@ module _ (nos : List ℕ) (coords : List Float) (paths : List ℕ) (backs : List
       go : Way nos coords paths backs tiles tally refs segs (frameOf nos coords paths backs tiles tally refs segs)
           → (item ≡ s .lines) × BatchWhy nos coords paths (length refs / refWords) 0 (length nos) (cleared (length tiles) refs) (stOf bs ts rs (s .refs)) (refusal why (s .lines))
           × (ks ≡ tally) × (sg ≡ segs)
-      go (lent-refused m i q o) = clash (Refused Stage.Lent m i (runningOf 0 0)) (Refused Stage.Count why item s) (omega arith) (is-one (Refused Stage.Count why item s) e (Refused Stage.Lent m i (runningOf 0 0)) backs tiles tally refs segs o)
+      go (lent-refused m i q o) = clash (Refused Stage.Lent m i (runningOf 0 0)) (Refused Stage.Count why item s) (omega arith)
+          (is-one (Refused Stage.Count why item s) e (Refused Stage.Lent m i (runningOf 0 0)) backs tiles tally refs segs o)
       go (line-refused m u bs′ cs rs′ q t o) =
           let w = out-once (Refused Stage.Count m (u .lines) u) (Refused Stage.Count why item s) bs′ bs cs ts tally ks rs′ rs segs sg (sym o ∙ e) in
           let f = w .0 in
@@ -387,18 +412,24 @@ module _ (nos : List ℕ) (coords : List Float) (paths : List ℕ) (backs : List
           let v : u ≡ s = cc in
           let l : u .lines ≡ s .lines = ap (λ (x : Running). x .lines) v in
           (sym b ∙ l, rw (a, v, w .1, w .2, w .4) at t, sym (w .3), sym (w .5))
-      go (slots-refused u bs′ cs rs′ q c h o) = clash (Refused Stage.HandOut noRoom 0 u) (Refused Stage.Count why item s) (omega arith) (is-one (Refused Stage.Count why item s) e (Refused Stage.HandOut noRoom 0 u) bs′ cs tally rs′ segs o)
-      go (tiled-out a u bs′ cs rs′ sg′ q c h t o) = not-tiled (Refused Stage.Count why item s) a u (omega arith) (omega arith) (sym (is-one (Refused Stage.Count why item s) e (tiledAs a u) bs′ (hand 0 cs) cs rs′ sg′ o))
+      go (slots-refused u bs′ cs rs′ q c h o) = clash (Refused Stage.HandOut noRoom 0 u) (Refused Stage.Count why item s) (omega arith)
+          (is-one (Refused Stage.Count why item s) e (Refused Stage.HandOut noRoom 0 u) bs′ cs tally rs′ segs o)
+      go (tiled-out a u bs′ cs rs′ sg′ q c h t o) = not-tiled (Refused Stage.Count why item s) a u (omega arith) (omega arith)
+          (sym (is-one (Refused Stage.Count why item s) e (tiledAs a u) bs′ (hand 0 cs) cs rs′ sg′ o))
 
   -- The sums of a frame are never refused
   pub frame-no-sums : (s : Running) (why item : ℕ) → frameOf nos coords paths backs tiles tally refs segs ≡ outOf (Refused Stage.Backdrop why item s) bs ts ks rs sg → ⊥
   frame-no-sums s why item e = go (ways nos coords paths backs tiles tally refs segs)
     where
       go : Way nos coords paths backs tiles tally refs segs (frameOf nos coords paths backs tiles tally refs segs) → ⊥
-      go (lent-refused m i q o) = clash (Refused Stage.Lent m i (runningOf 0 0)) (Refused Stage.Backdrop why item s) (omega arith) (is-one (Refused Stage.Backdrop why item s) e (Refused Stage.Lent m i (runningOf 0 0)) backs tiles tally refs segs o)
-      go (line-refused m u bs′ cs rs′ q t o) = clash (Refused Stage.Count m (u .lines) u) (Refused Stage.Backdrop why item s) (omega arith) (is-one (Refused Stage.Backdrop why item s) e (Refused Stage.Count m (u .lines) u) bs′ cs tally rs′ segs o)
-      go (slots-refused u bs′ cs rs′ q c h o) = clash (Refused Stage.HandOut noRoom 0 u) (Refused Stage.Backdrop why item s) (omega arith) (is-one (Refused Stage.Backdrop why item s) e (Refused Stage.HandOut noRoom 0 u) bs′ cs tally rs′ segs o)
-      go (tiled-out a u bs′ cs rs′ sg′ q c h t o) = not-tiled (Refused Stage.Backdrop why item s) a u (omega arith) (omega arith) (sym (is-one (Refused Stage.Backdrop why item s) e (tiledAs a u) bs′ (hand 0 cs) cs rs′ sg′ o))
+      go (lent-refused m i q o) = clash (Refused Stage.Lent m i (runningOf 0 0)) (Refused Stage.Backdrop why item s) (omega arith)
+          (is-one (Refused Stage.Backdrop why item s) e (Refused Stage.Lent m i (runningOf 0 0)) backs tiles tally refs segs o)
+      go (line-refused m u bs′ cs rs′ q t o) = clash (Refused Stage.Count m (u .lines) u) (Refused Stage.Backdrop why item s) (omega arith)
+          (is-one (Refused Stage.Backdrop why item s) e (Refused Stage.Count m (u .lines) u) bs′ cs tally rs′ segs o)
+      go (slots-refused u bs′ cs rs′ q c h o) = clash (Refused Stage.HandOut noRoom 0 u) (Refused Stage.Backdrop why item s) (omega arith)
+          (is-one (Refused Stage.Backdrop why item s) e (Refused Stage.HandOut noRoom 0 u) bs′ cs tally rs′ segs o)
+      go (tiled-out a u bs′ cs rs′ sg′ q c h t o) = not-tiled (Refused Stage.Backdrop why item s) a u (omega arith) (omega arith)
+          (sym (is-one (Refused Stage.Backdrop why item s) e (tiledAs a u) bs′ (hand 0 cs) cs rs′ sg′ o))
 
   -- A frame is refused by hand-out: with 9, where more references are counted than there are segments; the counts stand where the slots would, and the
   -- tally and the segments are as they were
@@ -408,8 +439,10 @@ module _ (nos : List ℕ) (coords : List Float) (paths : List ℕ) (backs : List
     where
       go : Way nos coords paths backs tiles tally refs segs (frameOf nos coords paths backs tiles tally refs segs)
           → (why ≡ noRoom) × (item ≡ 0) × (slotsOf (length segs) < s .refs) × Counts nos coords paths (length tiles) refs s bs ts rs × (ks ≡ tally) × (sg ≡ segs)
-      go (lent-refused m i q o) = clash (Refused Stage.Lent m i (runningOf 0 0)) (Refused Stage.HandOut why item s) (omega arith) (is-one (Refused Stage.HandOut why item s) e (Refused Stage.Lent m i (runningOf 0 0)) backs tiles tally refs segs o)
-      go (line-refused m u bs′ cs rs′ q t o) = clash (Refused Stage.Count m (u .lines) u) (Refused Stage.HandOut why item s) (omega arith) (is-one (Refused Stage.HandOut why item s) e (Refused Stage.Count m (u .lines) u) bs′ cs tally rs′ segs o)
+      go (lent-refused m i q o) = clash (Refused Stage.Lent m i (runningOf 0 0)) (Refused Stage.HandOut why item s) (omega arith)
+          (is-one (Refused Stage.HandOut why item s) e (Refused Stage.Lent m i (runningOf 0 0)) backs tiles tally refs segs o)
+      go (line-refused m u bs′ cs rs′ q t o) = clash (Refused Stage.Count m (u .lines) u) (Refused Stage.HandOut why item s) (omega arith)
+          (is-one (Refused Stage.HandOut why item s) e (Refused Stage.Count m (u .lines) u) bs′ cs tally rs′ segs o)
       go (slots-refused u bs′ cs rs′ q c h o) =
           let w = out-once (Refused Stage.HandOut noRoom 0 u) (Refused Stage.HandOut why item s) bs′ bs cs ts tally ks rs′ rs segs sg (sym o ∙ e) in
           let f = w .0 in
@@ -417,7 +450,8 @@ module _ (nos : List ℕ) (coords : List Float) (paths : List ℕ) (backs : List
           let b : item ≡ 0 = cc in
           let v : u ≡ s = cc in
           (a, b, rw v at h, rw (v, w .1, w .2, w .4) at c, sym (w .3), sym (w .5))
-      go (tiled-out a u bs′ cs rs′ sg′ q c h t o) = not-tiled (Refused Stage.HandOut why item s) a u (omega arith) (omega arith) (sym (is-one (Refused Stage.HandOut why item s) e (tiledAs a u) bs′ (hand 0 cs) cs rs′ sg′ o))
+      go (tiled-out a u bs′ cs rs′ sg′ q c h t o) = not-tiled (Refused Stage.HandOut why item s) a u (omega arith) (omega arith)
+          (sym (is-one (Refused Stage.HandOut why item s) e (tiledAs a u) bs′ (hand 0 cs) cs rs′ sg′ o))
 
 -- ---- two frames
 
@@ -435,7 +469,8 @@ frames-isolated paths nos coords backs tiles tally refs segs s bs ts ks rs sg no
     let c = frame-done nos coords paths backs tiles tally refs segs bs ts ks rs sg s e .counts in
     let c′ : Counts nos′ coords′ paths (length tiles) refs′ s′ bs′ ks′ rs′ = rw (← l) at (frame-done nos′ coords′ paths backs′ tiles′ tally′ refs′ segs′ bs′ ts′ ks′ rs′ sg′ s′ e′ .counts) in (
       (λ t i. isolated paths (length tiles) (length nos) nos coords refs (c .marks) ks rs (s .refs) (length nos′) nos′ coords′ refs′ (c′ .marks) ks′ rs′ (s′ .refs) (c .all) (c′ .all) p q t i .0),
-      (λ x y i. isolated-sums paths (length tiles) (length nos) nos coords refs (c .marks) ks rs (s .refs) (length nos′) nos′ coords′ refs′ (c′ .marks) ks′ rs′ (s′ .refs) (c .all) (c′ .all) p q k bs bs′ (c .sums) (c′ .sums) x y i),
+      (λ x y i. isolated-sums paths (length tiles) (length nos) nos coords refs (c .marks) ks rs (s .refs) (length nos′) nos′ coords′ refs′ (c′ .marks) ks′ rs′
+          (s′ .refs) (c .all) (c′ .all) p q k bs bs′ (c .sums) (c′ .sums) x y i),
     )
 
 -- One answer only

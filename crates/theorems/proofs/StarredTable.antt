@@ -34,7 +34,12 @@ use Rattle.theorems.specs.Starred.{table, Holding}
 
 -- names all that a row computes with
 unfoldable pub computing : ℕ
-unfolding add sub mul div neg le lt eq ne ofInt ofBits toSigned toUnsigned isNan round floorOf ceilOf roundOf absOf minOf maxOf clampOf signed signOf spanOf edgeMost mostSteps coordMost stepRange pathAt pathsFrom pathsAnswer cutOf insideOf rowOf endsOf lineOf flatOf pastOf zAt tileIn stepOf lineAt walkedOf walkAt clippedOf rowActs stepsActs runActs planStep batchOf hitAt planOf lineStep callAnswer counted handOutOf cornerOf farOf atRowOf atColOf clipOf makeOf edgeOf offOf turnOf heldOf firstOf lastOf segmentOf pieceOf foundOf pieceTo wordTo stepTo foundTo lookOf rangeOf wholeOf checksOf callOf areaAfter finishOf sumOf pixelOf channelOf colourOf overOf byteOf packOf opOf moveOf wholeMove traceOf cover paint pointOf putTile tileTrace colourAt tilePixels tileStep tilesOf fineOf mapFrom
+unfolding add sub mul div neg le lt eq ne ofInt ofBits toSigned toUnsigned isNan round floorOf ceilOf roundOf absOf minOf maxOf clampOf signed signOf spanOf
+    edgeMost mostSteps coordMost stepRange pathAt pathsFrom pathsAnswer cutOf insideOf rowOf endsOf lineOf flatOf pastOf zAt tileIn stepOf lineAt walkedOf
+    walkAt clippedOf rowActs stepsActs runActs planStep batchOf hitAt planOf lineStep callAnswer counted handOutOf cornerOf farOf atRowOf atColOf clipOf makeOf
+    edgeOf offOf turnOf heldOf firstOf lastOf segmentOf pieceOf foundOf pieceTo wordTo stepTo foundTo lookOf rangeOf wholeOf checksOf callOf areaAfter finishOf
+    sumOf pixelOf channelOf colourOf overOf byteOf packOf opOf moveOf wholeMove traceOf cover paint pointOf putTile tileTrace colourAt tilePixels tileStep
+    tilesOf fineOf mapFrom
 computing = 0
 
 pub starred : Holding table

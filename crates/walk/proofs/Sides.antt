@@ -81,7 +81,8 @@ large-minus (fin t m e) nan n h g = absurd h
 large-minus (fin t m e) (inf s) n h g = absurd h
 large-minus (fin t m e) (fin true a d) n h g = absurd (false≢true (sym (h .0)))
 large-minus (fin t m e) (fin false a d) n h g =
-    let k : 2 ^ 24 * down e ≤ m * up e = ltb-false (m * up e) (2 ^ 24 * down e) (sym (lt-plus m e (whole false (2 ^ 24)) (2 ^ 24) (whole-value false (2 ^ 24) (lit≤ tt))) ∙ not-lt-of-le (whole false (2 ^ 24)) (fin false m e) g) in
+    let k : 2 ^ 24 * down e ≤ m * up e = ltb-false (m * up e) (2 ^ 24 * down e)
+    (sym (lt-plus m e (whole false (2 ^ 24)) (2 ^ 24) (whole-value false (2 ^ 24) (lit≤ tt))) ∙ not-lt-of-le (whole false (2 ^ 24)) (fin false m e) g) in
     lt-ltb 0 (m * up e * down d + a * up d * down e) (some (m * up e * down d) (a * up d * down e) (mul-pos (least (m * up e) (down e) (down-pos e) k) (down-pos d)))
   where
     least : (x y : ℕ) → 0 < y → 2 ^ 24 * y ≤ x → 0 < x
@@ -102,7 +103,8 @@ beyond-large false k lo hi a b h =
     ∙ none-last (not (lt (whole false k) (whole false lo)))
 beyond-large true k lo hi a b h =
     let r : le (whole false (2 ^ 24)) (whole false k) ≡ true = is-true (le (whole false (2 ^ 24)) (whole false k)) (round-mono binary32 (2 ^ 24) 1 k 1 (lit< tt) (lit< tt) (omega arith)) in
-    let m : lt (signed true (whole false k)) (whole false lo) ≡ true = large-minus (whole false k) (whole false lo) lo (whole-value false lo (omega arith)) (subst (λ (y : Float). le (whole false (2 ^ 24)) y ≡ true) (round-signed false k 1) r) in
+    let m : lt (signed true (whole false k)) (whole false lo) ≡ true = large-minus (whole false k) (whole false lo) lo (whole-value false lo (omega arith))
+    (subst (λ (y : Float). le (whole false (2 ^ 24)) y ≡ true) (round-signed false k 1) r) in
     ap (λ (q : Bool). not q && lt (whole true k) (whole false hi)) (ap (λ (y : Float). lt y (whole false lo)) (round-signed true k 1) ∙ m)
 
 -- ---- a whole number, rounded to a float: the tests agree at any size
@@ -222,7 +224,8 @@ module _ (p : Pace) (l : Starts (p .sign) (p .x0) (p .y0)) (b : Path) (k : Boxed
 
   -- the column and the row, exact or rounded once
   x-rounded : T (finite z) → Rounded x (l .x0n +ℤ turn (l .turned) n)
-  x-rounded f = add-rounded (p .x0) (mul binary32 (p .sign) z) (l .x0n) (turn (l .turned) n) (l .x0-whole) (turned-whole (p .sign) (p .x0) (p .y0) l z n (z-fits (p .a) (p .b) (float i)) (z-whole (p .a) (p .b) (float i) f))
+  x-rounded f = add-rounded (p .x0) (mul binary32 (p .sign) z) (l .x0n) (turn (l .turned) n) (l .x0-whole)
+      (turned-whole (p .sign) (p .x0) (p .y0) l z n (z-fits (p .a) (p .b) (float i)) (z-whole (p .a) (p .b) (float i) f))
 
   y-rounded : T (finite z) → Rounded y (l .y0n +ℤ pos i -ℤ n)
   y-rounded f =
@@ -253,7 +256,8 @@ module _ (p : Pace) (l : Starts (p .sign) (p .x0) (p .y0)) (b : Path) (k : Boxed
           rw (e, beyond x (b .x0) (b .x1) near wide (ap (λ (u : Float). finite (add binary32 (p .x0) (mul binary32 u z))) (l .sign-is) ∙ no-col (l .turned) (p .x0) (l .x0n) z (l .x0-whole) e))
 
   -- a float that passes is its cast
-  is-cast : (v : Float) (m : ℤ) (lo hi : ℕ) → lo ≤ 2 ^ 20 → hi ≤ 2 ^ 20 → Rounded v m → betweenOf v (float lo) (float hi) ≡ true → IsWhole v (pos (cutOf (toSigned 31 v))) × (cutOf (toSigned 31 v) < 2 ^ 20)
+  is-cast : (v : Float) (m : ℤ) (lo hi : ℕ) → lo ≤ 2 ^ 20 → hi ≤ 2 ^ 20 → Rounded v m → betweenOf v (float lo) (float hi) ≡ true → IsWhole v
+      (pos (cutOf (toSigned 31 v))) × (cutOf (toSigned 31 v) < 2 ^ 20)
   is-cast v m lo hi a c r q =
       let g = passes v m lo hi a c r q in
       let t = inside-bounds (toSigned 31 v) lo hi (between v m lo hi a c r ∙ q) in

@@ -120,7 +120,17 @@ tile-step t x0 y0 n m i j p q =
   where
     last : (m : ℤ) → y0 +ℤ pos i -ℤ n ≡ y0 +ℤ pos j -ℤ m → n ≡ m → i ≡ j
     last m q e =
-        omega (arith, sum-parts (y0 +ℤ pos i) (negℤ n), sum-parts (y0 +ℤ pos j) (negℤ m), sum-parts y0 (pos i), sum-parts y0 (pos j), ap plusOf q, ap minusOf q, ap (λ (k : ℤ). plusOf (negℤ k)) e, ap (λ (k : ℤ). minusOf (negℤ k)) e)
+        omega (
+          arith,
+          sum-parts (y0 +ℤ pos i) (negℤ n),
+          sum-parts (y0 +ℤ pos j) (negℤ m),
+          sum-parts y0 (pos i),
+          sum-parts y0 (pos j),
+          ap plusOf q,
+          ap minusOf q,
+          ap (λ (k : ℤ). plusOf (negℤ k)) e,
+          ap (λ (k : ℤ). minusOf (negℤ k)) e,
+        )
 
 -- for any z and w that are whole `f32`s: a tile gives z, and then the step
 pub steps-apart : (sign x0 y0 : Float) → Starts sign x0 y0 → (z w : Float) (n m : ℤ) → T (fits binary32 z) → IsWhole z n → T (fits binary32 w) → IsWhole w m

@@ -156,8 +156,10 @@ module _ (p : Pace) (l : Starts (p .sign) (p .x0) (p .y0)) (b : Path) (k : Boxed
 
       same : T (finite f) → (s : Bool) → insideOf u (b .x0) (b .x1) ≡ s → (s′ : Bool) → insideOf u′ (b .x0) (b .x1) ≡ s′
           → (u ≡ u′) ⊎ ((insideOf u (b .x0) (b .x1) ≡ false) × (insideOf u′ (b .x0) (b .x1) ≡ false))
-      same h true a s′ c = inl (col-same (p .sign) (p .x0) (p .y0) l f (zWhole (p .a) (p .b) (float i)) (z-fits (p .a) (p .b) (float i)) (z-whole (p .a) (p .b) (float i) h) (inside-small u (b .x0) (b .x1) (k .wide) a))
-      same h false a true c = inl (col-again (p .sign) (p .x0) (p .y0) l f (zWhole (p .a) (p .b) (float i)) (z-fits (p .a) (p .b) (float i)) (z-whole (p .a) (p .b) (float i) h) (inside-small u′ (b .x0) (b .x1) (k .wide) c))
+      same h true a s′ c = inl (col-same (p .sign) (p .x0) (p .y0) l f (zWhole (p .a) (p .b) (float i)) (z-fits (p .a) (p .b) (float i))
+          (z-whole (p .a) (p .b) (float i) h) (inside-small u (b .x0) (b .x1) (k .wide) a))
+      same h false a true c = inl (col-again (p .sign) (p .x0) (p .y0) l f (zWhole (p .a) (p .b) (float i)) (z-fits (p .a) (p .b) (float i))
+          (z-whole (p .a) (p .b) (float i) h) (inside-small u′ (b .x0) (b .x1) (k .wide) c))
       same h false a false c = inr (a, c)
 
       on : ℤ → Step

@@ -66,7 +66,8 @@ pub record LineTold (nos : List ℕ) (coords : List Float) (paths : List ℕ) (l
 -- of a box with no columns every line is skipped
 no-columns : (p0 p1 : Vec2) (b : Path) → b .x1 ≡ b .x0 → skipped p0 p1 b ≡ true
 unfolding pastOf
-no-columns p0 p1 b e = go (flatOf (endsOf p0 p1 .s0) (endsOf p0 p1 .s1)) (le (float (b .y1)) (endsOf p0 p1 .s0 .y)) (lt (endsOf p0 p1 .s1 .y) (float (b .y0))) (le (float (b .x1)) (minOf (endsOf p0 p1 .s0 .x) (endsOf p0 p1 .s1 .x))) (eqb (b .x1) (b .x0)) (eq-eqb (b .x1) (b .x0) e)
+no-columns p0 p1 b e = go (flatOf (endsOf p0 p1 .s0) (endsOf p0 p1 .s1)) (le (float (b .y1)) (endsOf p0 p1 .s0 .y)) (lt (endsOf p0 p1 .s1 .y) (float (b .y0)))
+    (le (float (b .x1)) (minOf (endsOf p0 p1 .s0 .x) (endsOf p0 p1 .s1 .x))) (eqb (b .x1) (b .x0)) (eq-eqb (b .x1) (b .x0) e)
   where
     go : (p q r s t : Bool) → t ≡ true → (p || (q || (r || (s || t)))) ≡ true
     go true q r s t h = refl

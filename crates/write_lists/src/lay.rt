@@ -135,7 +135,9 @@ pub(crate) fn lay_tile(
         × (Near (tables (now paths) (now paints) (now backdrops) (now stored) (now tally)) cols t (take n (now near)))
         × (Room (penOf t fresh) (tilePairs (tables (now paths) (now paints) (now backdrops) (now stored) (now tally)) cols t) (length (now words)))
         × (allFit mostSlots (tilePairs (tables (now paths) (now paints) (now backdrops) (now stored) (now tally)) cols t) ≡ true) ⌝ }
-    ensures { λ r. ⌜ (now (words .exit) ≡ written (laid (penOf t fresh) (tilePairs (tables (now (paths .entry)) (now (paints .entry)) (now (backdrops .entry)) (now (stored .entry)) (now (tally .entry))) cols t)) (now (words .entry)))
+    ensures { λ r. ⌜ (now (words .exit) ≡ written (laid (penOf t fresh)
+        (tilePairs (tables (now (paths .entry)) (now (paints .entry)) (now (backdrops .entry)) (now (stored .entry)) (now (tally .entry))) cols t))
+        (now (words .entry)))
         × (r ≡ fresh + tileWords * jumpsOf ownWords (tilePairs (tables (now (paths .entry)) (now (paints .entry)) (now (backdrops .entry)) (now (stored .entry)) (now (tally .entry))) cols t)) ⌝ }
 {
     let x = t % cols;

@@ -217,7 +217,8 @@ fn lay_by(
         × (tileWords * (n + freshOf (tables (now paths) (now paints) (now backdrops) (now stored) (now tally)) cols (from 0 n)) ≤ wordsNamed)
         × (fillsFit (tables (now paths) (now paints) (now backdrops) (now stored) (now tally)) cols mostSlots (from 0 n) ≡ true)
         × (length (now row) ≡ mostPaths) × (length (now wide) ≡ mostPaths) × (length (now near) ≡ mostPaths) ⌝ }
-    ensures { λ _. ⌜ now (words .exit) ≡ written (listsFrom (tables (now (paths .entry)) (now (paints .entry)) (now (backdrops .entry)) (now (stored .entry)) (now (tally .entry))) cols (tileWords * n) (from 0 n)) (now (words .entry)) ⌝ }
+    ensures { λ _. ⌜ now (words .exit) ≡ written (listsFrom (tables (now (paths .entry)) (now (paints .entry)) (now (backdrops .entry)) (now (stored .entry))
+        (now (tally .entry))) cols (tileWords * n) (from 0 n)) (now (words .entry)) ⌝ }
 {
     let mut held = nothing_held();
     let mut fresh = TILE_WORDS * (n as usize);
@@ -256,7 +257,8 @@ fn lay_tiles(
         × (tileWords * (n + freshOf (tables (now paths) (now paints) (now backdrops) (now stored) (now tally)) cols (from 0 n)) ≤ length (now words))
         × (tileWords * (n + freshOf (tables (now paths) (now paints) (now backdrops) (now stored) (now tally)) cols (from 0 n)) ≤ wordsNamed)
         × (fillsFit (tables (now paths) (now paints) (now backdrops) (now stored) (now tally)) cols mostSlots (from 0 n) ≡ true) ⌝ }
-    ensures { λ _. ⌜ now (words .exit) ≡ written (listsFrom (tables (now (paths .entry)) (now (paints .entry)) (now (backdrops .entry)) (now (stored .entry)) (now (tally .entry))) cols (tileWords * n) (from 0 n)) (now (words .entry)) ⌝ }
+    ensures { λ _. ⌜ now (words .exit) ≡ written (listsFrom (tables (now (paths .entry)) (now (paints .entry)) (now (backdrops .entry)) (now (stored .entry))
+        (now (tally .entry))) cols (tileWords * n) (from 0 n)) (now (words .entry)) ⌝ }
 {
     let mut row = no_paths();
     let mut wide = no_paths();
@@ -289,7 +291,8 @@ pub fn write_lists(
     room: u32,
     words: &mut [u32],
 ) -> Answer
-    ensures { λ r. ⌜ ListsMet (tables (now (paths .entry)) (now (paints .entry)) (now (backdrops .entry)) (now (stored .entry)) (now (tally .entry))) cols rows room (now (words .entry)) r (now (words .exit)) ⌝ }
+    ensures { λ r. ⌜ ListsMet (tables (now (paths .entry)) (now (paints .entry)) (now (backdrops .entry)) (now (stored .entry)) (now (tally .entry))) cols rows
+        room (now (words .entry)) r (now (words .exit)) ⌝ }
 {
     let a = check_call(paths, paints, backdrops, stored, tally, cols, rows);
     let Answer::Done = a else {

@@ -105,7 +105,8 @@ fn by_path(
     t: usize,
 ) -> Put
     requires { ⌜ (p * paintWords + paintWords ≤ length (now paints)) × (t < length (now backdrops)) × (t < length (now stored)) × (t < length (now tally)) ⌝ }
-    ensures { λ r. ⌜ putList r ≡ onTile (colourAt (now (paints .entry)) p) (ruleAt (now (paints .entry)) p) (getD (now (tally .entry)) t 0) (getD (now (stored .entry)) t 0) (getD (now (backdrops .entry)) t (pos 0)) ⌝ }
+    ensures { λ r. ⌜ putList r ≡ onTile (colourAt (now (paints .entry)) p) (ruleAt (now (paints .entry)) p) (getD (now (tally .entry)) t 0)
+        (getD (now (stored .entry)) t 0) (getD (now (backdrops .entry)) t (pos 0)) ⌝ }
 {
     let k = (p as usize) * PAINT_WORDS;
     let colour = paints[k + PAINT_COLOUR];

@@ -68,7 +68,8 @@ loop-again c =
     let l = c .before .before .before .before .before .before .before .before .loop in
     let at : c .before .before .before .before .before .before .path-at .result ≡ pathAt (a .paths .now) (l .k) = c .before .before .before .before .before .before .path-at .ensures in
     let f = checked (a .paths .now) (length (a .backdrops .now)) (c .before .before .before .before .before .before .before .before .before .before .pre .1) .fits (l .k) (omega arith) in
-    let fine : pathFits (pathAt (a .paths .now) (l .k)) (l .backdrops) ≡ true = rw at at (sym (c .before .before .before .before .path-fits .ensures) ∙ not-false _ (c .before .before .before .if1 .left)) in
+    let fine : pathFits (pathAt (a .paths .now) (l .k)) (l .backdrops) ≡ true = rw at at
+    (sym (c .before .before .before .before .path-fits .ensures) ∙ not-false _ (c .before .before .before .if1 .left)) in
     let after : c .before .sum-path .last .1 .0 ≡ pathSums (pathAt (a .paths .now) (l .k)) (l .backdrops) = rw at at (c .before .sum-path .ensures) in
     rw after
     (omega arith, length-path (pathAt (a .paths .now) (l .k)) (l .backdrops) ∙ l .inv .1, sym (paths-turn (a .paths .now) (a .n) (l .k) (l .backdrops) (omega arith) fine) ∙ l .inv .2)

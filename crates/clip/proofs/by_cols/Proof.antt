@@ -28,7 +28,15 @@ returns c = rw (rw (c .before .before .max .ensures, c .before .before .before .
 
 returns-2 : tie.Need-returns-2
 unfolding colsOf
-returns-2 c = rw (rw (c .before .before .before .before .max .ensures, c .before .before .before .before .before .of-u32 .ensures) at (c .before .before .before .if1 .left), c .by-right .ensures, c .before .before .of-u322 .ensures, c .before .by-left .ensures, c .before .before .before .before .before .of-u32 .ensures)
+returns-2 c =
+    let s = c .before .before .before .before .before in
+    rw (
+      rw (c .before .before .before .before .max .ensures, s .of-u32 .ensures) at (c .before .before .before .if1 .left),
+      c .by-right .ensures,
+      c .before .before .of-u322 .ensures,
+      c .before .by-left .ensures,
+      s .of-u32 .ensures,
+    )
 
 pub by-cols-spec : {M : Type 1} → statement M
 by-cols-spec =

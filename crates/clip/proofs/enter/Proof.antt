@@ -22,7 +22,17 @@ row-requires-2 c κs = search needs
 
 returns : tie.Need-returns
 unfolding enterOf
-returns c = rw (c .before .before .before .before .before .if1 .taken, lt-ltb _ _ (rw (c .before .before .before .before .before .before .to-u32 .ensures) at (c .before .before .before .if2 .taken)), c .row2 .ensures, c .before .pick .ensures, c .before .before .before .before .before .before .before .row .ensures, c .before .before .before .before .before .before .before .before .z-at .ensures, c .before .before .before .before .before .before .to-u32 .ensures)
+returns c =
+    let s = c .before .before .before .before .before .before in
+    rw (
+      c .before .before .before .before .before .if1 .taken,
+      lt-ltb _ _ (rw (s .to-u32 .ensures) at (c .before .before .before .if2 .taken)),
+      c .row2 .ensures,
+      c .before .pick .ensures,
+      c .before .before .before .before .before .before .before .row .ensures,
+      c .before .before .before .before .before .before .before .before .z-at .ensures,
+      s .to-u32 .ensures,
+    )
 
 returns-2 : tie.Need-returns-2
 unfolding enterOf
@@ -36,7 +46,17 @@ row-requires-3 c κs = search needs
 
 returns-3 : tie.Need-returns-3
 unfolding enterOf
-returns-3 c = rw (c .before .before .before .before .if1 .left, lt-ltb _ _ (rw (c .before .before .before .before .before .to-u32 .ensures) at (c .before .before .if3 .taken)), c .row3 .ensures, c .before .ceil .ensures, c .before .before .before .before .before .before .row .ensures, c .before .before .before .before .before .before .before .z-at .ensures, c .before .before .before .before .before .to-u32 .ensures)
+returns-3 c =
+    let s = c .before .before .before .before .before in
+    rw (
+      c .before .before .before .before .if1 .left,
+      lt-ltb _ _ (rw (s .to-u32 .ensures) at (c .before .before .if3 .taken)),
+      c .row3 .ensures,
+      c .before .ceil .ensures,
+      c .before .before .before .before .before .before .row .ensures,
+      c .before .before .before .before .before .before .before .z-at .ensures,
+      s .to-u32 .ensures,
+    )
 
 returns-4 : tie.Need-returns-4
 unfolding enterOf

@@ -52,11 +52,16 @@ loop-less : tie.Need-loop-less Inv-loop μ-loop
 loop-less c = search needs
 
 loop-again : tie.Need-loop-again Inv-loop μ-loop
-loop-again c = (search needs, turned (each (now (c .before .before .before .before .before .before .args .area)) (c .before .before .before .before .before .before .args .fg)) [] 0 (c .before .before .before .before .loop .i) _ (c .before .before .before .before .loop .rgba) _ (search needs) (c .before .before .before .before .loop .inv .1) (c .over .ensures))
+loop-again c =
+    let s = c .before .before .before .before .before .before in
+    let t = c .before .before .before .before in
+    (search needs, turned (each (now (s .args .area)) (s .args .fg)) [] 0 (t .loop .i) _ (t .loop .rgba) _ (search needs) (t .loop .inv .1) (c .over .ensures))
 
 returns : tie.Need-returns Inv-loop μ-loop
 unfolding compositeOf
-returns c = ended (each (now (c .before .before .before .args .area)) (c .before .before .before .args .fg)) [] tileSize (c .before .loop .i) _ _ (c .before .loop .inv .1) (c .before .before .before .pre .0) (omega arith)
+returns c =
+    let s = c .before .before .before in
+    ended (each (now (s .args .area)) (s .args .fg)) [] tileSize (c .before .loop .i) _ _ (c .before .loop .inv .1) (s .pre .0) (omega arith)
 
 pub composite-spec : {M : Type 1} → statement M
 composite-spec =

@@ -53,7 +53,8 @@ enum-told : tie.Need-enum-told
 enum-told c = search needs
 
 fill-path-requires : tie.Need-fill-path-requires
-fill-path-requires c κs = checked (now (c .before .before .before .before .before .before .args .segments)) _ _ _ (sym (c .before .before .before .check-fill .ensures) ∙ c .before .enum-told .given .1)
+fill-path-requires c κs = checked (now (c .before .before .before .before .before .before .args .segments)) _ _ _
+    (sym (c .before .before .before .check-fill .ensures) ∙ c .before .enum-told .given .1)
 
 same-length : tie.Need-same-length
 same-length c = search needs
@@ -61,8 +62,10 @@ same-length c = search needs
 returns-2 : tie.Need-returns-2
 returns-2 c =
     let a = c .before .before .before .before .before .before .before .before .before .args in
-    yes (now (a .segments)) (a .first) (a .number) (a .even-odd) (a .backdrop) (a .x-tile) (a .y-tile) (now (a .area)) _ (c .before .before .before .before .before .before .check-fill .ensures) _ (c .before .before .before .before .enum-told .given .1)
-    (c .before .before .fill-path .ensures ∙ ap (λ (z : ℤ). coverageOf (now (a .segments)) (a .first) (a .number) (a .even-odd) z (a .x-tile) (a .y-tile)) (toZ-ofZ w32 (a .backdrop) (c .before .before .before .before .before .before .before .before .before .fits .backdrop)))
+    yes (now (a .segments)) (a .first) (a .number) (a .even-odd) (a .backdrop) (a .x-tile) (a .y-tile) (now (a .area)) _
+    (c .before .before .before .before .before .before .check-fill .ensures) _ (c .before .before .before .before .enum-told .given .1)
+    (c .before .before .fill-path .ensures ∙ ap (λ (z : ℤ). coverageOf (now (a .segments)) (a .first) (a .number) (a .even-odd) z (a .x-tile) (a .y-tile))
+    (toZ-ofZ w32 (a .backdrop) (c .before .before .before .before .before .before .before .before .before .fits .backdrop)))
 
 pub fill-spec : {M : Type 1} → statement M
 fill-spec =

@@ -41,16 +41,45 @@ mul-if5 : tie.Need-mul-if5
 mul-if5 c = search needs
 
 returns-5 : tie.Need-returns-5
-returns-5 c = rw (eq-eqb _ _ (c .before .before .before .before .if1 .left), le-leb _ _ (c .before .before .before .if2 .left), le-leb _ _ (c .before .before .if3 .left), le-leb _ _ (c .before .if4 .left), lt-leb _ _ (c .if5 .taken))
+returns-5 c = rw (
+  eq-eqb _ _ (c .before .before .before .before .if1 .left),
+  le-leb _ _ (c .before .before .before .if2 .left),
+  le-leb _ _
+      (c .before .before .if3 .left),
+  le-leb _ _ (c .before .if4 .left),
+  lt-leb _ _ (c .if5 .taken),
+)
 
 mul-if6 : tie.Need-mul-if6
 mul-if6 c = record { fits = product _ _ (search needs) (search needs) }
 
 returns-6 : tie.Need-returns-6
-returns-6 c = rw (eq-eqb _ _ (c .before .before .before .before .before .if1 .left), le-leb _ _ (c .before .before .before .before .if2 .left), le-leb _ _ (c .before .before .before .if3 .left), le-leb _ _ (c .before .before .if4 .left), le-leb _ _ (c .before .if5 .left), lt-leb _ _ (few (c .before .before .before .before .before .before .args .width) (c .before .before .before .before .before .before .args .rows) (c .before .before .before .before .before .before .args .pixels) (c .if6 .taken)))
+returns-6 c =
+    let s = c .before .before .before .before .before .before in
+    rw (
+      eq-eqb _ _ (c .before .before .before .before .before .if1 .left),
+      le-leb _ _ (c .before .before .before .before .if2 .left),
+      le-leb _ _
+          (c .before .before .before .if3 .left),
+      le-leb _ _ (c .before .before .if4 .left),
+      le-leb _ _ (c .before .if5 .left),
+      lt-leb _ _
+          (few (s .args .width) (s .args .rows) (s .args .pixels) (c .if6 .taken)),
+    )
 
 returns-7 : tie.Need-returns-7
-returns-7 c = rw (eq-eqb _ _ (c .before .before .before .before .before .if1 .left), le-leb _ _ (c .before .before .before .before .if2 .left), le-leb _ _ (c .before .before .before .if3 .left), le-leb _ _ (c .before .before .if4 .left), le-leb _ _ (c .before .if5 .left), le-leb _ _ (enough (c .before .before .before .before .before .before .args .width) (c .before .before .before .before .before .before .args .rows) (c .before .before .before .before .before .before .args .pixels) (c .if6 .left)))
+returns-7 c =
+    let s = c .before .before .before .before .before .before in
+    rw (
+      eq-eqb _ _ (c .before .before .before .before .before .if1 .left),
+      le-leb _ _ (c .before .before .before .before .if2 .left),
+      le-leb _ _
+          (c .before .before .before .if3 .left),
+      le-leb _ _ (c .before .before .if4 .left),
+      le-leb _ _ (c .before .if5 .left),
+      le-leb _ _
+          (enough (s .args .width) (s .args .rows) (s .args .pixels) (c .if6 .left)),
+    )
 
 pub check-screen-spec : {M : Type 1} → statement M
 check-screen-spec =

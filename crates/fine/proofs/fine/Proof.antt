@@ -52,7 +52,8 @@ enum-told c = search needs
 tiles-requires : tie.Need-tiles-requires
 tiles-requires c κs =
     let a = c .before .before .before .before .before .before .before .args in
-    checked (length (now (a .segments))) (a .width) (a .cols) (a .rows) (a .from) (a .to) (length (now (a .pixels))) (sym (c .before .before .before .check-screen .ensures) ∙ c .before .enum-told .given .1)
+    checked (length (now (a .segments))) (a .width) (a .cols) (a .rows) (a .from) (a .to) (length (now (a .pixels)))
+    (sym (c .before .before .before .check-screen .ensures) ∙ c .before .enum-told .given .1)
 
 same-length : tie.Need-same-length
 same-length c = search needs
@@ -60,7 +61,9 @@ same-length c = search needs
 returns-2 : tie.Need-returns-2
 returns-2 c =
     let a = c .before .before .before .before .before .before .before .before .before .before .args in
-    yes (now (a .words)) (now (a .segments)) (a .width) (a .cols) (a .rows) (a .from) (a .to) (now (a .pixels)) _ (c .before .before .before .before .before .before .check-screen .ensures) (c .before .before .tiles .result) _ (c .before .before .before .before .enum-told .given .1) (c .before .before .tiles .ensures)
+    yes (now (a .words)) (now (a .segments)) (a .width) (a .cols) (a .rows) (a .from) (a .to) (now (a .pixels)) _
+    (c .before .before .before .before .before .before .check-screen .ensures) (c .before .before .tiles .result) _
+    (c .before .before .before .before .enum-told .given .1) (c .before .before .tiles .ensures)
 
 pub fine-spec : {M : Type 1} → statement M
 fine-spec =

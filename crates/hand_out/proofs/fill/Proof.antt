@@ -51,7 +51,8 @@ add-after c =
     let l = c .before .before .before .before .loop in
     let i = l .inv in
     let a = c .before .before .before .before .before .before .before .args in
-    let z = hand-turn (a .counts .now) (a .tally .now) (l .counts) (l .tally) (l .next .0) (l .t) (c .before .word-of .result) (omega arith) (omega arith) (i .1) (i .4) (i .5) (c .before .word-of .ensures) in
+    let z = hand-turn (a .counts .now) (a .tally .now) (l .counts) (l .tally) (l .next .0) (l .t) (c .before .word-of .result) (omega arith) (omega arith)
+    (i .1) (i .4) (i .5) (c .before .word-of .ensures) in
     omega (arith, z .0, first-within (a .counts .now) (l .t + 1), small .slots)
 
 add-t : tie.Need-add-t Inv-loop μ-loop
@@ -65,7 +66,8 @@ loop-again c =
     let l = c .before .before .before .before .loop in
     let i = l .inv in
     let a = c .before .before .before .before .before .before .before .args in
-    let z = hand-turn (a .counts .now) (a .tally .now) (l .counts) (l .tally) (l .next .0) (l .t) (c .before .word-of .result) (omega arith) (omega arith) (i .1) (i .4) (i .5) (c .before .word-of .ensures) in
+    let z = hand-turn (a .counts .now) (a .tally .now) (l .counts) (l .tally) (l .next .0) (l .t) (c .before .word-of .result) (omega arith) (omega arith)
+    (i .1) (i .4) (i .5) (c .before .word-of .ensures) in
     (omega arith, z .0, simp length-set (i .2), simp length-set (i .3), z .1, z .2)
 
 same-length : tie.Need-same-length Inv-loop μ-loop

@@ -37,7 +37,9 @@ same-length-3 c = search needs
 returns-2 : tie.Need-returns-2
 returns-2 c =
     let a = c .before .before .before .before .before .before .before .before .before .before .before .before .before .args in
-    c .before .before .before .before .fill .ensures ∙ sym (call-done (a .room) (a .counts .now) (a .tally .now) (sym (c .before .before .before .before .before .before .before .before .before .check-call .ensures) ∙ c .before .before .before .before .before .before .before .enum-told .given .1))
+    c .before .before .before .before .fill .ensures ∙ sym (call-done (a .room) (a .counts .now) (a .tally .now)
+    (sym (c .before .before .before .before .before .before .before .before .before .check-call .ensures) ∙ c .before .before .before .before .before
+    .before .before .enum-told .given .1))
 
 pub hand-out-spec : {M : Type 1} → statement M
 hand-out-spec =

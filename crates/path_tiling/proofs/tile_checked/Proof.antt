@@ -11,13 +11,16 @@ returns c = not-whole _ _ _ _ (sym (c .before .whole .ensures) ∙ not-true _ (c
 
 tile-range-requires : tie.Need-tile-range-requires
 tile-range-requires c κs =
-    ready _ _ _ (c .before .before .before .before .before .before .before .before .before .args .segments .now) (sym (c .before .before .whole .ensures) ∙ not-false _ (c .before .if1 .left)) (c .before .before .before .before .before .before .before .before .before .pre)
+    let s = c .before .before .before .before .before .before .before .before .before in
+    ready _ _ _ (s .args .segments .now) (sym (c .before .before .whole .ensures) ∙ not-false _ (c .before .if1 .left)) (s .pre)
 
 same-length : tie.Need-same-length
 same-length c = search needs
 
 returns-2 : tie.Need-returns-2
-returns-2 c = c .before .before .tile-range .ensures ∙ called _ _ _ _ (sym (c .before .before .before .before .before .whole .ensures) ∙ not-false _ (c .before .before .before .before .if1 .left)) (c .before .before .before .before .before .before .before .before .before .before .before .before .pre)
+returns-2 c = c .before .before .tile-range .ensures ∙ called _ _ _ _
+    (sym (c .before .before .before .before .before .whole .ensures) ∙ not-false _ (c .before .before .before .before .if1 .left))
+    (c .before .before .before .before .before .before .before .before .before .before .before .before .pre)
 
 pub tile-checked-spec : {M : Type 1} → statement M
 tile-checked-spec = tie.close (tie.spec (λ c κs. tt) returns tile-range-requires same-length returns-2)

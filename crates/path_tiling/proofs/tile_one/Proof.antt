@@ -13,7 +13,11 @@ enum-known-slot : tie.Need-enum-known-slot
 enum-known-slot c = search needs
 
 put-requires : tie.Need-put-requires
-put-requires c κs = omega (arith, put-good _ _ _ _ (sym (c .before .before .before .before .look-at .ensures) ∙ c .before .before .slot .given .1) .among, c .before .before .before .before .before .before .before .pre .1)
+put-requires c κs = omega (
+  arith,
+  put-good _ _ _ _ (sym (c .before .before .before .before .look-at .ensures) ∙ c .before .before .slot .given .1) .among,
+  c .before .before .before .before .before .before .before .pre .1,
+)
 
 enum-told : tie.Need-enum-told
 enum-told c = search needs

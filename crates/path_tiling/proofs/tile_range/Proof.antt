@@ -48,18 +48,32 @@ same-length : tie.Need-same-length Inv-loop μ-loop
 same-length c = search needs
 
 returns : tie.Need-returns Inv-loop μ-loop
-returns c = halted _ _ _ _ _ _ _ (c .before .before .before .before .before .before .before .before .before .before .loop .inv) _ _ _ (rw (c .before .before .before .before .before .before .before .found-at .ensures, c .before .before .before .before .before .before .before .before .named-at .ensures) at (c .before .before .before .before .before .tile-run .ensures)) (c .before .answer .given .1) (c .before .before .before .before .before .before .before .before .before .before .before .slots-of .ensures)
+returns c = halted _ _ _ _ _ _ _ (c .before .before .before .before .before .before .before .before .before .before .loop .inv) _ _ _
+    (rw (
+      c .before .before .before .before .before .before .before .found-at .ensures,
+      c .before .before .before .before .before .before .before .before .named-at .ensures,
+    ) at (c .before .before .before .before .before .tile-run .ensures))
+    (c .before .answer .given .1) (c .before .before .before .before .before .before .before .before .before .before .before .slots-of .ensures)
 
 enum-told : tie.Need-enum-told Inv-loop μ-loop
 enum-told c = search needs
 
 loop-less : tie.Need-loop-less Inv-loop μ-loop
 loop-less c =
-    let l = less _ _ _ _ _ _ _ (c .before .before .before .before .before .before .before .before .before .loop .inv) _ (c .before .before .before .before .before .before .before .before .loop-test .taken) (rw (c .before .before .before .before .before .before .found-at .ensures, c .before .before .before .before .before .before .before .named-at .ensures) at (c .before .before .before .before .tile-run .ensures)) (c .enum-told .given .1) in
+    let l = less _ _ _ _ _ _ _ (c .before .before .before .before .before .before .before .before .before .loop .inv) _
+    (c .before .before .before .before .before .before .before .before .loop-test .taken)
+    (rw (
+      c .before .before .before .before .before .before .found-at .ensures,
+      c .before .before .before .before .before .before .before .named-at .ensures,
+    ) at (c .before .before .before .before .tile-run .ensures))
+    (c .enum-told .given .1) in
     omega (arith, l, c .before .before .before .before .before .before .before .before .loop-test .taken)
 
 loop-again : tie.Need-loop-again Inv-loop μ-loop
-loop-again c = on _ _ _ _ _ _ _ (c .before .before .before .before .before .before .before .before .before .loop .inv) _ (c .before .before .before .before .before .before .before .before .loop-test .taken) (rw (c .before .before .before .before .before .before .found-at .ensures, c .before .before .before .before .before .before .before .named-at .ensures) at (c .before .before .before .before .tile-run .ensures)) (c .enum-told .given .1)
+loop-again c = on _ _ _ _ _ _ _ (c .before .before .before .before .before .before .before .before .before .loop .inv) _
+    (c .before .before .before .before .before .before .before .before .loop-test .taken)
+    (rw (c .before .before .before .before .before .before .found-at .ensures, c .before .before .before .before .before .before .before .named-at .ensures) at
+    (c .before .before .before .before .tile-run .ensures)) (c .enum-told .given .1)
 
 same-length-2 : tie.Need-same-length-2 Inv-loop μ-loop
 same-length-2 c = search needs

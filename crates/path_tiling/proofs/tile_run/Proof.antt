@@ -26,13 +26,16 @@ same-length : tie.Need-same-length Inv-loop μ-loop
 same-length c = search needs
 
 returns : tie.Need-returns Inv-loop μ-loop
-returns c = other _ _ _ _ _ _ _ _ _ _ (c .before .before .before .before .loop .inv) (c .before .before .before .loop-test .taken) (ne-eqb _ _ (rw (c .before .before .named-at .ensures) at (c .if1 .taken)))
+returns c = other _ _ _ _ _ _ _ _ _ _ (c .before .before .before .before .loop .inv) (c .before .before .before .loop-test .taken)
+    (ne-eqb _ _ (rw (c .before .before .named-at .ensures) at (c .if1 .taken)))
 
 packed-at-requires : tie.Need-packed-at-requires Inv-loop μ-loop
 packed-at-requires c κs = omega (arith, c .before .before .before .before .before .before .before .before .pre .3, c .before .before .before .loop-test .taken)
 
 tile-one-requires : tie.Need-tile-one-requires Inv-loop μ-loop
-tile-one-requires c κs = (c .before .before .before .before .before .before .before .before .before .before .pre .0, omega (arith, c .before .before .before .before .before .before .before .before .before .before .pre .1, c .before .before .before .before .before .before .loop .inv .long))
+tile-one-requires c κs =
+    let s = c .before .before .before .before .before .before .before .before .before .before in
+    (s .pre .0, omega (arith, s .pre .1, c .before .before .before .before .before .before .loop .inv .long))
 
 enum-known-v : tie.Need-enum-known-v Inv-loop μ-loop
 enum-known-v c = search needs
@@ -41,7 +44,12 @@ same-length-2 : tie.Need-same-length-2 Inv-loop μ-loop
 same-length-2 c = search needs
 
 returns-2 : tie.Need-returns-2 Inv-loop μ-loop
-returns-2 c = stopped _ _ _ _ _ _ _ _ _ _ (c .before .before .before .before .before .before .before .before .before .before .before .before .loop .inv) _ _ _ (c .before .before .before .before .before .before .before .before .before .before .before .loop-test .taken) (eq-eqb _ _ (rw (c .before .before .before .before .before .before .before .before .before .before .named-at .ensures) at (c .before .before .before .before .before .before .before .before .if1 .left))) (rw (c .before .before .before .before .before .before .before .packed-at .ensures) at (c .before .before .before .before .before .tile-one .ensures)) (c .before .v .given .1)
+returns-2 c = stopped _ _ _ _ _ _ _ _ _ _ (c .before .before .before .before .before .before .before .before .before .before .before .before .loop .inv) _ _ _
+    (c .before .before .before .before .before .before .before .before .before .before .before .loop-test .taken)
+    (eq-eqb _ _ (rw (c .before .before .before .before .before .before .before .before .before .before .named-at .ensures) at
+    (c .before .before .before .before .before .before .before .before .if1 .left)))
+    (rw (c .before .before .before .before .before .before .before .packed-at .ensures) at (c .before .before .before .before .before .tile-one .ensures))
+    (c .before .v .given .1)
 
 enum-told : tie.Need-enum-told Inv-loop μ-loop
 enum-told c = search needs
@@ -53,7 +61,12 @@ loop-less : tie.Need-loop-less Inv-loop μ-loop
 loop-less c = omega arith
 
 loop-again : tie.Need-loop-again Inv-loop μ-loop
-loop-again c = turned _ _ _ _ _ _ _ _ _ _ (c .before .before .before .before .before .before .before .before .before .before .before .loop .inv) _ _ (c .before .before .before .before .before .before .before .before .before .before .loop-test .taken) (eq-eqb _ _ (rw (c .before .before .before .before .before .before .before .before .before .named-at .ensures) at (c .before .before .before .before .before .before .before .if1 .left))) (rw (c .before .before .before .before .before .before .packed-at .ensures) at (c .before .before .before .before .tile-one .ensures)) (c .enum-told .given .1)
+loop-again c = turned _ _ _ _ _ _ _ _ _ _ (c .before .before .before .before .before .before .before .before .before .before .before .loop .inv) _ _
+    (c .before .before .before .before .before .before .before .before .before .before .loop-test .taken)
+    (eq-eqb _ _ (rw (c .before .before .before .before .before .before .before .before .before .named-at .ensures) at
+    (c .before .before .before .before .before .before .before .if1 .left)))
+    (rw (c .before .before .before .before .before .before .packed-at .ensures) at (c .before .before .before .before .tile-one .ensures))
+    (c .enum-told .given .1)
 
 same-length-3 : tie.Need-same-length-3 Inv-loop μ-loop
 same-length-3 c = search needs

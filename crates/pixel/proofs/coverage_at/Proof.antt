@@ -68,14 +68,16 @@ enum-known-v : tie.Need-enum-known-v
 enum-known-v c = search needs
 
 returns-2 : tie.Need-returns-2
-returns-2 c = no (now (c .before .before .before .before .before .before .before .before .args .segments)) _ _ _ _ _ _ _ _ _ (c .before .before .before .before .before .before .check-place .ensures) (c .before .before .before .before .enum-told .given .1) _
+returns-2 c = no (now (c .before .before .before .before .before .before .before .before .args .segments)) _ _ _ _ _ _ _ _ _
+    (c .before .before .before .before .before .before .check-place .ensures) (c .before .before .before .before .enum-told .given .1) _
     (c .before .before .before .check-fill .ensures) _ (c .before .v .given .1)
 
 enum-told-2 : tie.Need-enum-told-2
 enum-told-2 c = search needs
 
 coverage-of-requires : tie.Need-coverage-of-requires
-coverage-of-requires c κs = checked (now (c .before .before .before .before .before .before .before .args .segments)) _ _ _ _ (sym (c .before .before .before .before .before .check-place .ensures) ∙ c .before .before .before .enum-told .given .1)
+coverage-of-requires c κs = checked (now (c .before .before .before .before .before .before .before .args .segments)) _ _ _ _
+    (sym (c .before .before .before .before .before .check-place .ensures) ∙ c .before .before .before .enum-told .given .1)
     (sym (c .before .before .check-fill .ensures) ∙ c .enum-told2 .given .1)
 
 returns-3 : tie.Need-returns-3

@@ -23,7 +23,15 @@ returns-3 c = rw (ne-eqb (c .before .before .before .args .b) hash (c .before .b
 
 returns-4 : tie.Need-returns-4
 unfolding kindOf
-returns-4 c = rw (ne-eqb (c .before .before .before .before .args .b) hash (c .before .before .before .if1 .left), c .before .before .if2 .left, c .before .if3 .left, lt-leb zeroByte (c .before .before .before .before .args .b) (c .if4 .taken))
+returns-4 c =
+    let s = c .before .before .before .before in
+    rw (
+      ne-eqb (s .args .b) hash (c .before .before .before .if1 .left),
+      c .before .before .if2 .left,
+      c .before .if3 .left,
+      lt-leb zeroByte (s .args .b)
+          (c .if4 .taken),
+    )
 
 add-if5 : tie.Need-add-if5
 add-if5 c = search needs

@@ -60,7 +60,8 @@ stores : tie.Need-returns
 unfolding headOf
 stores c =
     put-then
-    (put-then (put-then (put-magic _) (c .before .before .before .before .before .before .before .before .before .before .put-field .ensures)) (c .before .before .before .before .before .before .put-field2 .ensures))
+    (put-then (put-then (put-magic _) (c .before .before .before .before .before .before .before .before .before .before .put-field .ensures))
+    (c .before .before .before .before .before .before .put-field2 .ensures))
     (c .before .before .put-field3 .ensures)
 
 same-length : tie.Need-same-length

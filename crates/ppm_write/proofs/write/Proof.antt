@@ -27,7 +27,13 @@ returns c =
     size-refused _ _ _ _ (sides-of (c .before .before .side-ok .ensures) (c .before .side-ok2 .ensures) (not-true _ (c .if1 .taken)))
 
 mul-if2 : tie.Need-mul-if2
-mul-if2 c = omega (arith, area-most (c .before .before .before .before .before .args .width) (c .before .before .before .before .before .args .height) (sides-of (c .before .before .side-ok .ensures) (c .before .side-ok2 .ensures) (not-false _ (c .if1 .left))))
+mul-if2 c =
+    let s = c .before .before .before .before .before in
+    omega (
+      arith,
+      area-most (s .args .width) (s .args .height)
+          (sides-of (c .before .before .side-ok .ensures) (c .before .side-ok2 .ensures) (not-false _ (c .if1 .left))),
+    )
 
 returns-2 : tie.Need-returns-2
 returns-2 c = number-refused _ _ _ _ (sides-of (c .before .before .before .side-ok .ensures) (c .before .before .side-ok2 .ensures) (not-false _ (c .before .if1 .left))) (c .if2 .taken)
@@ -65,13 +71,16 @@ add-size-3 c =
       decimal-short (a .width),
       decimal-short (a .height),
       c .before .before .if2 .left,
-      area-most (a .width) (a .height) (sides-of (c .before .before .before .before .before .side-ok .ensures) (c .before .before .before .before .side-ok2 .ensures) (not-false _ (c .before .before .before .if1 .left))),
+      area-most (a .width) (a .height) (sides-of (c .before .before .before .before .before .side-ok .ensures)
+          (c .before .before .before .before .side-ok2 .ensures) (not-false _ (c .before .before .before .if1 .left))),
     )
 
 returns-3 : tie.Need-returns-3
 returns-3 c =
     let a = c .before .before .before .before .before .before .before .before .before .args in
-    room-refused _ _ _ _ (sides-of (c .before .before .before .before .before .before .side-ok .ensures) (c .before .before .before .before .before .side-ok2 .ensures) (not-false _ (c .before .before .before .before .if1 .left))) (c .before .before .before .if2 .left)
+    room-refused _ _ _ _ (sides-of (c .before .before .before .before .before .before .side-ok .ensures)
+    (c .before .before .before .before .before .side-ok2 .ensures) (not-false _ (c .before .before .before .before .if1 .left)))
+    (c .before .before .before .if2 .left)
     (omega (
       arith,
       file-length (now (a .pixels)) (a .width) (a .height),
@@ -112,7 +121,10 @@ same-length c = search needs
 returns-4 : tie.Need-returns-4
 returns-4 c =
     let a = c .before .before .before .before .before .before .before .before .before .before .before .before .before .before .before .before .before .args in
-    written _ _ _ _ (sides-of (c .before .before .before .before .before .before .before .before .before .before .before .before .before .before .side-ok .ensures) (c .before .before .before .before .before .before .before .before .before .before .before .before .before .side-ok2 .ensures) (not-false _ (c .before .before .before .before .before .before .before .before .before .before .before .before .if1 .left))) (c .before .before .before .before .before .before .before .before .before .before .before .if2 .left)
+    written _ _ _ _ (sides-of (c .before .before .before .before .before .before .before .before .before .before .before .before .before .before .side-ok
+    .ensures) (c .before .before .before .before .before .before .before .before .before .before .before .before .before .side-ok2 .ensures)
+    (not-false _ (c .before .before .before .before .before .before .before .before .before .before .before .before .if1 .left)))
+    (c .before .before .before .before .before .before .before .before .before .before .before .if2 .left)
     (omega (
       arith,
       file-length (now (a .pixels)) (a .width) (a .height),

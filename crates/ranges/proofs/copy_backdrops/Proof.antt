@@ -49,8 +49,11 @@ loop-again : tie.Need-loop-again Inv-loop μ-loop
 loop-again c =
     let l = c .before .before .loop in
     let a = c .before .before .before .args in
-    let same : l .i ≡ a .b + l .i - a .b = omega arith in
-    (search needs, turned-at (λ k x. getD (a .from .now) (a .a + (k - a .b)) (pos 0)) (pos 0) (a .b) (l .i) _ (l .to) _ (l .inv .1) (toZ-ofZ {w = w32} (record { sfits = c .back .given }) ∙ ap (λ (j : ℕ). getD (a .from .now) (a .a + j) (pos 0)) same))
+    let same : l .i ≡ a .b + l .i - a .b = omega arith in (
+      search needs,
+      turned-at (λ k x. getD (a .from .now) (a .a + (k - a .b)) (pos 0)) (pos 0) (a .b) (l .i) _ (l .to) _ (l .inv .1)
+          (toZ-ofZ {w = w32} (record { sfits = c .back .given }) ∙ ap (λ (j : ℕ). getD (a .from .now) (a .a + j) (pos 0)) same),
+    )
 
 same-length : tie.Need-same-length Inv-loop μ-loop
 same-length c = c .before .loop .inv .1 .0

@@ -40,7 +40,8 @@ add-t9 c = search needs
 add-t12 : tie.Need-add-t12
 add-t12 c =
     let a = c .before .before .before .before .before .before .args in
-    let h = run-bounds _ (a .at + 1) (now (a .s)) _ (omega arith) (c .before .before .digits .ensures) in let g = point-in (now (a .s)) (a .at) _ (c .before .before .before .before .point-at .ensures)
+    let h = run-bounds _ (a .at + 1) (now (a .s)) _ (omega arith) (c .before .before .digits .ensures) in let g = point-in (now (a .s)) (a .at) _
+    (c .before .before .before .before .point-at .ensures)
     (c .before .before .before .if1 .taken) in omega (arith, h .2, g, c .before .before .before .before .before .before .pre .2)
 
 returns : tie.Need-returns

@@ -28,7 +28,8 @@ use Rattle.write_lists.proofs.check_by.Tie as tie
 abbrev Inv-loop : tie.InvT-loop
 Inv-loop paths paints backdrops stored tally cols n room lent row₀ wide₀ near₀ held₀ fresh₀ slots₀ t₀ row wide near held fresh slots t =
     (t ≤ n) × (fresh ≤ t * 2 ^ 32)
-    × (tilesAnswer (tables paths paints backdrops stored tally) cols room n lent fresh slots (from t (n - t)) ≡ tilesAnswer (tables paths paints backdrops stored tally) cols room n lent 0 true (from 0 n))
+    × (tilesAnswer (tables paths paints backdrops stored tally) cols room n lent fresh slots (from t (n - t)) ≡ tilesAnswer
+    (tables paths paints backdrops stored tally) cols room n lent 0 true (from 0 n))
     × (length row ≡ mostPaths) × (length wide ≡ mostPaths) × (length near ≡ mostPaths)
     × (0 < t % cols → Listed paths (t % cols - 1) (t / cols) held row wide near)
 
@@ -61,16 +62,42 @@ look-requires : tie.Need-look-requires Inv-loop μ-loop
 look-requires c κs =
     let a = c .before .before .before .before .before .before .before .before .before .before .before .before .before .args in
     let s = tables (a .paths .now) (a .paints .now) (a .backdrops .now) (a .stored .now) (a .tally .now) in
-    let l = c .before .before .before .before .loop in
-    (ready-boxed s (c .before .before .before .before .before .before .before .before .before .before .before .before .before .pre .0), l .inv .3, l .inv .4, l .inv .5, omega (arith, mod-le (l .t) (a .cols), c .before .before .before .loop-test .taken, c .before .before .before .before .before .before .before .before .before .before .before .before .before .pre .1), l .inv .6)
+    let l = c .before .before .before .before .loop in (
+      ready-boxed s (c .before .before .before .before .before .before .before .before .before .before .before .before .before .pre .0),
+      l .inv .3,
+      l .inv .4,
+      l .inv .5,
+      omega (
+        arith,
+        mod-le (l .t) (a .cols),
+        c .before .before .before .loop-test .taken,
+        c .before .before .before .before .before .before .before .before .before .before .before .before .before .pre .1,
+      ),
+      l .inv .6,
+    )
 
 weigh-requires : tie.Need-weigh-requires Inv-loop μ-loop
 weigh-requires c κs =
     let a = c .before .before .before .before .before .before .before .before .before .before .before .before .before .before .before .before .before .before .before .before .before .args in
     let s = tables (a .paths .now) (a .paints .now) (a .backdrops .now) (a .stored .now) (a .tally .now) in
     let l = c .before .before .before .before .before .before .before .before .before .before .before .before .loop in
-    let h : Listed (a .paths .now) (l .t % a .cols) (l .t / a .cols) (c .before .before .before .before .before .before .before .look .result) (c .before .before .before .before .before .before .before .look .last .1 .1 .1 .1 .0) (c .before .before .before .before .before .before .before .look .last .1 .1 .1 .1 .1 .0) (c .before .before .before .before .before .before .before .look .last .1 .1 .1 .1 .1 .1 .0) = c .before .before .before .before .before .before .before .look .ensures in
-    (c .before .before .before .before .before .before .before .before .before .before .before .before .before .before .before .before .before .before .before .before .before .pre .0, c .before .before .before .before .before .before .before .before .before .before .before .before .before .before .before .before .before .before .before .before .before .pre .2 (omega (arith, c .before .before .before .before .before .before .before .before .before .before .before .loop-test .taken)), h .narrow .few, h .narrow .room, listed-near s (a .cols) (l .t) (c .before .before .before .before .before .before .before .look .result) (c .before .before .before .before .before .before .before .look .last .1 .1 .1 .1 .0) (c .before .before .before .before .before .before .before .look .last .1 .1 .1 .1 .1 .0) (c .before .before .before .before .before .before .before .look .last .1 .1 .1 .1 .1 .1 .0) h)
+    let h : Listed (a .paths .now) (l .t % a .cols) (l .t / a .cols) (c .before .before .before .before .before .before .before .look .result)
+    (c .before .before .before .before .before .before .before .look .last .1 .1 .1 .1 .0)
+    (c .before .before .before .before .before .before .before .look .last .1 .1 .1 .1 .1 .0)
+    (c .before .before .before .before .before .before .before .look .last .1 .1 .1 .1 .1 .1 .0) = c .before .before .before .before .before .before
+    .before .look .ensures in (
+      c .before .before .before .before .before .before .before .before .before .before .before .before .before .before .before .before .before .before .before
+          .before .before .pre .0,
+      c .before .before .before .before .before .before .before .before .before .before .before .before .before .before .before
+          .before .before .before .before .before .before .pre .2 (omega
+          (arith, c .before .before .before .before .before .before .before .before .before .before .before .loop-test .taken)),
+      h .narrow .few,
+      h .narrow .room,
+      listed-near s (a .cols) (l .t) (c .before .before .before .before .before .before .before .look .result)
+          (c .before .before .before .before .before .before .before .look .last .1 .1 .1 .1 .0)
+          (c .before .before .before .before .before .before .before .look .last .1 .1 .1 .1 .1 .0)
+          (c .before .before .before .before .before .before .before .look .last .1 .1 .1 .1 .1 .1 .0) h,
+    )
 
 cast-commands : tie.Need-cast-commands Inv-loop μ-loop
 cast-commands c = search needs
@@ -89,28 +116,50 @@ cast-if1 c = search needs
 
 same-length : tie.Need-same-length Inv-loop μ-loop
 same-length c =
-    let a = c .before .before .before .before .before .before .before .before .before .before .before .before .before .before .before .before .before .before .before .before .before .before .before .before .before .args in
+    let a = c .before .before .before .before .before .before .before .before .before .before .before .before .before .before .before .before .before .before
+    .before .before .before .before .before .before .before .args in
     let l = c .before .before .before .before .before .before .before .before .before .before .before .before .before .before .before .before .loop in
-    let h : Listed (a .paths .now) (l .t % a .cols) (l .t / a .cols) (c .before .before .before .before .before .before .before .before .before .before .before .look .result) (c .before .before .before .before .before .before .before .before .before .before .before .look .last .1 .1 .1 .1 .0) (c .before .before .before .before .before .before .before .before .before .before .before .look .last .1 .1 .1 .1 .1 .0) (c .before .before .before .before .before .before .before .before .before .before .before .look .last .1 .1 .1 .1 .1 .1 .0) = c .before .before .before .before .before .before .before .before .before .before .before .look .ensures in
-    h .row .room ∙ sym (c .before .before .before .before .before .before .before .before .before .before .before .before .before .before .before .before .before .before .before .before .before .before .before .before .before .pre .3)
+    let h : Listed (a .paths .now) (l .t % a .cols) (l .t / a .cols)
+    (c .before .before .before .before .before .before .before .before .before .before .before .look .result)
+    (c .before .before .before .before .before .before .before .before .before .before .before .look .last .1 .1 .1 .1 .0)
+    (c .before .before .before .before .before .before .before .before .before .before .before .look .last .1 .1 .1 .1 .1 .0)
+    (c .before .before .before .before .before .before .before .before .before .before .before .look .last .1 .1 .1 .1 .1 .1 .0) = c .before .before
+    .before .before .before .before .before .before .before .before .before .look .ensures in
+    h .row .room ∙ sym (c .before .before .before .before .before .before .before .before .before .before .before .before .before .before .before .before
+    .before .before .before .before .before .before .before .before .before .pre .3)
 
 same-length-2 : tie.Need-same-length-2 Inv-loop μ-loop
 same-length-2 c =
-    let a = c .before .before .before .before .before .before .before .before .before .before .before .before .before .before .before .before .before .before .before .before .before .before .before .before .before .args in
+    let a = c .before .before .before .before .before .before .before .before .before .before .before .before .before .before .before .before .before .before
+    .before .before .before .before .before .before .before .args in
     let l = c .before .before .before .before .before .before .before .before .before .before .before .before .before .before .before .before .loop in
-    let h : Listed (a .paths .now) (l .t % a .cols) (l .t / a .cols) (c .before .before .before .before .before .before .before .before .before .before .before .look .result) (c .before .before .before .before .before .before .before .before .before .before .before .look .last .1 .1 .1 .1 .0) (c .before .before .before .before .before .before .before .before .before .before .before .look .last .1 .1 .1 .1 .1 .0) (c .before .before .before .before .before .before .before .before .before .before .before .look .last .1 .1 .1 .1 .1 .1 .0) = c .before .before .before .before .before .before .before .before .before .before .before .look .ensures in
-    h .wide .room ∙ sym (c .before .before .before .before .before .before .before .before .before .before .before .before .before .before .before .before .before .before .before .before .before .before .before .before .before .pre .4)
+    let h : Listed (a .paths .now) (l .t % a .cols) (l .t / a .cols)
+    (c .before .before .before .before .before .before .before .before .before .before .before .look .result)
+    (c .before .before .before .before .before .before .before .before .before .before .before .look .last .1 .1 .1 .1 .0)
+    (c .before .before .before .before .before .before .before .before .before .before .before .look .last .1 .1 .1 .1 .1 .0)
+    (c .before .before .before .before .before .before .before .before .before .before .before .look .last .1 .1 .1 .1 .1 .1 .0) = c .before .before
+    .before .before .before .before .before .before .before .before .before .look .ensures in
+    h .wide .room ∙ sym (c .before .before .before .before .before .before .before .before .before .before .before .before .before .before .before .before
+    .before .before .before .before .before .before .before .before .before .pre .4)
 
 same-length-3 : tie.Need-same-length-3 Inv-loop μ-loop
 same-length-3 c =
-    let a = c .before .before .before .before .before .before .before .before .before .before .before .before .before .before .before .before .before .before .before .before .before .before .before .before .before .args in
+    let a = c .before .before .before .before .before .before .before .before .before .before .before .before .before .before .before .before .before .before
+    .before .before .before .before .before .before .before .args in
     let l = c .before .before .before .before .before .before .before .before .before .before .before .before .before .before .before .before .loop in
-    let h : Listed (a .paths .now) (l .t % a .cols) (l .t / a .cols) (c .before .before .before .before .before .before .before .before .before .before .before .look .result) (c .before .before .before .before .before .before .before .before .before .before .before .look .last .1 .1 .1 .1 .0) (c .before .before .before .before .before .before .before .before .before .before .before .look .last .1 .1 .1 .1 .1 .0) (c .before .before .before .before .before .before .before .before .before .before .before .look .last .1 .1 .1 .1 .1 .1 .0) = c .before .before .before .before .before .before .before .before .before .before .before .look .ensures in
-    h .narrow .room ∙ sym (c .before .before .before .before .before .before .before .before .before .before .before .before .before .before .before .before .before .before .before .before .before .before .before .before .before .pre .5)
+    let h : Listed (a .paths .now) (l .t % a .cols) (l .t / a .cols)
+    (c .before .before .before .before .before .before .before .before .before .before .before .look .result)
+    (c .before .before .before .before .before .before .before .before .before .before .before .look .last .1 .1 .1 .1 .0)
+    (c .before .before .before .before .before .before .before .before .before .before .before .look .last .1 .1 .1 .1 .1 .0)
+    (c .before .before .before .before .before .before .before .before .before .before .before .look .last .1 .1 .1 .1 .1 .1 .0) = c .before .before
+    .before .before .before .before .before .before .before .before .before .look .ensures in
+    h .narrow .room ∙ sym (c .before .before .before .before .before .before .before .before .before .before .before .before .before .before .before .before
+    .before .before .before .before .before .before .before .before .before .pre .5)
 
 returns : tie.Need-returns Inv-loop μ-loop
 returns c =
-    let a = c .before .before .before .before .before .before .before .before .before .before .before .before .before .before .before .before .before .before .before .before .before .before .before .before .before .args in
+    let a = c .before .before .before .before .before .before .before .before .before .before .before .before .before .before .before .before .before .before
+    .before .before .before .before .before .before .before .args in
     let s = tables (a .paths .now) (a .paints .now) (a .backdrops .now) (a .stored .now) (a .tally .now) in
     let l = c .before .before .before .before .before .before .before .before .before .before .before .before .before .before .before .before .loop in
     let ps = tilePairs s (a .cols) (l .t) in
@@ -118,7 +167,9 @@ returns c =
     let z = weighed (a .room) ps w (c .before .before .before .weigh .ensures) in
     let long : leb (commandsOf ps) mostCommands ≡ false = lt-leb (commandsOf ps) mostCommands (omega (arith, z .pairs, z .jumps, c .if1 .taken)) in
     sym (answer-long s (a .cols) (a .room) (a .n) (a .lent) (l .fresh) (l .slots) (l .t) (from (l .t + 1) (a .n - (l .t + 1))) long)
-    ∙ ap (tilesAnswer s (a .cols) (a .room) (a .n) (a .lent) (l .fresh) (l .slots)) (sym (from-turn (l .t) (a .n) (c .before .before .before .before .before .before .before .before .before .before .before .before .before .before .before .loop-test .taken))) ∙ l .inv .2
+    ∙ ap (tilesAnswer s (a .cols) (a .room) (a .n) (a .lent) (l .fresh) (l .slots))
+    (sym (from-turn (l .t) (a .n) (c .before .before .before .before .before .before .before .before .before .before .before .before .before .before
+    .before .loop-test .taken))) ∙ l .inv .2
 
 cast-fresh : tie.Need-cast-fresh Inv-loop μ-loop
 cast-fresh c = search needs
@@ -126,20 +177,45 @@ cast-fresh c = search needs
 add-fresh : tie.Need-add-fresh Inv-loop μ-loop
 add-fresh c =
     let l = c .before .before .before .before .before .before .before .before .before .before .before .before .before .before .before .before .before .loop in
-    record { fits = omega (arith, l .inv .1, c .before .before .before .before .before .before .before .before .before .before .before .before .before .before .before .before .loop-test .taken, c .before .before .before .before .before .before .before .before .before .before .before .before .before .before .before .before .before .before .before .before .before .before .before .before .before .before .pre .1, small .tiles) }
+    record {
+      fits = omega (
+        arith,
+        l .inv .1,
+        c .before .before .before .before .before .before .before .before .before .before .before .before .before .before
+            .before .before .loop-test .taken,
+        c .before .before .before .before .before .before .before .before .before .before .before .before .before .before
+            .before .before .before .before .before .before .before .before .before .before .before .before .pre .1,
+        small .tiles,
+      );
+    }
 
 add-t : tie.Need-add-t Inv-loop μ-loop
-add-t c = record { fits = omega (arith, c .before .before .before .before .before .before .before .before .before .before .before .before .before .before .before .before .before .loop-test .taken, c .before .before .before .before .before .before .before .before .before .before .before .before .before .before .before .before .before .before .before .before .before .before .before .before .before .before .before .pre .1, small .tiles) }
+add-t c = record {
+  fits = omega (
+    arith,
+    c .before .before .before .before .before .before .before .before .before .before .before .before .before .before
+        .before .before .before .loop-test .taken,
+    c .before .before .before .before .before .before .before .before .before .before .before .before .before
+        .before .before .before .before .before .before .before .before .before .before .before .before .before .before .pre .1,
+    small .tiles,
+  );
+}
 
 loop-less : tie.Need-loop-less Inv-loop μ-loop
 loop-less c = search needs
 
 loop-again : tie.Need-loop-again Inv-loop μ-loop
 loop-again c =
-    let a = c .before .before .before .before .before .before .before .before .before .before .before .before .before .before .before .before .before .before .before .before .before .before .before .before .before .before .before .args in
+    let a = c .before .before .before .before .before .before .before .before .before .before .before .before .before .before .before .before .before .before
+    .before .before .before .before .before .before .before .before .before .args in
     let s = tables (a .paths .now) (a .paints .now) (a .backdrops .now) (a .stored .now) (a .tally .now) in
     let l = c .before .before .before .before .before .before .before .before .before .before .before .before .before .before .before .before .before .before .loop in
-    let h : Listed (a .paths .now) (l .t % a .cols) (l .t / a .cols) (c .before .before .before .before .before .before .before .before .before .before .before .before .before .look .result) (c .before .before .before .before .before .before .before .before .before .before .before .before .before .look .last .1 .1 .1 .1 .0) (c .before .before .before .before .before .before .before .before .before .before .before .before .before .look .last .1 .1 .1 .1 .1 .0) (c .before .before .before .before .before .before .before .before .before .before .before .before .before .look .last .1 .1 .1 .1 .1 .1 .0) = c .before .before .before .before .before .before .before .before .before .before .before .before .before .look .ensures in
+    let h : Listed (a .paths .now) (l .t % a .cols) (l .t / a .cols)
+    (c .before .before .before .before .before .before .before .before .before .before .before .before .before .look .result)
+    (c .before .before .before .before .before .before .before .before .before .before .before .before .before .look .last .1 .1 .1 .1 .0)
+    (c .before .before .before .before .before .before .before .before .before .before .before .before .before .look .last .1 .1 .1 .1 .1 .0)
+    (c .before .before .before .before .before .before .before .before .before .before .before .before .before .look .last .1 .1 .1 .1 .1 .1 .0) = c
+    .before .before .before .before .before .before .before .before .before .before .before .before .before .look .ensures in
     let ps = tilePairs s (a .cols) (l .t) in
     let w = c .before .before .before .before .before .weigh .result in
     let z = weighed (a .room) ps w (c .before .before .before .before .before .weigh .ensures) in
@@ -147,12 +223,25 @@ loop-again c =
     let both : l .slots && w .slots ≡ l .slots && allFit (a .room) ps = ap (λ (b : Bool). l .slots && b) (z .slots) in (
       omega (arith, c .before .before .before .before .before .before .before .before .before .before .before .before .before .before .before .before .before .loop-test .taken),
       omega (arith, l .inv .1),
-      answer-turn s (a .cols) (a .room) (a .n) (a .lent) (l .fresh) (l .slots) (l .t) (from (l .t + 1) (a .n - (l .t + 1))) (l .fresh + w .jumps) (l .slots && w .slots) short (ap (λ (k : ℕ). l .fresh + k) (z .jumps)) both
-          ∙ ap (tilesAnswer s (a .cols) (a .room) (a .n) (a .lent) (l .fresh) (l .slots)) (sym (from-turn (l .t) (a .n) (c .before .before .before .before .before .before .before .before .before .before .before .before .before .before .before .before .before .loop-test .taken))) ∙ l .inv .2,
+      answer-turn s (a .cols) (a .room) (a .n) (a .lent) (l .fresh) (l .slots) (l .t) (from (l .t + 1) (a .n - (l .t + 1))) (l .fresh + w .jumps)
+          (l .slots && w .slots) short (ap (λ (k : ℕ). l .fresh + k) (z .jumps)) both
+          ∙ ap (tilesAnswer s (a .cols) (a .room) (a .n) (a .lent) (l .fresh) (l .slots))
+          (sym (from-turn (l .t) (a .n) (c .before .before .before .before .before .before .before .before .before .before .before .before .before .before
+          .before .before .before .loop-test .taken))) ∙ l .inv .2,
       h .row .room,
       h .wide .room,
       h .narrow .room,
-      listed-next (a .paths .now) (a .cols) (l .t) (c .before .before .before .before .before .before .before .before .before .before .before .before .before .look .result) (c .before .before .before .before .before .before .before .before .before .before .before .before .before .look .last .1 .1 .1 .1 .0) (c .before .before .before .before .before .before .before .before .before .before .before .before .before .look .last .1 .1 .1 .1 .1 .0) (c .before .before .before .before .before .before .before .before .before .before .before .before .before .look .last .1 .1 .1 .1 .1 .1 .0) (c .before .before .before .before .before .before .before .before .before .before .before .before .before .before .before .before .before .before .before .before .before .before .before .before .before .before .before .pre .2 (omega (arith, c .before .before .before .before .before .before .before .before .before .before .before .before .before .before .before .before .before .loop-test .taken))) h,
+      listed-next (a .paths .now) (a .cols) (l .t) (c .before .before .before .before .before .before .before .before .before .before .before .before .before
+          .look .result) (c .before .before .before .before .before .before .before .before .before .before .before .before .before .look .last .1 .1 .1 .1 .0)
+          (c .before .before .before .before .before .before .before .before .before .before .before .before .before .look .last .1 .1 .1 .1 .1 .0)
+          (c .before .before .before .before .before .before .before .before .before .before .before .before .before .look .last .1 .1 .1 .1 .1 .1 .0)
+          (c .before .before .before .before .before .before .before .before .before .before .before .before .before .before .before .before .before .before
+          .before .before .before .before .before .before .before .before .before .pre .2
+          (omega (
+            arith,
+            c .before .before .before .before .before .before .before .before .before .before .before .before .before .before .before .before
+                .before .loop-test .taken,
+          ))) h,
     )
 
 add-check-room : tie.Need-add-check-room Inv-loop μ-loop

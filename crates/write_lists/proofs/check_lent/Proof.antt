@@ -28,10 +28,24 @@ cast-if5 : tie.Need-cast-if5
 cast-if5 c = search needs
 
 returns-5 : tie.Need-returns-5
-returns-5 c = rw (eq-eqb _ _ (c .before .before .before .before .if1 .left), eq-eqb _ _ (c .before .before .before .if2 .left), eq-eqb _ _ (c .before .before .if3 .left), eq-eqb _ _ (c .before .if4 .left), lt-leb _ _ (c .if5 .taken))
+returns-5 c = rw (
+  eq-eqb _ _ (c .before .before .before .before .if1 .left),
+  eq-eqb _ _ (c .before .before .before .if2 .left),
+  eq-eqb _ _
+      (c .before .before .if3 .left),
+  eq-eqb _ _ (c .before .if4 .left),
+  lt-leb _ _ (c .if5 .taken),
+)
 
 returns-6 : tie.Need-returns-6
-returns-6 c = rw (eq-eqb _ _ (c .before .before .before .before .if1 .left), eq-eqb _ _ (c .before .before .before .if2 .left), eq-eqb _ _ (c .before .before .if3 .left), eq-eqb _ _ (c .before .if4 .left), le-leb _ _ (c .if5 .left))
+returns-6 c = rw (
+  eq-eqb _ _ (c .before .before .before .before .if1 .left),
+  eq-eqb _ _ (c .before .before .before .if2 .left),
+  eq-eqb _ _
+      (c .before .before .if3 .left),
+  eq-eqb _ _ (c .before .if4 .left),
+  le-leb _ _ (c .if5 .left),
+)
 
 pub check-lent-spec : {M : Type 1} → statement M
 check-lent-spec = tie.close (tie.spec returns mul-if2 returns-2 returns-3 returns-4 mul-if5 cast-if5 returns-5 returns-6)

@@ -26,7 +26,16 @@ slice-aggregate-check-by-3 : tie.Need-slice-aggregate-check-by-3
 slice-aggregate-check-by-3 c = sym (ap length (c .before .before .before .no-paths3 .ensures) ∙ no-paths-length)
 
 check-by-requires : tie.Need-check-by-requires
-check-by-requires c κs = (c .before .before .before .before .before .before .before .before .before .before .pre .0, c .before .before .before .before .before .before .before .before .before .before .pre .1, c .before .before .before .before .before .before .before .before .before .before .pre .2, ap length (c .before .before .before .before .before .no-paths .ensures) ∙ no-paths-length, ap length (c .before .before .before .before .no-paths2 .ensures) ∙ no-paths-length, ap length (c .before .before .before .no-paths3 .ensures) ∙ no-paths-length)
+check-by-requires c κs =
+    let s = c .before .before .before .before .before .before .before .before .before .before in (
+      s .pre .0,
+      s .pre .1,
+      s .pre .2,
+      ap length (c .before .before .before .before .before .no-paths .ensures) ∙ no-paths-length,
+      ap length
+          (c .before .before .before .before .no-paths2 .ensures) ∙ no-paths-length,
+      ap length (c .before .before .before .no-paths3 .ensures) ∙ no-paths-length,
+    )
 
 returns : tie.Need-returns
 returns c = c .before .before .before .check-by .ensures

@@ -55,47 +55,112 @@ look-requires : tie.Need-look-requires Inv-loop μ-loop
 look-requires c κs =
     let a = c .before .before .before .before .before .before .before .before .before .before .before .before .before .before .args in
     let s = tables (a .paths .now) (a .paints .now) (a .backdrops .now) (a .stored .now) (a .tally .now) in
-    let l = c .before .before .before .before .loop in
-    (ready-boxed s (c .before .before .before .before .before .before .before .before .before .before .before .before .before .before .pre .0), l .inv .2, l .inv .3, l .inv .4, omega (arith, mod-le (l .t) (a .cols), c .before .before .before .loop-test .taken, c .before .before .before .before .before .before .before .before .before .before .before .before .before .before .pre .1), l .inv .5)
+    let l = c .before .before .before .before .loop in (
+      ready-boxed s (c .before .before .before .before .before .before .before .before .before .before .before .before .before .before .pre .0),
+      l .inv .2,
+      l .inv .3,
+      l .inv .4,
+      omega (
+        arith,
+        mod-le (l .t) (a .cols),
+        c .before .before .before .loop-test .taken,
+        c .before .before .before .before .before .before .before .before .before .before .before .before .before .before .pre .1,
+      ),
+      l .inv .5,
+    )
 
 lay-tile-requires : tie.Need-lay-tile-requires Inv-loop μ-loop
 lay-tile-requires c κs =
-    let a = c .before .before .before .before .before .before .before .before .before .before .before .before .before .before .before .before .before .before .before .before .before .before .before .args in
+    let a = c .before .before .before .before .before .before .before .before .before .before .before .before .before .before .before .before .before .before
+    .before .before .before .before .before .args in
     let s = tables (a .paths .now) (a .paints .now) (a .backdrops .now) (a .stored .now) (a .tally .now) in
     let l = c .before .before .before .before .before .before .before .before .before .before .before .before .before .loop in
-    let h : Listed (a .paths .now) (l .t % a .cols) (l .t / a .cols) (c .before .before .before .before .before .before .before .before .look .result) (c .before .before .before .before .before .before .before .before .look .last .1 .1 .1 .1 .0) (c .before .before .before .before .before .before .before .before .look .last .1 .1 .1 .1 .1 .0) (c .before .before .before .before .before .before .before .before .look .last .1 .1 .1 .1 .1 .1 .0) = c .before .before .before .before .before .before .before .before .look .ensures in
+    let h : Listed (a .paths .now) (l .t % a .cols) (l .t / a .cols) (c .before .before .before .before .before .before .before .before .look .result)
+    (c .before .before .before .before .before .before .before .before .look .last .1 .1 .1 .1 .0)
+    (c .before .before .before .before .before .before .before .before .look .last .1 .1 .1 .1 .1 .0)
+    (c .before .before .before .before .before .before .before .before .look .last .1 .1 .1 .1 .1 .1 .0) = c .before .before .before .before .before
+    .before .before .before .look .ensures in
     let rest = from (l .t + 1) (a .n - (l .t + 1)) in
-    let i = subst (λ (ts : List ℕ). Tiled s (a .cols) (a .n) (l .fresh) ts (l .words) (a .words .now)) (from-turn (l .t) (a .n) (c .before .before .before .before .before .before .before .before .before .before .before .before .loop-test .taken)) (l .inv .1) in (
-      c .before .before .before .before .before .before .before .before .before .before .before .before .before .before .before .before .before .before .before .before .before .before .before .pre .0,
-      c .before .before .before .before .before .before .before .before .before .before .before .before .before .before .before .before .before .before .before .before .before .before .before .pre .2 (omega (arith, c .before .before .before .before .before .before .before .before .before .before .before .before .loop-test .taken)),
-      omega (arith, c .before .before .before .before .before .before .before .before .before .before .before .before .loop-test .taken, c .before .before .before .before .before .before .before .before .before .before .before .before .before .before .before .before .before .before .before .before .before .before .before .pre .1),
+    let i = subst (λ (ts : List ℕ). Tiled s (a .cols) (a .n) (l .fresh) ts (l .words) (a .words .now))
+    (from-turn (l .t) (a .n) (c .before .before .before .before .before .before .before .before .before .before .before .before .loop-test .taken))
+    (l .inv .1) in (
+      c .before .before .before .before .before .before .before .before .before .before .before .before .before .before .before .before .before .before .before
+          .before .before .before .before .pre .0,
+      c .before .before .before .before .before .before .before .before .before .before .before .before .before .before .before .before .before .before .before
+          .before .before .before .before .pre .2 (omega (
+            arith,
+            c .before .before .before .before .before .before .before .before .before .before .before
+                .before .loop-test .taken,
+          )),
+      omega (
+        arith,
+        c .before .before .before .before .before .before .before .before .before .before .before .before .loop-test .taken,
+        c .before .before .before .before .before .before .before .before .before .before .before .before .before .before .before .before .before .before
+            .before .before .before .before .before .pre .1,
+      ),
       h .narrow .few,
       h .narrow .room,
-      listed-near s (a .cols) (l .t) (c .before .before .before .before .before .before .before .before .look .result) (c .before .before .before .before .before .before .before .before .look .last .1 .1 .1 .1 .0) (c .before .before .before .before .before .before .before .before .look .last .1 .1 .1 .1 .1 .0) (c .before .before .before .before .before .before .before .before .look .last .1 .1 .1 .1 .1 .1 .0) h,
-      tile-room s (a .cols) (a .n) (a .words .now) (l .t) (l .fresh) rest (l .words) i (c .before .before .before .before .before .before .before .before .before .before .before .before .loop-test .taken) (c .before .before .before .before .before .before .before .before .before .before .before .before .before .before .before .before .before .before .before .before .before .before .before .pre .3) (c .before .before .before .before .before .before .before .before .before .before .before .before .before .before .before .before .before .before .before .before .before .before .before .pre .4),
+      listed-near s (a .cols) (l .t) (c .before .before .before .before .before .before .before .before .look .result)
+          (c .before .before .before .before .before .before .before .before .look .last .1 .1 .1 .1 .0)
+          (c .before .before .before .before .before .before .before .before .look .last .1 .1 .1 .1 .1 .0)
+          (c .before .before .before .before .before .before .before .before .look .last .1 .1 .1 .1 .1 .1 .0) h,
+      tile-room s (a .cols) (a .n) (a .words .now) (l .t) (l .fresh) rest (l .words) i
+          (c .before .before .before .before .before .before .before .before .before .before .before .before .loop-test .taken)
+          (c .before .before .before .before .before .before .before .before .before .before .before .before .before .before .before .before .before .before
+          .before .before .before .before .before .pre .3) (c .before .before .before .before .before .before .before .before .before .before .before .before
+          .before .before .before .before .before .before .before .before .before .before .before .pre .4),
       tile-slots s (a .cols) (a .n) (a .words .now) (l .t) (l .fresh) rest (l .words) i,
     )
 
 add-t : tie.Need-add-t Inv-loop μ-loop
-add-t c = record { fits = omega (arith, c .before .before .before .before .before .before .before .before .before .before .before .before .before .before .before .loop-test .taken, c .before .before .before .before .before .before .before .before .before .before .before .before .before .before .before .before .before .before .before .before .before .before .before .before .before .before .pre .1, small .tiles) }
+add-t c = record {
+  fits = omega (
+    arith,
+    c .before .before .before .before .before .before .before .before .before .before .before .before .before .before
+        .before .loop-test .taken,
+    c .before .before .before .before .before .before .before .before .before .before .before .before .before .before .before
+        .before .before .before .before .before .before .before .before .before .before .before .pre .1,
+    small .tiles,
+  );
+}
 
 loop-less : tie.Need-loop-less Inv-loop μ-loop
 loop-less c = search needs
 
 loop-again : tie.Need-loop-again Inv-loop μ-loop
 loop-again c =
-    let a = c .before .before .before .before .before .before .before .before .before .before .before .before .before .before .before .before .before .before .before .before .before .before .before .before .before .before .args in
+    let a = c .before .before .before .before .before .before .before .before .before .before .before .before .before .before .before .before .before .before
+    .before .before .before .before .before .before .before .before .args in
     let s = tables (a .paths .now) (a .paints .now) (a .backdrops .now) (a .stored .now) (a .tally .now) in
     let l = c .before .before .before .before .before .before .before .before .before .before .before .before .before .before .before .before .loop in
-    let h : Listed (a .paths .now) (l .t % a .cols) (l .t / a .cols) (c .before .before .before .before .before .before .before .before .before .before .before .look .result) (c .before .before .before .before .before .before .before .before .before .before .before .look .last .1 .1 .1 .1 .0) (c .before .before .before .before .before .before .before .before .before .before .before .look .last .1 .1 .1 .1 .1 .0) (c .before .before .before .before .before .before .before .before .before .before .before .look .last .1 .1 .1 .1 .1 .1 .0) = c .before .before .before .before .before .before .before .before .before .before .before .look .ensures in
+    let h : Listed (a .paths .now) (l .t % a .cols) (l .t / a .cols)
+    (c .before .before .before .before .before .before .before .before .before .before .before .look .result)
+    (c .before .before .before .before .before .before .before .before .before .before .before .look .last .1 .1 .1 .1 .0)
+    (c .before .before .before .before .before .before .before .before .before .before .before .look .last .1 .1 .1 .1 .1 .0)
+    (c .before .before .before .before .before .before .before .before .before .before .before .look .last .1 .1 .1 .1 .1 .1 .0) = c .before .before
+    .before .before .before .before .before .before .before .before .before .look .ensures in
     let rest = from (l .t + 1) (a .n - (l .t + 1)) in
-    let i = subst (λ (ts : List ℕ). Tiled s (a .cols) (a .n) (l .fresh) ts (l .words) (a .words .now)) (from-turn (l .t) (a .n) (c .before .before .before .before .before .before .before .before .before .before .before .before .before .before .before .loop-test .taken)) (l .inv .1) in (
+    let i = subst (λ (ts : List ℕ). Tiled s (a .cols) (a .n) (l .fresh) ts (l .words) (a .words .now))
+    (from-turn (l .t) (a .n) (c .before .before .before .before .before .before .before .before .before .before .before .before .before .before .before
+    .loop-test .taken)) (l .inv .1) in (
       omega (arith, c .before .before .before .before .before .before .before .before .before .before .before .before .before .before .before .loop-test .taken),
-      tiled-turn s (a .cols) (a .n) (a .words .now) (l .t) (l .fresh) rest (l .words) i (c .before .before .lay-tile .result) (c .before .before .lay-tile .last .1 .1 .1 .1 .1 .1 .1 .1 .1 .1 .0) (c .before .before .lay-tile .ensures .1) (c .before .before .lay-tile .ensures .0),
+      tiled-turn s (a .cols) (a .n) (a .words .now) (l .t) (l .fresh) rest (l .words) i (c .before .before .lay-tile .result)
+          (c .before .before .lay-tile .last .1 .1 .1 .1 .1 .1 .1 .1 .1 .1 .0) (c .before .before .lay-tile .ensures .1)
+          (c .before .before .lay-tile .ensures .0),
       h .row .room,
       h .wide .room,
       h .narrow .room,
-      listed-next (a .paths .now) (a .cols) (l .t) (c .before .before .before .before .before .before .before .before .before .before .before .look .result) (c .before .before .before .before .before .before .before .before .before .before .before .look .last .1 .1 .1 .1 .0) (c .before .before .before .before .before .before .before .before .before .before .before .look .last .1 .1 .1 .1 .1 .0) (c .before .before .before .before .before .before .before .before .before .before .before .look .last .1 .1 .1 .1 .1 .1 .0) (c .before .before .before .before .before .before .before .before .before .before .before .before .before .before .before .before .before .before .before .before .before .before .before .before .before .before .pre .2 (omega (arith, c .before .before .before .before .before .before .before .before .before .before .before .before .before .before .before .loop-test .taken))) h,
+      listed-next (a .paths .now) (a .cols) (l .t) (c .before .before .before .before .before .before .before .before .before .before .before .look .result)
+          (c .before .before .before .before .before .before .before .before .before .before .before .look .last .1 .1 .1 .1 .0)
+          (c .before .before .before .before .before .before .before .before .before .before .before .look .last .1 .1 .1 .1 .1 .0)
+          (c .before .before .before .before .before .before .before .before .before .before .before .look .last .1 .1 .1 .1 .1 .1 .0)
+          (c .before .before .before .before .before .before .before .before .before .before .before .before .before .before .before .before .before .before
+          .before .before .before .before .before .before .before .before .pre .2
+          (omega (
+            arith,
+            c .before .before .before .before .before .before .before .before .before .before .before .before .before .before .before .loop-test
+                .taken,
+          ))) h,
     )
 
 same-length : tie.Need-same-length Inv-loop μ-loop

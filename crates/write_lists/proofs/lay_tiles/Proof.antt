@@ -26,7 +26,21 @@ slice-aggregate-lay-by-3 : tie.Need-slice-aggregate-lay-by-3
 slice-aggregate-lay-by-3 c = sym (ap length (c .before .before .before .no-paths3 .ensures) ∙ no-paths-length)
 
 lay-by-requires : tie.Need-lay-by-requires
-lay-by-requires c κs = (c .before .before .before .before .before .before .before .before .before .before .before .before .pre .0, c .before .before .before .before .before .before .before .before .before .before .before .before .pre .1, c .before .before .before .before .before .before .before .before .before .before .before .before .pre .2, c .before .before .before .before .before .before .before .before .before .before .before .before .pre .3, c .before .before .before .before .before .before .before .before .before .before .before .before .pre .4, c .before .before .before .before .before .before .before .before .before .before .before .before .pre .5, ap length (c .before .before .before .before .before .before .no-paths .ensures) ∙ no-paths-length, ap length (c .before .before .before .before .before .no-paths2 .ensures) ∙ no-paths-length, ap length (c .before .before .before .before .no-paths3 .ensures) ∙ no-paths-length)
+lay-by-requires c κs =
+    let s = c .before .before .before .before .before .before .before .before .before .before .before .before in (
+      s .pre .0,
+      s .pre .1,
+      s .pre .2,
+      s .pre .3,
+      s .pre .4,
+      s .pre .5,
+      ap length
+          (c .before .before .before .before .before .before .no-paths .ensures) ∙ no-paths-length,
+      ap length
+          (c .before .before .before .before .before .no-paths2 .ensures) ∙ no-paths-length,
+      ap length
+          (c .before .before .before .before .no-paths3 .ensures) ∙ no-paths-length,
+    )
 
 same-length : tie.Need-same-length
 same-length c = search needs

@@ -78,9 +78,11 @@ returns-3 : tie.Need-returns-3
 returns-3 c =
     let a = c .before .before .before .before .before .before .before .before .before .before .before .before .before .before .before .args in
     let s = tables (a .paths .now) (a .paints .now) (a .backdrops .now) (a .stored .now) (a .tally .now) in
-    let done : callAnswer s (a .cols) (a .rows) ≡ Done = sym (c .before .before .before .before .before .before .before .before .before .check-call .ensures) ∙ c .before .before .before .before .before .before .before .enum-told .given .1 in
+    let done : callAnswer s (a .cols) (a .rows) ≡ Done = sym (c .before .before .before .before .before .before .before .before .before .check-call .ensures) ∙
+    c .before .before .before .before .before .before .before .enum-told .given .1 in
     let n = a .cols * a .rows in
-    let fits : tilesAnswer s (a .cols) (a .room) n (length (a .words .now)) 0 true (from 0 n) ≡ Done = sym (c .before .before .before .before .before .before .check-tiles .ensures) ∙ c .before .before .before .before .enum-told3 .given .1 in
+    let fits : tilesAnswer s (a .cols) (a .room) n (length (a .words .now)) 0 true (from 0 n) ≡ Done = sym
+    (c .before .before .before .before .before .before .check-tiles .ensures) ∙ c .before .before .before .before .enum-told3 .given .1 in
     call-done s (a .cols) (a .rows) (a .room) (a .words .now) (c .before .before .lay-tiles .last .1 .1 .1 .1 .1 .1 .1 .0) done fits (c .before .before .lay-tiles .ensures)
 
 pub write-lists-spec : {M : Type 1} → statement M

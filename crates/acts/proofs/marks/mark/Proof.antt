@@ -32,7 +32,8 @@ slice-copy-out-b : tie.Need-slice-copy-out-b
 slice-copy-out-b c = search needs
 
 add-v : tie.Need-add-v
-add-v c = fits (c .before .before .args .backs .now) (c .before .before .args .t) (record { sfits = c .before .b .given }) (pos 1) (c .before .before .args .up) (ap deltaOf (c .if1 .taken)) (c .before .before .pre .1)
+add-v c = fits (c .before .before .args .backs .now) (c .before .before .args .t) (record { sfits = c .before .b .given }) (pos 1)
+    (c .before .before .args .up) (ap deltaOf (c .if1 .taken)) (c .before .before .pre .1)
 
 mul-v : tie.Need-mul-v
 mul-v c = search needs
@@ -41,7 +42,8 @@ slice-set-from-v : tie.Need-slice-set-from-v
 slice-set-from-v c = search needs
 
 sub-v : tie.Need-sub-v
-sub-v c = fits (c .before .before .args .backs .now) (c .before .before .args .t) (record { sfits = c .before .b .given }) (negsuc 0) (c .before .before .args .up) (ap deltaOf (c .if1 .left)) (c .before .before .pre .1)
+sub-v c = fits (c .before .before .args .backs .now) (c .before .before .args .t) (record { sfits = c .before .b .given }) (negsuc 0)
+    (c .before .before .args .up) (ap deltaOf (c .if1 .left)) (c .before .before .pre .1)
 
 mul-v-2 : tie.Need-mul-v-2
 mul-v-2 c = search needs
@@ -53,13 +55,15 @@ same-length : tie.Need-same-length
 same-length c = search needs
 
 returns : tie.Need-returns
-returns c = sets (c .before .before .args .backs .now) (c .before .before .args .t) (record { sfits = c .before .b .given }) (pos 1) (c .before .before .args .up) (ap deltaOf (c .if1 .taken)) (c .before .before .pre .1)
+returns c = sets (c .before .before .args .backs .now) (c .before .before .args .t) (record { sfits = c .before .b .given }) (pos 1)
+    (c .before .before .args .up) (ap deltaOf (c .if1 .taken)) (c .before .before .pre .1)
 
 same-length-2 : tie.Need-same-length-2
 same-length-2 c = search needs
 
 returns-2 : tie.Need-returns-2
-returns-2 c = sets (c .before .before .args .backs .now) (c .before .before .args .t) (record { sfits = c .before .b .given }) (negsuc 0) (c .before .before .args .up) (ap deltaOf (c .if1 .left)) (c .before .before .pre .1)
+returns-2 c = sets (c .before .before .args .backs .now) (c .before .before .args .t) (record { sfits = c .before .b .given }) (negsuc 0)
+    (c .before .before .args .up) (ap deltaOf (c .if1 .left)) (c .before .before .pre .1)
 
 pub mark-spec : {M : Type 1} → statement M
 mark-spec =

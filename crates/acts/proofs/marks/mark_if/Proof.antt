@@ -33,7 +33,8 @@ plus-zero (pos n) = ap pos (omega arith)
 plus-zero (negsuc n) = simp (lt-ltb 0 (suc n) (omega arith)) (ap negsuc (omega arith))
 
 -- the place q and what is added there, d
-module _ (bs : List ℤ) (t q : ℕ) (m up : Bool) (d : ℤ) (eq : q ≡ cond m (t + 1) t) (ed : d ≡ cond m (deltaOf up) (pos 0)) (h : mag (getD bs q (pos 0)) < 2 ^ 31) (ok : m ≡ true → inI32 (getD bs (t + 1) (pos 0) +ℤ deltaOf up) ≡ true) where
+module _ (bs : List ℤ) (t q : ℕ) (m up : Bool) (d : ℤ) (eq : q ≡ cond m (t + 1) t) (ed : d ≡ cond m (deltaOf up) (pos 0))
+    (h : mag (getD bs q (pos 0)) < 2 ^ 31) (ok : m ≡ true → inI32 (getD bs (t + 1) (pos 0) +ℤ deltaOf up) ≡ true) where
   inside : SFits w32 (getD bs q (pos 0) +ℤ d)
   inside = go m refl
     where
@@ -65,7 +66,10 @@ delta-if-requires : tie.Need-delta-if-requires
 delta-if-requires c κs = search needs
 
 add-v : tie.Need-add-v
-add-v c = fits (c .before .before .before .args .backs .now) (c .before .before .before .args .t) (c .before .before .next-if .result) (c .before .before .before .args .marks) (c .before .before .before .args .up) (c .delta-if .result) (c .before .before .next-if .ensures) (c .delta-if .ensures) (c .before .b .given) (c .before .before .before .pre .1) (record { sfits = c .delta-if .ok })
+add-v c =
+    let s = c .before .before .before in
+    fits (s .args .backs .now) (s .args .t) (c .before .before .next-if .result) (s .args .marks) (s .args .up) (c .delta-if .result)
+    (c .before .before .next-if .ensures) (c .delta-if .ensures) (c .before .b .given) (s .pre .1) (record { sfits = c .delta-if .ok })
 
 mul-v : tie.Need-mul-v
 mul-v c = search needs
@@ -77,7 +81,10 @@ same-length : tie.Need-same-length
 same-length c = search needs
 
 returns : tie.Need-returns
-returns c = stored (c .before .before .before .args .backs .now) (c .before .before .before .args .t) (c .before .before .next-if .result) (c .before .before .before .args .marks) (c .before .before .before .args .up) (c .delta-if .result) (c .before .before .next-if .ensures) (c .delta-if .ensures) (c .before .b .given) (c .before .before .before .pre .1) (record { sfits = c .delta-if .ok })
+returns c =
+    let s = c .before .before .before in
+    stored (s .args .backs .now) (s .args .t) (c .before .before .next-if .result) (s .args .marks) (s .args .up) (c .delta-if .result)
+    (c .before .before .next-if .ensures) (c .delta-if .ensures) (c .before .b .given) (s .pre .1) (record { sfits = c .delta-if .ok })
 
 pub mark-if-spec : {M : Type 1} → statement M
 mark-if-spec =

@@ -31,8 +31,12 @@ loop-holds : tie.Need-loop-holds Inv-loop μ-loop
 loop-holds c = (le-refl _, refl)
 
 -- the row's tile is lent
-below : (c : tie.In-loop Inv-loop μ-loop) → c .before .before .before .args .rows .first + (c .before .loop .y - c .before .before .before .args .rows .top) * c .before .before .before .args .rows .width < length (c .before .before .before .args .backs .now)
-below c = row-below (c .before .before .before .args .rows) (length (c .before .before .before .args .backs .now)) (c .before .loop .y) (c .before .before .before .pre) (c .before .loop .inv .0) (c .loop-test .taken)
+below : (c : tie.In-loop Inv-loop μ-loop) → c .before .before .before .args .rows .first +
+    (c .before .loop .y - c .before .before .before .args .rows .top) * c .before .before .before .args .rows .width < length
+    (c .before .before .before .args .backs .now)
+below c =
+    let s = c .before .before .before in
+    row-below (s .args .rows) (length (s .args .backs .now)) (c .before .loop .y) (s .pre) (c .before .loop .inv .0) (c .loop-test .taken)
 
 sub-t : tie.Need-sub-t Inv-loop μ-loop
 sub-t c = omega (arith, c .before .loop .inv .0, c .before .before .before .pre .below-top)
@@ -56,9 +60,15 @@ leaves-requires : tie.Need-leaves-requires Inv-loop μ-loop
 leaves-requires c κs = search needs
 
 -- what `leaves` says of the backdrop itself
-said : (c : tie.After-leaves Inv-loop μ-loop) → c .leaves .result ≡ not (inI32 (getD (c .before .before .before .before .before .args .backs .now) (c .before .before .before .before .before .args .rows .first + (c .before .before .before .loop .y - c .before .before .before .before .before .args .rows .top) * c .before .before .before .before .before .args .rows .width) (pos 0) +ℤ deltaOf (c .before .before .before .before .before .args .up)))
+said : (c : tie.After-leaves Inv-loop μ-loop) → c .leaves .result ≡ not
+    (inI32 (getD (c .before .before .before .before .before .args .backs .now)
+    (c .before .before .before .before .before .args .rows .first +
+    (c .before .before .before .loop .y - c .before .before .before .before .before .args .rows .top) * c .before .before .before .before .before .args .rows
+    .width) (pos 0) +ℤ deltaOf (c .before .before .before .before .before .args .up)))
 said c =
-    told (getD (c .before .before .before .before .before .args .backs .now) (c .before .before .before .before .before .args .rows .first + (c .before .before .before .loop .y - c .before .before .before .before .before .args .rows .top) * c .before .before .before .before .before .args .rows .width) (pos 0)) (deltaOf (c .before .before .before .before .before .args .up)) _ (c .before .leaves-arg .given) (c .leaves .ensures)
+    let s = c .before .before .before .before .before in
+    told (getD (s .args .backs .now) (s .args .rows .first + (c .before .before .before .loop .y - s .args .rows .top) * s .args .rows .width) (pos 0))
+    (deltaOf (s .args .up)) _ (c .before .leaves-arg .given) (c .leaves .ensures)
 
 returns : tie.Need-returns Inv-loop μ-loop
 returns c =

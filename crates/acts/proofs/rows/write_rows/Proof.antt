@@ -30,11 +30,14 @@ loop-holds : tie.Need-loop-holds Inv-loop μ-loop
 loop-holds c = (le-refl _, refl, refl)
 
 -- the row's tile is lent
-below : (c : tie.In-loop Inv-loop μ-loop) → c .before .before .args .rows .first + (c .before .loop .y - c .before .before .args .rows .top) * c .before .before .args .rows .width < length (c .before .before .args .backs .now)
+below : (c : tie.In-loop Inv-loop μ-loop) → c .before .before .args .rows .first +
+    (c .before .loop .y - c .before .before .args .rows .top) * c .before .before .args .rows .width < length (c .before .before .args .backs .now)
 below c = row-below (c .before .before .args .rows) (length (c .before .before .args .backs .now)) (c .before .loop .y) (c .before .before .pre .0) (c .before .loop .inv .0) (c .loop-test .taken)
 
 -- the mark stays within i32, since all goes through
-fine : (c : tie.In-loop Inv-loop μ-loop) → inI32 (getD (c .before .loop .backs) (c .before .before .args .rows .first + (c .before .loop .y - c .before .before .args .rows .top) * c .before .before .args .rows .width) (pos 0) +ℤ deltaOf (c .before .before .args .up)) ≡ true
+fine : (c : tie.In-loop Inv-loop μ-loop) → inI32 (getD (c .before .loop .backs)
+    (c .before .before .args .rows .first + (c .before .loop .y - c .before .before .args .rows .top) * c .before .before .args .rows .width)
+    (pos 0) +ℤ deltaOf (c .before .before .args .up)) ≡ true
 fine c = mark-ok _ _ _ _ _ _ _ (run-first _ _ _ _ (rows-turn _ _ _ (c .before .loop .y) _ (c .loop-test .taken)) _ _ (ap isDone (c .before .loop .inv .2) ∙ c .before .before .pre .1))
 
 sub-t : tie.Need-sub-t Inv-loop μ-loop

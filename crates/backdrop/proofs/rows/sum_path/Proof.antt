@@ -59,7 +59,8 @@ sum-row-requires c κs =
     let p = c .before .before .before .before .before .before .args .p in
     let left = rows-left bs (widthOf p) (heightOf p) (l .y) (l .at) (omega arith) in
     let wide : l .at + widthOf p - l .at ≡ widthOf p = omega arith in
-    let fine = both (rowFits (widthOf p) (l .at) (pos 0) bs) (rowsFit (heightOf p - (l .y + 1)) (widthOf p) (l .at + widthOf p) bs) (sym (rows-fit-turn bs (widthOf p) (heightOf p) (l .y) (l .at) (omega arith)) ∙ l .inv .3) in
+    let fine = both (rowFits (widthOf p) (l .at) (pos 0) bs) (rowsFit (heightOf p - (l .y + 1)) (widthOf p) (l .at + widthOf p) bs)
+    (sym (rows-fit-turn bs (widthOf p) (heightOf p) (l .y) (l .at) (omega arith)) ∙ l .inv .3) in
     (omega arith, omega (arith, left), rw wide (fine .0))
 
 add-y : tie.Need-add-y Inv-loop μ-loop
@@ -75,11 +76,18 @@ loop-again c =
     let p = c .before .before .before .before .before .before .before .before .args .p in
     let left = rows-left bs (widthOf p) (heightOf p) (l .y) (l .at) (omega arith) in
     let wide : l .at + widthOf p - l .at ≡ widthOf p = omega arith in
-    let fine = both (rowFits (widthOf p) (l .at) (pos 0) bs) (rowsFit (heightOf p - (l .y + 1)) (widthOf p) (l .at + widthOf p) bs) (sym (rows-fit-turn bs (widthOf p) (heightOf p) (l .y) (l .at) (omega arith)) ∙ l .inv .3) in
+    let fine = both (rowFits (widthOf p) (l .at) (pos 0) bs) (rowsFit (heightOf p - (l .y + 1)) (widthOf p) (l .at + widthOf p) bs)
+    (sym (rows-fit-turn bs (widthOf p) (heightOf p) (l .y) (l .at) (omega arith)) ∙ l .inv .3) in
     let after : c .before .sum-row .last .0 ≡ rowSums (widthOf p) (l .at) (pos 0) bs = c .before .sum-row .ensures ∙ rw wide in
     let len = length-row (widthOf p) (l .at) (pos 0) bs in
-    rw after
-    (omega arith, omega (arith, left, len), len ∙ l .inv .2, next-fits bs (widthOf p) (heightOf p) (l .y) (l .at) ∙ fine .1, sym (rows-turn bs (widthOf p) (heightOf p) (l .y) (l .at) (omega arith)) ∙ l .inv .4)
+    rw after (
+      omega arith,
+      omega (arith, left, len),
+      len ∙ l .inv .2,
+      next-fits bs (widthOf p) (heightOf p) (l .y) (l .at) ∙ fine .1,
+      sym
+          (rows-turn bs (widthOf p) (heightOf p) (l .y) (l .at) (omega arith)) ∙ l .inv .4,
+    )
 
 same-length : tie.Need-same-length Inv-loop μ-loop
 same-length c = search needs

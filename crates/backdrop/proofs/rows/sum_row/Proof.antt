@@ -66,8 +66,14 @@ loop-again c =
     let end = c .before .before .before .args .end in
     let g : SFits w32 b = record { sfits = c .sum .given } in
     let now-fits = both (inI32 (s +ℤ b)) (rowFits (end - (l .i + 1)) (l .i + 1) (s +ℤ b) bs) (sym (fits-turn bs end (l .i) s (c .before .loop-test .taken)) ∙ l .inv .3) in
-    rw (summed s b g (now-fits .0))
-    (omega arith, in-fits (s +ℤ b) (now-fits .0), length-set bs (l .i) (s +ℤ b) ∙ l .inv .2, fits-past (end - (l .i + 1)) (l .i) (s +ℤ b) (s +ℤ b) bs ∙ now-fits .1, sym (sums-turn bs end (l .i) s (c .before .loop-test .taken)) ∙ l .inv .4)
+    rw (summed s b g (now-fits .0)) (
+      omega arith,
+      in-fits (s +ℤ b) (now-fits .0),
+      length-set bs (l .i) (s +ℤ b) ∙ l .inv .2,
+      fits-past (end - (l .i + 1)) (l .i) (s +ℤ b)
+          (s +ℤ b) bs ∙ now-fits .1,
+      sym (sums-turn bs end (l .i) s (c .before .loop-test .taken)) ∙ l .inv .4,
+    )
 
 same-length : tie.Need-same-length Inv-loop μ-loop
 same-length c = search needs

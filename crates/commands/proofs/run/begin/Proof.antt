@@ -45,7 +45,9 @@ op-of-requires : tie.Need-op-of-requires Inv-loop μ-loop
 op-of-requires c κs = search needs
 
 move-at-requires : tie.Need-move-at-requires Inv-loop μ-loop
-move-at-requires c κs = found (now (c .before .before .before .before .before .before .before .before .before .before .args .words)) (c .before .before .before .before .before .before .before .loop .at) _ (sym (c .before .before .before .before .before .peek-from .ensures) ∙ c .before .before .before .tag .given .1)
+move-at-requires c κs = found (now (c .before .before .before .before .before .before .before .before .before .before .args .words))
+    (c .before .before .before .before .before .before .before .loop .at) _
+    (sym (c .before .before .before .before .before .peek-from .ensures) ∙ c .before .before .before .tag .given .1)
 
 enum-known-act : tie.Need-enum-known-act Inv-loop μ-loop
 enum-known-act c = search needs
@@ -54,13 +56,17 @@ enum-told-2 : tie.Need-enum-told-2 Inv-loop μ-loop
 enum-told-2 c = search needs
 
 returns-3 : tie.Need-returns-3 Inv-loop μ-loop
-returns-3 c = (c .before .before .before .before .before .before .before .before .before .before .loop .inv .0, c .before .before .before .before .before .before .before .before .before .before .loop .inv .1)
+returns-3 c =
+    let s = c .before .before .before .before .before .before .before .before .before .before in
+    (s .loop .inv .0, s .loop .inv .1)
 
 alike-requires : tie.Need-alike-requires Inv-loop μ-loop
 alike-requires c κs = search needs
 
 returns-4 : tie.Need-returns-4 Inv-loop μ-loop
-returns-4 c = (c .before .before .before .before .before .before .before .before .before .before .before .before .before .loop .inv .0, c .before .before .before .before .before .before .before .before .before .before .before .before .before .loop .inv .1)
+returns-4 c =
+    let s = c .before .before .before .before .before .before .before .before .before .before .before .before .before in
+    (s .loop .inv .0, s .loop .inv .1)
 
 paint-one-requires : tie.Need-paint-one-requires Inv-loop μ-loop
 paint-one-requires c κs = search needs
@@ -80,8 +86,22 @@ loop-again c =
     let l = c .before .before .before .before .before .before .before .before .before .before .before .before .before .before .before .before .loop in
     let ws = now (a .words) in
     let segs = now (a .segments) in
-    let goes = trace-goes ws segs (l .at) _ (sym (c .before .before .before .before .before .before .before .before .before .before .before .before .before .before .peek-from .ensures) ∙ c .before .before .before .before .before .before .before .before .before .before .before .before .tag .given .1) (c .before .before .before .before .before .before .before .before .before .before .if1 .left) _ (c .before .before .before .before .before .before .before .before .before .op-of .ensures) _ (c .before .before .before .before .before .before .before .before .move-at .ensures) (mostCommands - (l .count + 1)) _ _ (c .before .before .before .before .before .before .act .given .1) in
-    (omega (arith, c .before .before .before .before .before .before .before .before .before .before .before .before .before .before .before .loop-test .taken), alike-turn segs ws (l .at) (l .count) _ _ (l .area) _ (l .px) _ _ (c .before .before .before .before .before .before .before .before .before .before .before .before .before .before .before .loop-test .taken) (l .inv .1) goes (sym (c .before .before .before .before .alike .ensures) ∙ not-false (c .before .before .before .before .alike .result) (c .before .before .before .if2 .left)) (c .cover-one .ensures) (c .before .paint-one .ensures))
+    let goes = trace-goes ws segs (l .at) _ (sym (c .before .before .before .before .before .before .before .before .before .before .before .before .before
+    .before .peek-from .ensures) ∙ c .before .before .before .before .before .before .before .before .before .before .before .before .tag .given .1)
+    (c .before .before .before .before .before .before .before .before .before .before .if1 .left) _
+    (c .before .before .before .before .before .before .before .before .before .op-of .ensures) _
+    (c .before .before .before .before .before .before .before .before .move-at .ensures) (mostCommands - (l .count + 1)) _ _
+    (c .before .before .before .before .before .before .act .given .1) in (
+      omega (
+        arith,
+        c .before .before .before .before .before .before .before .before .before .before .before .before .before .before .before .loop-test
+            .taken,
+      ),
+      alike-turn segs ws (l .at) (l .count) _ _ (l .area) _ (l .px) _ _
+          (c .before .before .before .before .before .before .before .before .before .before .before .before .before .before .before .loop-test .taken)
+          (l .inv .1) goes (sym (c .before .before .before .before .alike .ensures) ∙ not-false (c .before .before .before .before .alike .result)
+          (c .before .before .before .if2 .left)) (c .cover-one .ensures) (c .before .paint-one .ensures),
+    )
 
 returns-5 : tie.Need-returns-5 Inv-loop μ-loop
 returns-5 c = (c .before .loop .inv .0, c .before .loop .inv .1)

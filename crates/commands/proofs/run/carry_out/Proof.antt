@@ -33,7 +33,9 @@ cast-fill-path : tie.Need-cast-fill-path
 cast-fill-path c = search needs
 
 fill-path-requires : tie.Need-fill-path-requires
-fill-path-requires c κs = (c .before .before .before .before .before .before .before .pre .1, subst (λ (a : Act). Within a (length (now (c .before .before .before .before .before .before .before .args .segments)))) (c .before .before .before .act .given .1) (c .before .before .before .before .before .before .before .pre .0))
+fill-path-requires c κs =
+    let s = c .before .before .before .before .before .before .before in
+    (s .pre .1, subst (λ (a : Act). Within a (length (now (s .args .segments)))) (c .before .before .before .act .given .1) (s .pre .0))
 
 enum-told : tie.Need-enum-told
 enum-told c = search needs
@@ -58,8 +60,18 @@ same-length c = search needs
 
 returns : tie.Need-returns
 returns c =
-    known (now (c .before .before .before .before .before .before .before .before .before .before .args .segments)) (now (c .before .before .before .before .before .before .before .before .before .before .args .area)) (now (c .before .before .before .before .before .before .before .before .before .before .args .rgba)) (c .before .before .before .before .before .before .before .before .before .before .args .act) _ _ _ (c .before .before .before .before .before .before .act .given .1)
-    (by-fill (now (c .before .before .before .before .before .before .before .before .before .before .args .segments)) (now (c .before .before .before .before .before .before .before .before .before .before .args .area)) (now (c .before .before .before .before .before .before .before .before .before .before .args .rgba)) _ _ _ _ _ (c .before .before .before .before .before .before .before .before .before .before .pre .1) (toZ-ofZ w32 _ (record { sfits = c .before .before .before .before .signed .ok }) ∙ c .before .before .before .before .signed .ensures) (c .before .before .fill-path .ensures), fill-paints (now (c .before .before .before .before .before .before .before .before .before .before .args .segments)) (now (c .before .before .before .before .before .before .before .before .before .before .args .area)) (now (c .before .before .before .before .before .before .before .before .before .before .args .rgba)) _ _ _)
+    let s = c .before .before .before .before .before .before .before .before .before .before in
+    known (now (s .args .segments)) (now (s .args .area)) (now (s .args .rgba)) (s .args .act) _ _ _
+    (c .before .before .before .before .before .before .act .given .1) (
+      by-fill (now (c .before .before .before .before .before .before .before .before .before .before .args .segments)) (now (c .before .before .before .before .before .before .before .before .before .before .args .area)) (now (c .before .before .before .before .before .before .before .before .before .before .args .rgba)) _ _ _ _ _ (c .before .before .before .before .before .before .before .before .before .before .pre .1) (toZ-ofZ w32 _ (record {
+        sfits =
+            let s = c .before .before .before .before .before .before .before .before .before .before in
+            let t = c .before .before .before .before in
+            t .signed .ok;
+      }) ∙ t .signed .ensures) (c .before .before .fill-path .ensures),
+      fill-paints (now (s .args .segments)) (now (s .args .area))
+          (now (s .args .rgba)) _ _ _,
+    )
 
 same-length-2 : tie.Need-same-length-2
 same-length-2 c = search needs
@@ -67,8 +79,14 @@ same-length-2 c = search needs
 returns-2 : tie.Need-returns-2
 unfolding coverAll cover
 returns-2 c =
-    known (now (c .before .before .before .before .before .before .before .before .args .segments)) (now (c .before .before .before .before .before .before .before .before .args .area)) (now (c .before .before .before .before .before .before .before .before .args .rgba)) (c .before .before .before .before .before .before .before .before .args .act) Solid _ _ (c .before .before .before .before .enum-told .given .1)
-    (c .before .before .set-all .ensures, solid-paints (now (c .before .before .before .before .before .before .before .before .args .segments)) (now (c .before .before .before .before .before .before .before .before .args .area)) (now (c .before .before .before .before .before .before .before .before .args .rgba)))
+    let s = c .before .before .before .before .before .before .before .before in
+    known (now (s .args .segments)) (now (s .args .area)) (now (s .args .rgba)) (s .args .act) Solid _ _
+    (c .before .before .before .before .enum-told .given .1) (
+      c .before .before .set-all .ensures,
+      solid-paints (now (c .before .before .before .before .before .before .before .before .args .segments))
+          (now (c .before .before .before .before .before .before .before .before .args .area))
+          (now (c .before .before .before .before .before .before .before .before .args .rgba)),
+    )
 
 same-length-3 : tie.Need-same-length-3
 same-length-3 c = search needs
@@ -76,13 +94,25 @@ same-length-3 c = search needs
 returns-3 : tie.Need-returns-3
 unfolding paintAll paint compositeOf
 returns-3 c =
-    known (now (c .before .before .before .before .before .before .before .before .before .args .segments)) (now (c .before .before .before .before .before .before .before .before .before .args .area)) (now (c .before .before .before .before .before .before .before .before .before .args .rgba)) (c .before .before .before .before .before .before .before .before .before .args .act) _ _ _ (c .before .before .before .before .before .act2 .given .1)
-    (color-covers (now (c .before .before .before .before .before .before .before .before .before .args .segments)) (now (c .before .before .before .before .before .before .before .before .before .args .area)) (now (c .before .before .before .before .before .before .before .before .before .args .rgba)) _, c .composite .ensures ∙ ap (λ (fg : List Float). compositeOf (now (c .before .before .before .before .before .before .before .before .before .args .area)) fg (now (c .before .before .before .before .before .before .before .before .before .args .rgba))) (c .before .colour .ensures))
+    let s = c .before .before .before .before .before .before .before .before .before in
+    known (now (s .args .segments)) (now (s .args .area)) (now (s .args .rgba)) (s .args .act) _ _ _ (c .before .before .before .before .before .act2 .given .1) (
+      color-covers (now (c .before .before .before .before .before .before .before .before .before .args .segments))
+          (now (c .before .before .before .before .before .before .before .before .before .args .area))
+          (now (c .before .before .before .before .before .before .before .before .before .args .rgba)) _,
+      c .composite .ensures ∙ ap
+          (λ (fg : List Float). compositeOf (now (c .before .before .before .before .before .before .before .before .before .args .area)) fg
+          (now (c .before .before .before .before .before .before .before .before .before .args .rgba))) (c .before .colour .ensures),
+    )
 
 returns-4 : tie.Need-returns-4
 returns-4 c =
-    known (now (c .before .before .before .before .args .segments)) (now (c .before .before .before .before .args .area)) (now (c .before .before .before .before .args .rgba)) (c .before .before .before .before .args .act) Jump _ _ (c .enum-told2 .given .1)
-    (jump-covers (now (c .before .before .before .before .args .segments)) (now (c .before .before .before .before .args .area)) (now (c .before .before .before .before .args .rgba)), jump-paints (now (c .before .before .before .before .args .segments)) (now (c .before .before .before .before .args .area)) (now (c .before .before .before .before .args .rgba)))
+    let s = c .before .before .before .before in
+    known (now (s .args .segments)) (now (s .args .area)) (now (s .args .rgba)) (s .args .act) Jump _ _ (c .enum-told2 .given .1) (
+      jump-covers (now (c .before .before .before .before .args .segments)) (now (c .before .before .before .before .args .area))
+          (now (c .before .before .before .before .args .rgba)),
+      jump-paints (now (c .before .before .before .before .args .segments))
+          (now (c .before .before .before .before .args .area)) (now (c .before .before .before .before .args .rgba)),
+    )
 
 pub carry-out-spec : {M : Type 1} → statement M
 carry-out-spec =

@@ -30,7 +30,10 @@ returns-2 : tie.Need-returns-2
 returns-2 c = paint-solid (c .before .before .args .act) (c .before .before .args .a) (now (c .before .before .args .px)) (c .enum-told2 .given .1)
 
 returns-3 : tie.Need-returns-3
-returns-3 c = paint-color (c .before .before .before .before .before .before .args .act) _ (c .before .before .before .before .before .before .args .a) (now (c .before .before .before .before .before .before .args .px)) _ _ (c .before .before .before .before .act .given .1) (c .before .colour .ensures) (c .over .ensures)
+returns-3 c =
+    let s = c .before .before .before .before .before .before in
+    paint-color (s .args .act) _ (s .args .a) (now (s .args .px)) _ _ (c .before .before .before .before .act .given .1) (c .before .colour .ensures)
+    (c .over .ensures)
 
 returns-4 : tie.Need-returns-4
 returns-4 c = paint-jump (c .before .before .args .act) (c .before .before .args .a) (now (c .before .before .args .px)) (c .enum-told3 .given .1)

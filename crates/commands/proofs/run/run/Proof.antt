@@ -44,7 +44,8 @@ lengths : (a : Act) (segs area area′ : List Float) (rgba rgba′ : List (List 
 lengths a segs area area′ rgba rgba′ p q m n = (ap length p ∙ length-cover a segs area ∙ m, ap length q ∙ length-paint a area rgba ∙ n)
 
 abbrev Inv-loop : tie.InvT-loop
-Inv-loop words segments start gone a rgba₀ area₀ at₀ count₀ rgba area at count = (count ≤ mostCommands) × (length area ≡ tileSize) × (length rgba ≡ tileSize) × (left segments (traceOf (mostCommands - count) words segments at) area rgba ≡ runFrom segments (traceOf (mostCommands - gone) words segments start) a rgba₀)
+Inv-loop words segments start gone a rgba₀ area₀ at₀ count₀ rgba area at count = (count ≤ mostCommands) × (length area ≡ tileSize) × (length rgba ≡ tileSize) ×
+    (left segments (traceOf (mostCommands - count) words segments at) area rgba ≡ runFrom segments (traceOf (mostCommands - gone) words segments start) a rgba₀)
 
 abbrev μ-loop : tie.MeasureT-loop
 μ-loop words segments start gone a rgba₀ area₀ at₀ count₀ rgba area at count = mostCommands - count
@@ -55,8 +56,13 @@ same-area-requires c κs = search needs
 loop-holds : tie.Need-loop-holds Inv-loop μ-loop
 loop-holds c =
     let s = c .before .before .before in
-    let t = traceOf (mostCommands - s .args .gone) (now (s .args .words)) (now (s .args .segments)) (s .args .start) in
-    (s .pre .1, ap length (c .same-area .ensures) ∙ same-area-length (s .args .a), s .pre .0, begins (now (s .args .segments)) t (s .args .a) (now (s .args .rgba)) _ (s .pre .0) (c .same-area .ensures))
+    let t = traceOf (mostCommands - s .args .gone) (now (s .args .words)) (now (s .args .segments)) (s .args .start) in (
+      s .pre .1,
+      ap length (c .same-area .ensures) ∙ same-area-length (s .args .a),
+      s .pre .0,
+      begins (now (s .args .segments)) t (s .args .a)
+          (now (s .args .rgba)) _ (s .pre .0) (c .same-area .ensures),
+    )
 
 peek-from-requires : tie.Need-peek-from-requires Inv-loop μ-loop
 peek-from-requires c κs = search needs
@@ -71,25 +77,32 @@ returns : tie.Need-returns Inv-loop μ-loop
 returns c =
     let s = c .before .before .before .before .before .before .before in
     let l = c .before .before .before .loop in
-    stop (now (s .args .words)) (now (s .args .segments)) _ (l .area) (l .rgba) (l .at) (l .count) (l .inv .3) _ _ refl (trace-past (now (s .args .words)) (now (s .args .segments)) (l .at) _ (sym (c .before .before .peek-from .ensures) ∙ c .enum-told .given .1))
+    stop (now (s .args .words)) (now (s .args .segments)) _ (l .area) (l .rgba) (l .at) (l .count) (l .inv .3) _ _ refl
+    (trace-past (now (s .args .words)) (now (s .args .segments)) (l .at) _ (sym (c .before .before .peek-from .ensures) ∙ c .enum-told .given .1))
 
 returns-2 : tie.Need-returns-2 Inv-loop μ-loop
 returns-2 c =
     let s = c .before .before .before .before .before .before .before .before .before in
     let l = c .before .before .before .before .before .loop in
-    stop (now (s .args .words)) (now (s .args .segments)) _ (l .area) (l .rgba) (l .at) (l .count) (l .inv .3) _ _ refl (trace-end (now (s .args .words)) (now (s .args .segments)) (l .at) _ (sym (c .before .before .before .before .peek-from .ensures) ∙ c .before .before .tag .given .1) _ (c .if1 .taken))
+    stop (now (s .args .words)) (now (s .args .segments)) _ (l .area) (l .rgba) (l .at) (l .count) (l .inv .3) _ _ refl
+    (trace-end (now (s .args .words)) (now (s .args .segments)) (l .at) _
+    (sym (c .before .before .before .before .peek-from .ensures) ∙ c .before .before .tag .given .1) _ (c .if1 .taken))
 
 returns-3 : tie.Need-returns-3 Inv-loop μ-loop
 returns-3 c =
     let s = c .before .before .before .before .before .before .before .before .before .before in
     let l = c .before .before .before .before .before .before .loop in
-    stop (now (s .args .words)) (now (s .args .segments)) _ (l .area) (l .rgba) (l .at) (l .count) (l .inv .3) 0 _ (omega arith) (trace-full (now (s .args .words)) (now (s .args .segments)) (l .at) _ (sym (c .before .before .before .before .before .peek-from .ensures) ∙ c .before .before .before .tag .given .1) (c .before .if1 .left))
+    stop (now (s .args .words)) (now (s .args .segments)) _ (l .area) (l .rgba) (l .at) (l .count) (l .inv .3) 0 _ (omega arith)
+    (trace-full (now (s .args .words)) (now (s .args .segments)) (l .at) _
+    (sym (c .before .before .before .before .before .peek-from .ensures) ∙ c .before .before .before .tag .given .1) (c .before .if1 .left))
 
 op-of-requires : tie.Need-op-of-requires Inv-loop μ-loop
 op-of-requires c κs = search needs
 
 move-at-requires : tie.Need-move-at-requires Inv-loop μ-loop
-move-at-requires c κs = found (now (c .before .before .before .before .before .before .before .before .before .before .before .args .words)) (c .before .before .before .before .before .before .before .loop .at) _ (sym (c .before .before .before .before .before .before .peek-from .ensures) ∙ c .before .before .before .before .tag .given .1)
+move-at-requires c κs = found (now (c .before .before .before .before .before .before .before .before .before .before .before .args .words))
+    (c .before .before .before .before .before .before .before .loop .at) _
+    (sym (c .before .before .before .before .before .before .peek-from .ensures) ∙ c .before .before .before .before .tag .given .1)
 
 enum-known-no : tie.Need-enum-known-no Inv-loop μ-loop
 enum-known-no c = search needs
@@ -99,7 +112,10 @@ returns-4 c =
     let s = c .before .before .before .before .before .before .before .before .before .before .before .before .before .before .before in
     let l = c .before .before .before .before .before .before .before .before .before .before .before .loop in
     stop (now (s .args .words)) (now (s .args .segments)) _ (l .area) (l .rgba) (l .at) (l .count) (l .inv .3) _ _ (more (l .count) (l .inv .0) (c .before .before .before .before .before .if2 .left))
-    (trace-stop (now (s .args .words)) (now (s .args .segments)) (l .at) _ (sym (c .before .before .before .before .before .before .before .before .before .before .peek-from .ensures) ∙ c .before .before .before .before .before .before .before .before .tag .given .1) (c .before .before .before .before .before .before .if1 .left) _ (c .before .before .before .before .op-of .ensures) _ (c .before .before .before .move-at .ensures) _ _ (c .before .no .given .1))
+    (trace-stop (now (s .args .words)) (now (s .args .segments)) (l .at) _
+    (sym (c .before .before .before .before .before .before .before .before .before .before .peek-from .ensures) ∙ c .before .before .before .before
+    .before .before .before .before .tag .given .1) (c .before .before .before .before .before .before .if1 .left) _
+    (c .before .before .before .before .op-of .ensures) _ (c .before .before .before .move-at .ensures) _ _ (c .before .no .given .1))
 
 enum-known-act : tie.Need-enum-known-act Inv-loop μ-loop
 enum-known-act c = search needs
@@ -108,7 +124,14 @@ slice-aggregate-carry-out : tie.Need-slice-aggregate-carry-out Inv-loop μ-loop
 slice-aggregate-carry-out c = search needs
 
 carry-out-requires : tie.Need-carry-out-requires Inv-loop μ-loop
-carry-out-requires c κs = (move-within _ (now (c .before .before .before .before .before .before .before .before .before .before .before .before .before .before .before .before .before .args .words)) (now (c .before .before .before .before .before .before .before .before .before .before .before .before .before .before .before .before .before .args .segments)) (c .before .before .before .before .before .before .before .before .before .before .before .before .before .loop .at) _ _ (sym (c .before .before .before .before .before .move-at .ensures) ∙ c .before .before .before .act .given .1), c .before .before .before .before .before .before .before .before .before .before .before .before .before .loop .inv .1, c .before .before .before .before .before .before .before .before .before .before .before .before .before .loop .inv .2)
+carry-out-requires c κs =
+    let s = c .before .before .before .before .before .before .before .before .before .before .before .before .before in
+    let t = c .before .before .before .before .before .before .before .before .before .before .before .before .before .before .before .before .before in (
+      move-within _ (now (t .args .words)) (now (t .args .segments)) (s .loop .at) _ _
+          (sym (c .before .before .before .before .before .move-at .ensures) ∙ c .before .before .before .act .given .1),
+      s .loop .inv .1,
+      s .loop .inv .2,
+    )
 
 add-count : tie.Need-add-count Inv-loop μ-loop
 add-count c = search needs
@@ -124,8 +147,15 @@ loop-again c =
       omega arith,
       n .0,
       n .1,
-      turn (now (s .args .words)) (now (s .args .segments)) _ (l .area) (l .rgba) (l .at) (l .count) (l .inv .3) _ _ _ _ (l .inv .0) (c .before .before .before .before .before .before .before .before .before .if2 .left) (l .inv .1 ∙ sym (l .inv .2))
-          (trace-goes (now (s .args .words)) (now (s .args .segments)) (l .at) _ (sym (c .before .before .before .before .before .before .before .before .before .before .before .before .before .before .peek-from .ensures) ∙ c .before .before .before .before .before .before .before .before .before .before .before .before .tag .given .1) (c .before .before .before .before .before .before .before .before .before .before .if1 .left) _ (c .before .before .before .before .before .before .before .before .op-of .ensures) _ (c .before .before .before .before .before .before .before .move-at .ensures) _ _ _ (c .before .before .before .before .before .act .given .1)) (c .before .carry-out .ensures .0) (c .before .carry-out .ensures .1),
+      turn (now (s .args .words)) (now (s .args .segments)) _ (l .area) (l .rgba) (l .at) (l .count) (l .inv .3) _ _ _ _ (l .inv .0)
+          (c .before .before .before .before .before .before .before .before .before .if2 .left) (l .inv .1 ∙ sym (l .inv .2))
+          (trace-goes (now (s .args .words)) (now (s .args .segments)) (l .at) _
+          (sym (c .before .before .before .before .before .before .before .before .before .before .before .before .before .before .peek-from .ensures) ∙ c
+          .before .before .before .before .before .before .before .before .before .before .before .before .tag .given .1)
+          (c .before .before .before .before .before .before .before .before .before .before .if1 .left) _
+          (c .before .before .before .before .before .before .before .before .op-of .ensures) _
+          (c .before .before .before .before .before .before .before .move-at .ensures) _ _ _ (c .before .before .before .before .before .act .given .1))
+          (c .before .carry-out .ensures .0) (c .before .carry-out .ensures .1),
     )
 
 pub run-spec : {M : Type 1} → statement M

@@ -42,7 +42,8 @@ returns c = toZ-pos w32 (c .before .args .w) (c .if1 .taken) ∙ sym (simp (lt-l
 
 returns-2 : tie.Need-returns-2
 unfolding signedOf
-returns-2 c = ap (λ (z : ℤ). toZ w32 (ofZ w32 z)) (lower (c .before .args .w) (omega arith)) ∙ toZ-ofZ w32 (negsuc (4294967295 - c .before .args .w)) (fits (c .before .args .w) (omega arith)) ∙ sym (simp (le-ltb (c .before .args .w) (2 ^ 31) (c .if1 .left)))
+returns-2 c = ap (λ (z : ℤ). toZ w32 (ofZ w32 z)) (lower (c .before .args .w) (omega arith)) ∙ toZ-ofZ w32 (negsuc (4294967295 - c .before .args .w))
+    (fits (c .before .args .w) (omega arith)) ∙ sym (simp (le-ltb (c .before .args .w) (2 ^ 31) (c .if1 .left)))
 
 pub signed-spec : {M : Type 1} → statement M
 signed-spec =

@@ -35,7 +35,9 @@ sub-if1 : tie.Need-sub-if1
 sub-if1 c = search needs
 
 returns : tie.Need-returns
-returns c = short (now (c .before .before .before .before .args .words)) (now (c .before .before .before .before .args .segments)) (c .before .before .before .before .args .at) (c .before .before .before .before .args .op) _ (c .before .words-of .ensures) (c .if1 .taken)
+returns c =
+    let s = c .before .before .before .before in
+    short (now (s .args .words)) (now (s .args .segments)) (s .args .at) (s .args .op) _ (c .before .words-of .ensures) (c .if1 .taken)
 
 enum-told : tie.Need-enum-told
 enum-told c = search needs
@@ -84,23 +86,38 @@ enum-told-5 c = search needs
 
 returns-2 : tie.Need-returns-2
 unfolding wholeMove
-returns-2 c = arm (now (c .before .before .before .before .before .before .before .args .words)) (now (c .before .before .before .before .before .before .before .args .segments)) (c .before .before .before .before .before .before .before .args .at) (c .before .before .before .before .before .before .before .args .op) _ (c .before .before .before .before .words-of .ensures) Fill _ (c .before .before .before .if1 .left) (c .before .enum-told .given .1) (c .fill-move .ensures)
+returns-2 c =
+    let s = c .before .before .before .before .before .before .before in
+    arm (now (s .args .words)) (now (s .args .segments)) (s .args .at) (s .args .op) _ (c .before .before .before .before .words-of .ensures) Fill _
+    (c .before .before .before .if1 .left) (c .before .enum-told .given .1) (c .fill-move .ensures)
 
 returns-3 : tie.Need-returns-3
 unfolding wholeMove
-returns-3 c = arm (now (c .before .before .before .before .before .before .args .words)) (now (c .before .before .before .before .before .before .args .segments)) (c .before .before .before .before .before .before .args .at) (c .before .before .before .before .before .before .args .op) _ (c .before .before .before .words-of .ensures) Solid _ (c .before .before .if1 .left) (c .enum-told2 .given .1) refl
+returns-3 c =
+    let s = c .before .before .before .before .before .before in
+    arm (now (s .args .words)) (now (s .args .segments)) (s .args .at) (s .args .op) _ (c .before .before .before .words-of .ensures) Solid _
+    (c .before .before .if1 .left) (c .enum-told2 .given .1) refl
 
 returns-4 : tie.Need-returns-4
 unfolding wholeMove
-returns-4 c = arm (now (c .before .before .before .before .before .before .before .args .words)) (now (c .before .before .before .before .before .before .before .args .segments)) (c .before .before .before .before .before .before .before .args .at) (c .before .before .before .before .before .before .before .args .op) _ (c .before .before .before .before .words-of .ensures) Color _ (c .before .before .before .if1 .left) (c .before .enum-told3 .given .1) refl
+returns-4 c =
+    let s = c .before .before .before .before .before .before .before in
+    arm (now (s .args .words)) (now (s .args .segments)) (s .args .at) (s .args .op) _ (c .before .before .before .before .words-of .ensures) Color _
+    (c .before .before .before .if1 .left) (c .before .enum-told3 .given .1) refl
 
 returns-5 : tie.Need-returns-5
 unfolding wholeMove
-returns-5 c = arm (now (c .before .before .before .before .before .before .before .args .words)) (now (c .before .before .before .before .before .before .before .args .segments)) (c .before .before .before .before .before .before .before .args .at) (c .before .before .before .before .before .before .before .args .op) _ (c .before .before .before .before .words-of .ensures) Jump _ (c .before .before .before .if1 .left) (c .before .enum-told4 .given .1) refl
+returns-5 c =
+    let s = c .before .before .before .before .before .before .before in
+    arm (now (s .args .words)) (now (s .args .segments)) (s .args .at) (s .args .op) _ (c .before .before .before .before .words-of .ensures) Jump _
+    (c .before .before .before .if1 .left) (c .before .enum-told4 .given .1) refl
 
 returns-6 : tie.Need-returns-6
 unfolding wholeMove
-returns-6 c = arm (now (c .before .before .before .before .before .before .args .words)) (now (c .before .before .before .before .before .before .args .segments)) (c .before .before .before .before .before .before .args .at) (c .before .before .before .before .before .before .args .op) _ (c .before .before .before .words-of .ensures) Unknown _ (c .before .before .if1 .left) (c .enum-told5 .given .1) refl
+returns-6 c =
+    let s = c .before .before .before .before .before .before in
+    arm (now (s .args .words)) (now (s .args .segments)) (s .args .at) (s .args .op) _ (c .before .before .before .words-of .ensures) Unknown _
+    (c .before .before .if1 .left) (c .enum-told5 .given .1) refl
 
 pub move-at-spec : {M : Type 1} → statement M
 move-at-spec =

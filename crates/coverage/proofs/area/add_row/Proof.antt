@@ -63,16 +63,28 @@ same-length : tie.Need-same-length
 same-length c = search needs
 
 returns : tie.Need-returns
-returns c = slant (c .before .before .before .before .before .before .before .before .args .w) (c .before .before .before .before .before .before .before .before .args .yt) (c .before .before .before .before .before .before .before .before .args .yi) (c .before .before .before .before .before .before .row-of .result) (c .before .before .before .before .before .before .row-of .ensures) (c .before .before .before .reach-of .result) _ _ (c .before .before .before .before .before .if1 .taken) (c .before .before .before .reach-of .ensures) (c .before .before .add-slant .ensures)
+returns c =
+    let s = c .before .before .before .before .before .before .before .before in
+    let t = c .before .before .before .before .before .before in
+    let u = c .before .before .before in
+    slant (s .args .w) (s .args .yt) (s .args .yi) (t .row-of .result) (t .row-of .ensures) (u .reach-of .result) _ _
+    (c .before .before .before .before .before .if1 .taken) (u .reach-of .ensures) (c .before .before .add-slant .ensures)
 
 same-length-2 : tie.Need-same-length-2
 same-length-2 c = search needs
 
 returns-2 : tie.Need-returns-2
-returns-2 c = edge (c .before .before .before .before .before .before .before .before .args .w) (c .before .before .before .before .before .before .before .before .args .yt) (c .before .before .before .before .before .before .before .before .args .yi) (c .before .before .before .before .before .before .row-of .result) (c .before .before .before .before .before .before .row-of .ensures) _ _ (c .before .before .before .before .before .if1 .left) (c .before .before .before .before .if2 .taken) (c .before .before .add-edge .ensures)
+returns-2 c =
+    let s = c .before .before .before .before .before .before .before .before in
+    let t = c .before .before .before .before .before .before in
+    edge (s .args .w) (s .args .yt) (s .args .yi) (t .row-of .result) (t .row-of .ensures) _ _ (c .before .before .before .before .before .if1 .left)
+    (c .before .before .before .before .if2 .taken) (c .before .before .add-edge .ensures)
 
 returns-3 : tie.Need-returns-3
-returns-3 c = neither (c .before .before .before .before .args .w) (c .before .before .before .before .args .yt) (c .before .before .before .before .args .yi) (c .before .before .row-of .result) (c .before .before .row-of .ensures) _ (c .before .if1 .left) (c .if2 .left)
+returns-3 c =
+    let s = c .before .before .before .before in
+    neither (s .args .w) (s .args .yt) (s .args .yi) (c .before .before .row-of .result) (c .before .before .row-of .ensures) _ (c .before .if1 .left)
+    (c .if2 .left)
 
 pub add-row-spec : {M : Type 1} → statement M
 add-row-spec =

@@ -36,13 +36,18 @@ loop-less : tie.Need-loop-less Inv-loop μ-loop
 loop-less c = search needs
 
 loop-again : tie.Need-loop-again Inv-loop μ-loop
-loop-again c = (search needs, turn (stepWay (c .before .before .before .before .before .before .before .args .w) (c .before .before .before .before .before .before .before .args .yt)) (c .before .before .before .before .before .loop .yi) _ (c .before .before .before .before .before .loop .area) _ (c .before .before .before .before .before .loop .inv .1) (c .before .before .add-row .ensures))
+loop-again c =
+    let s = c .before .before .before .before .before .before .before in
+    let t = c .before .before .before .before .before in
+    (search needs, turn (stepWay (s .args .w) (s .args .yt)) (t .loop .yi) _ (t .loop .area) _ (t .loop .inv .1) (c .before .before .add-row .ensures))
 
 same-length : tie.Need-same-length Inv-loop μ-loop
 same-length c = c .before .loop .inv .1 .0
 
 returns : tie.Need-returns Inv-loop μ-loop
-returns c = ended (stepWay (c .before .before .before .args .w) (c .before .before .before .args .yt)) nan tileSize (rowStart (c .before .loop .yi)) _ _ (c .before .loop .inv .1) (c .before .before .before .pre) (omega arith)
+returns c =
+    let s = c .before .before .before in
+    ended (stepWay (s .args .w) (s .args .yt)) nan tileSize (rowStart (c .before .loop .yi)) _ _ (c .before .loop .inv .1) (s .pre) (omega arith)
 
 pub add-segment-spec : {M : Type 1} → statement M
 add-segment-spec =

@@ -59,13 +59,24 @@ loop-less : tie.Need-loop-less Inv-loop μ-loop
 loop-less c = search needs
 
 loop-again : tie.Need-loop-again Inv-loop μ-loop
-loop-again c = (search needs, ap length (c .before .before .add-segment .ensures) ∙ length-mapi _ _ ∙ c .before .before .before .before .before .before .before .loop .inv .1, turn (now (c .before .before .before .before .before .before .before .before .before .before .args .segments)) (c .before .before .before .before .before .before .before .before .before .before .args .first) (c .before .before .before .before .before .before .before .before .before .before .args .xt) (c .before .before .before .before .before .before .before .before .before .before .args .yt) (c .before .before .before .before .before .before .before .loop .j) _ _ _ _ _ (c .before .before .before .before .segment-at .ensures) (c .before .before .before .way-of .ensures) (c .before .before .before .before .before .before .before .loop .inv .2) (c .before .before .add-segment .ensures))
+loop-again c =
+    let s = c .before .before .before .before .before .before .before .before .before .before in
+    let t = c .before .before .before .before .before .before .before in (
+      search needs,
+      ap length (c .before .before .add-segment .ensures) ∙ length-mapi _ _ ∙ t .loop .inv .1,
+      turn (now (s .args .segments)) (s .args .first)
+          (s .args .xt) (s .args .yt) (t .loop .j) _ _ _ _ _ (c .before .before .before .before .segment-at .ensures)
+          (c .before .before .before .way-of .ensures) (t .loop .inv .2) (c .before .before .add-segment .ensures),
+    )
 
 same-length : tie.Need-same-length Inv-loop μ-loop
 same-length c = c .before .loop .inv .1
 
 returns : tie.Need-returns Inv-loop μ-loop
-returns c = c .before .loop .inv .2 ∙ ap (λ (m : ℕ). mapi (areaAfter (now (c .before .before .before .before .args .segments)) (c .before .before .before .before .args .first) (c .before .before .before .before .args .xt) (c .before .before .before .before .args .yt) m) (now (c .before .before .before .before .args .area))) (omega arith)
+returns c =
+    let s = c .before .before .before .before in
+    c .before .loop .inv .2 ∙ ap (λ (m : ℕ). mapi (areaAfter (now (s .args .segments)) (s .args .first) (s .args .xt) (s .args .yt) m) (now (s .args .area)))
+    (omega arith)
 
 pub add-segments-spec : {M : Type 1} → statement M
 add-segments-spec =

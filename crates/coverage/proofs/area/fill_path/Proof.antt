@@ -44,7 +44,12 @@ same-length : tie.Need-same-length
 same-length c = search needs
 
 returns : tie.Need-returns
-returns c = chain (now (c .before .before .before .before .before .before .before .before .before .before .before .before .before .before .before .args .segments)) (c .before .before .before .before .before .before .before .before .before .before .before .before .before .before .before .args .first) (c .before .before .before .before .before .before .before .before .before .before .before .before .before .before .before .args .n) (c .before .before .before .before .before .before .before .before .before .before .before .before .before .before .before .args .eo) (c .before .before .before .before .before .before .before .before .before .before .before .before .before .before .before .args .backdrop) (c .before .before .before .before .before .before .before .before .before .before .before .before .before .before .before .args .xt) (c .before .before .before .before .before .before .before .before .before .before .before .before .before .before .before .args .yt) _ _ _ _ _ (c .before .before .before .before .before .before .before .before .before .before .before .before .before .before .before .pre .0) (c .before .before .before .before .before .before .before .before .before .before .before .of-i32 .ensures ∙ ap (ofInt binary32) (toZ-ofZ w32 (c .before .before .before .before .before .before .before .before .before .before .before .before .before .before .before .args .backdrop) (c .before .before .before .before .before .before .before .before .before .before .before .before .before .before .before .fits .backdrop))) (c .before .before .before .before .before .before .before .before .before .before .set-all .ensures) (c .before .before .before .before .before .before .add-segments .ensures) (c .before .before .finish-all .ensures)
+returns c =
+    let s = c .before .before .before .before .before .before .before .before .before .before .before .before .before .before .before in
+    chain (now (s .args .segments)) (s .args .first) (s .args .n) (s .args .eo) (s .args .backdrop) (s .args .xt) (s .args .yt) _ _ _ _ _ (s .pre .0)
+    (c .before .before .before .before .before .before .before .before .before .before .before .of-i32 .ensures ∙ ap (ofInt binary32)
+    (toZ-ofZ w32 (s .args .backdrop) (s .fits .backdrop))) (c .before .before .before .before .before .before .before .before .before .before .set-all
+    .ensures) (c .before .before .before .before .before .before .add-segments .ensures) (c .before .before .finish-all .ensures)
 
 pub fill-path-spec : {M : Type 1} → statement M
 fill-path-spec =

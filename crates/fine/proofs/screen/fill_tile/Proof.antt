@@ -23,8 +23,15 @@ loop-holds c = (search needs, refl, no-rows (oneWord (c .before .args .word)) (c
 
 fill-row-requires : tie.Need-fill-row-requires Inv-loop μ-loop
 fill-row-requires c κs =
-    let a = c .before .before .before .before .args in
-    (search needs, search needs, search needs, search needs, row-room (a .width) (a .tx) (a .ty) (c .before .before .loop .y) _ (c .before .loop-test .taken) (c .before .before .before .before .pre .2) (subst (λ (n : ℕ). a .width * (tileHeight * a .ty + tileHeight) ≤ n) (sym (c .before .before .loop .inv .1)) (c .before .before .before .before .pre .3)))
+    let a = c .before .before .before .before .args in (
+      search needs,
+      search needs,
+      search needs,
+      search needs,
+      row-room (a .width) (a .tx) (a .ty) (c .before .before .loop .y) _ (c .before .loop-test .taken)
+          (c .before .before .before .before .pre .2) (subst (λ (n : ℕ). a .width * (tileHeight * a .ty + tileHeight) ≤ n)
+          (sym (c .before .before .loop .inv .1)) (c .before .before .before .before .pre .3)),
+    )
 
 add-y : tie.Need-add-y Inv-loop μ-loop
 add-y c = search needs
@@ -34,14 +41,22 @@ loop-less c = search needs
 
 loop-again : tie.Need-loop-again Inv-loop μ-loop
 loop-again c =
-    let a = c .before .before .before .before .before .before .before .args in
-    (search needs, c .before .before .fill-row .kept .0 ∙ c .before .before .before .before .before .loop .inv .1, row-more (oneWord (a .word)) (a .width) (a .tx) (a .ty) (c .before .before .before .before .before .loop .y) _ (c .before .before .before .before .before .loop .pixels) _ (c .before .before .before .before .loop-test .taken) (c .before .before .before .before .before .before .before .pre .2) (c .before .before .before .before .before .loop .inv .2) (c .before .before .fill-row .ensures))
+    let a = c .before .before .before .before .before .before .before .args in (
+      search needs,
+      c .before .before .fill-row .kept .0 ∙ c .before .before .before .before .before .loop .inv .1,
+      row-more (oneWord (a .word)) (a .width)
+          (a .tx) (a .ty) (c .before .before .before .before .before .loop .y) _ (c .before .before .before .before .before .loop .pixels) _
+          (c .before .before .before .before .loop-test .taken) (c .before .before .before .before .before .before .before .pre .2)
+          (c .before .before .before .before .before .loop .inv .2) (c .before .before .fill-row .ensures),
+    )
 
 same-length : tie.Need-same-length Inv-loop μ-loop
 same-length c = c .before .loop .inv .1
 
 returns : tie.Need-returns Inv-loop μ-loop
-returns c = c .before .loop .inv .2 ∙ all-rows (oneWord (c .before .before .before .args .word)) (c .before .before .before .args .width) (c .before .before .before .args .tx) (c .before .before .before .args .ty) (c .before .loop .y) _ (omega arith)
+returns c =
+    let s = c .before .before .before in
+    c .before .loop .inv .2 ∙ all-rows (oneWord (s .args .word)) (s .args .width) (s .args .tx) (s .args .ty) (c .before .loop .y) _ (omega arith)
 
 pub fill-tile-spec : {M : Type 1} → statement M
 fill-tile-spec =

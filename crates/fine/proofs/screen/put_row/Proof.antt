@@ -16,7 +16,8 @@ use Rattle.fine.proofs.screen.put_row.Statement.{statement}
 use Rattle.fine.proofs.screen.put_row.Tie as tie
 
 turn : (rgba : List (List Float)) (w tx ty y x : ℕ) (l₀ l : List ℕ) (v : ℕ) → y < tileHeight → tileWidth * tx + tileWidth ≤ w → x < tileWidth
-    → Done (fromList rgba w) (rowAt w tx ty y) (rowAt w tx ty y + x) l₀ l → v ≡ packOf (getD rgba (tileWidth * y + x) []) → Done (fromList rgba w) (rowAt w tx ty y) (rowAt w tx ty y + (x + 1)) l₀ (set l (rowAt w tx ty y + x) v)
+    → Done (fromList rgba w) (rowAt w tx ty y) (rowAt w tx ty y + x) l₀ l → v ≡ packOf (getD rgba (tileWidth * y + x) []) → Done (fromList rgba w)
+    (rowAt w tx ty y) (rowAt w tx ty y + (x + 1)) l₀ (set l (rowAt w tx ty y + x) v)
 turn rgba w tx ty y x l₀ l v hy hw hx done e =
     turned-at (fromList rgba w) 0 (rowAt w tx ty y) x l₀ l v done (e ∙ ap (λ (k : ℕ). packOf (getD rgba k [])) (sym (place-in-row w tx ty y hy hw x hx)))
 
@@ -76,8 +77,12 @@ loop-less c = search needs
 
 loop-again : tie.Need-loop-again Inv-loop μ-loop
 loop-again c =
-    let a = c .before .before .before .before .before .args in
-    (search needs, turn (now (a .rgba)) (a .width) (a .tx) (a .ty) (a .y) (c .before .before .before .loop .x) _ (c .before .before .before .loop .pixels) _ (c .before .before .before .before .before .pre .2) (c .before .before .before .before .before .pre .3) (c .before .before .loop-test .taken) (c .before .before .before .loop .inv .1) (c .pack .ensures))
+    let a = c .before .before .before .before .before .args in (
+      search needs,
+      turn (now (a .rgba)) (a .width) (a .tx) (a .ty) (a .y) (c .before .before .before .loop .x) _ (c .before .before .before .loop .pixels) _
+          (c .before .before .before .before .before .pre .2) (c .before .before .before .before .before .pre .3) (c .before .before .loop-test .taken)
+          (c .before .before .before .loop .inv .1) (c .pack .ensures),
+    )
 
 same-length : tie.Need-same-length Inv-loop μ-loop
 same-length c = c .before .loop .inv .1 .0

@@ -19,12 +19,24 @@ abbrev μ-loop : tie.MeasureT-loop
 μ-loop pixels₀ width tx ty rgba y₀ pixels y = tileHeight - y
 
 loop-holds : tie.Need-loop-holds Inv-loop μ-loop
-loop-holds c = (search needs, refl, no-rows (fromList (now (c .before .args .rgba)) (c .before .args .width)) (c .before .args .width) (c .before .args .tx) (c .before .args .ty) (now (c .before .args .pixels)))
+loop-holds c = (
+  search needs,
+  refl,
+  no-rows (fromList (now (c .before .args .rgba)) (c .before .args .width)) (c .before .args .width) (c .before .args .tx)
+      (c .before .args .ty) (now (c .before .args .pixels)),
+)
 
 put-row-requires : tie.Need-put-row-requires Inv-loop μ-loop
 put-row-requires c κs =
-    let a = c .before .before .before .before .args in
-    (search needs, search needs, search needs, search needs, row-room (a .width) (a .tx) (a .ty) (c .before .before .loop .y) _ (c .before .loop-test .taken) (c .before .before .before .before .pre .2) (subst (λ (n : ℕ). a .width * (tileHeight * a .ty + tileHeight) ≤ n) (sym (c .before .before .loop .inv .1)) (c .before .before .before .before .pre .3)))
+    let a = c .before .before .before .before .args in (
+      search needs,
+      search needs,
+      search needs,
+      search needs,
+      row-room (a .width) (a .tx) (a .ty) (c .before .before .loop .y) _ (c .before .loop-test .taken)
+          (c .before .before .before .before .pre .2) (subst (λ (n : ℕ). a .width * (tileHeight * a .ty + tileHeight) ≤ n)
+          (sym (c .before .before .loop .inv .1)) (c .before .before .before .before .pre .3)),
+    )
 
 add-y : tie.Need-add-y Inv-loop μ-loop
 add-y c = search needs
@@ -34,14 +46,24 @@ loop-less c = search needs
 
 loop-again : tie.Need-loop-again Inv-loop μ-loop
 loop-again c =
-    let a = c .before .before .before .before .before .before .before .args in
-    (search needs, c .before .before .put-row .kept .0 ∙ c .before .before .before .before .before .loop .inv .1, row-more (fromList (now (a .rgba)) (a .width)) (a .width) (a .tx) (a .ty) (c .before .before .before .before .before .loop .y) _ (c .before .before .before .before .before .loop .pixels) _ (c .before .before .before .before .loop-test .taken) (c .before .before .before .before .before .before .before .pre .2) (c .before .before .before .before .before .loop .inv .2) (c .before .before .put-row .ensures))
+    let a = c .before .before .before .before .before .before .before .args in (
+      search needs,
+      c .before .before .put-row .kept .0 ∙ c .before .before .before .before .before .loop .inv .1,
+      row-more
+          (fromList (now (a .rgba)) (a .width)) (a .width) (a .tx) (a .ty) (c .before .before .before .before .before .loop .y) _
+          (c .before .before .before .before .before .loop .pixels) _ (c .before .before .before .before .loop-test .taken)
+          (c .before .before .before .before .before .before .before .pre .2) (c .before .before .before .before .before .loop .inv .2)
+          (c .before .before .put-row .ensures),
+    )
 
 same-length : tie.Need-same-length Inv-loop μ-loop
 same-length c = c .before .loop .inv .1
 
 returns : tie.Need-returns Inv-loop μ-loop
-returns c = c .before .loop .inv .2 ∙ all-rows (fromList (now (c .before .before .before .args .rgba)) (c .before .before .before .args .width)) (c .before .before .before .args .width) (c .before .before .before .args .tx) (c .before .before .before .args .ty) (c .before .loop .y) _ (omega arith)
+returns c =
+    let s = c .before .before .before in
+    c .before .loop .inv .2 ∙ all-rows (fromList (now (s .args .rgba)) (s .args .width)) (s .args .width) (s .args .tx) (s .args .ty) (c .before .loop .y) _
+    (omega arith)
 
 pub put-tile-spec : {M : Type 1} → statement M
 put-tile-spec =

@@ -43,7 +43,8 @@ module _ (ws : List ℕ) (segs : List Float) (t w tx ty : ℕ) (pixels : List �
   unfolding putTile
   colours =
       ap (λ (l : List (List Float)). putTile (fromList l w) w tx ty pixels) (ap (λ (r : Ran). r .rgba) outcome)
-      ∙ mapi-cong 0 0 (λ k old. cond (inTile w tx ty k) (fromList (tabulate tileSize (colourAt ws segs t)) w k old) old) (λ k old. cond (inTile w tx ty k) (packed (colourAt ws segs t) w k old) old) pixels
+      ∙ mapi-cong 0 0 (λ k old. cond (inTile w tx ty k) (fromList (tabulate tileSize (colourAt ws segs t)) w k old) old)
+      (λ k old. cond (inTile w tx ty k) (packed (colourAt ws segs t) w k old) old) pixels
       (λ k old h. ap (λ (c : List Float). cond (inTile w tx ty k) (packOf c) old) (getD-tabulate tileSize (colourAt ws segs t) (placeOf w k) [] (place-small (k / w) (k % w))))
 
   done : (after : List ℕ) → v ≡ Fine → after ≡ putTile (fromList p w) w tx ty pixels → (Fine ≡ endsAt ws segs t) × (after ≡ tilePixels ws segs t w tx ty pixels)
@@ -83,8 +84,14 @@ returns : tie.Need-returns
 returns c =
     let a = c .before .before .before .before .before .before .before .before .before .before .before .before .args in
     let o = c .before .before .before .before .before .before .before .begin .result in
-    let e = one-colour (now (a .words)) (now (a .segments)) (a .t) (o .at) (o .count) (o .area) (c .before .before .before .before .before .before .before .begin .last .1 .1 .1 .0) (c .before .before .before .before .before .before .before .begin .ensures .1) (sym (c .before .before .before .before .before .before .ends-at .ensures) ∙ c .before .before .before .before .before .if1 .taken) in
-    done (now (a .words)) (now (a .segments)) (a .t) (a .width) (a .tx) (a .ty) (now (a .pixels)) Fine (sameColour (c .before .before .before .before .before .before .before .begin .last .1 .1 .1 .0)) noColour refl e _ refl (c .before .before .fill-tile .ensures ∙ put-one (a .width) (a .tx) (a .ty) _ (c .before .before .before .before .before .before .before .begin .last .1 .1 .1 .0) (now (a .pixels)) (c .before .before .before .pack .ensures))
+    let e = one-colour (now (a .words)) (now (a .segments)) (a .t) (o .at) (o .count) (o .area)
+    (c .before .before .before .before .before .before .before .begin .last .1 .1 .1 .0)
+    (c .before .before .before .before .before .before .before .begin .ensures .1)
+    (sym (c .before .before .before .before .before .before .ends-at .ensures) ∙ c .before .before .before .before .before .if1 .taken) in
+    done (now (a .words)) (now (a .segments)) (a .t) (a .width) (a .tx) (a .ty) (now (a .pixels)) Fine
+    (sameColour (c .before .before .before .before .before .before .before .begin .last .1 .1 .1 .0)) noColour refl e _ refl
+    (c .before .before .fill-tile .ensures ∙ put-one (a .width) (a .tx) (a .ty) _
+    (c .before .before .before .before .before .before .before .begin .last .1 .1 .1 .0) (now (a .pixels)) (c .before .before .before .pack .ensures))
 
 same-colour-requires : tie.Need-same-colour-requires
 same-colour-requires c κs = search needs
@@ -108,14 +115,22 @@ returns-2 : tie.Need-returns-2
 returns-2 c =
     let a = c .before .before .before .before .before .before .before .before .before .before .before .before .before .before .before .before .before .args in
     let o = c .before .before .before .before .before .before .before .before .before .before .before .before .begin .result in
-    let e = goes-on (now (a .words)) (now (a .segments)) (a .t) (o .at) (o .count) (o .area) (c .before .before .before .before .before .before .before .before .before .before .before .before .begin .last .1 .1 .1 .0) (c .before .before .before .before .before .before .before .before .before .before .before .before .begin .ensures .1) _ _ _ (c .before .before .before .before .before .before .before .before .before .same-colour .ensures) (c .before .before .before .before .before .before .before .run .ensures) in
-    done (now (a .words)) (now (a .segments)) (a .t) (a .width) (a .tx) (a .ty) (now (a .pixels)) _ _ noColour refl e _ (c .before .before .before .before .before .enum-told .given .1) (c .before .before .put-tile .ensures)
+    let e = goes-on (now (a .words)) (now (a .segments)) (a .t) (o .at) (o .count) (o .area)
+    (c .before .before .before .before .before .before .before .before .before .before .before .before .begin .last .1 .1 .1 .0)
+    (c .before .before .before .before .before .before .before .before .before .before .before .before .begin .ensures .1) _ _ _
+    (c .before .before .before .before .before .before .before .before .before .same-colour .ensures)
+    (c .before .before .before .before .before .before .before .run .ensures) in
+    done (now (a .words)) (now (a .segments)) (a .t) (a .width) (a .tx) (a .ty) (now (a .pixels)) _ _ noColour refl e _
+    (c .before .before .before .before .before .enum-told .given .1) (c .before .before .put-tile .ensures)
 
 returns-3 : tie.Need-returns-3
 returns-3 c =
     let a = c .before .before .before .before .before .before .before .before .before .before .before .before .before .args in
     let o = c .before .before .before .before .before .before .before .before .begin .result in
-    let e = goes-on (now (a .words)) (now (a .segments)) (a .t) (o .at) (o .count) (o .area) (c .before .before .before .before .before .before .before .before .begin .last .1 .1 .1 .0) (c .before .before .before .before .before .before .before .before .begin .ensures .1) _ _ _ (c .before .before .before .before .before .same-colour .ensures) (c .before .before .before .run .ensures) in
+    let e = goes-on (now (a .words)) (now (a .segments)) (a .t) (o .at) (o .count) (o .area)
+    (c .before .before .before .before .before .before .before .before .begin .last .1 .1 .1 .0)
+    (c .before .before .before .before .before .before .before .before .begin .ensures .1) _ _ _
+    (c .before .before .before .before .before .same-colour .ensures) (c .before .before .before .run .ensures) in
     stopped (now (a .words)) (now (a .segments)) (a .t) (a .width) (a .tx) (a .ty) (now (a .pixels)) _ _ noColour refl e _ (c .before .v .given .1)
 
 pub tile-spec : {M : Type 1} → statement M

@@ -34,7 +34,8 @@ module _ (ws : List ℕ) (segs : List Float) (w cols from to t : ℕ) (pixels₀
     go d = ap (tilesOf ws segs w cols (t + 1) to) f ∙ sym (tile-goes ws segs w cols t to pixels h (sym d ∙ e)) ∙ inv
 
 abbrev Inv-loop : tie.InvT-loop
-Inv-loop words segments width cols rows from to pixels₀ t₀ pixels t = (from ≤ t) × (t ≤ to) × (length pixels ≡ length pixels₀) × (tilesOf words segments width cols t to pixels ≡ tilesOf words segments width cols from to pixels₀)
+Inv-loop words segments width cols rows from to pixels₀ t₀ pixels t = (from ≤ t) × (t ≤ to) × (length pixels ≡ length pixels₀) ×
+    (tilesOf words segments width cols t to pixels ≡ tilesOf words segments width cols from to pixels₀)
 
 abbrev μ-loop : tie.MeasureT-loop
 μ-loop words segments width cols rows from to pixels₀ t₀ pixels t = to - t
@@ -54,7 +55,10 @@ div-ty c = some (c .before .before .before .before .before .args .cols) (c .befo
 tile-requires : tie.Need-tile-requires Inv-loop μ-loop
 tile-requires c κs =
     let a = c .before .before .before .before .before .before .args in
-    on-screen (a .width) (a .cols) (a .rows) (c .before .before .loop .t) _ (omega arith) (c .before .before .before .before .before .before .pre .2) (c .before .before .before .before .before .before .pre .3) (subst (λ (n : ℕ). a .width * (tileHeight * a .rows) ≤ n) (sym (c .before .before .loop .inv .2)) (c .before .before .before .before .before .before .pre .4))
+    on-screen (a .width) (a .cols) (a .rows) (c .before .before .loop .t) _ (omega arith) (c .before .before .before .before .before .before .pre .2)
+    (c .before .before .before .before .before .before .pre .3)
+    (subst (λ (n : ℕ). a .width * (tileHeight * a .rows) ≤ n) (sym (c .before .before .loop .inv .2))
+    (c .before .before .before .before .before .before .pre .4))
 
 enum-known-v : tie.Need-enum-known-v Inv-loop μ-loop
 enum-known-v c = search needs
@@ -65,7 +69,12 @@ same-length c = c .before .before .before .before .before .tile .kept .1 .1 .1 .
 returns : tie.Need-returns Inv-loop μ-loop
 returns c =
     let a = c .before .before .before .before .before .before .before .before .before .before .before .before .args in
-    stop (now (a .words)) (now (a .segments)) (a .width) (a .cols) (a .from) (a .to) (c .before .before .before .before .before .before .before .before .loop .t) _ (c .before .before .before .before .before .before .before .before .loop .pixels) (c .before .before .before .before .before .before .before .before .loop .inv .3) (c .before .before .before .before .before .before .before .loop-test .taken) _ _ (c .before .before .before .before .before .tile .ensures .0) (c .before .before .before .before .before .tile .ensures .1) _ (c .before .v .given .1)
+    stop (now (a .words)) (now (a .segments)) (a .width) (a .cols) (a .from) (a .to)
+    (c .before .before .before .before .before .before .before .before .loop .t) _
+    (c .before .before .before .before .before .before .before .before .loop .pixels)
+    (c .before .before .before .before .before .before .before .before .loop .inv .3)
+    (c .before .before .before .before .before .before .before .loop-test .taken) _ _ (c .before .before .before .before .before .tile .ensures .0)
+    (c .before .before .before .before .before .tile .ensures .1) _ (c .before .v .given .1)
 
 enum-told : tie.Need-enum-told Inv-loop μ-loop
 enum-told c = search needs
@@ -78,8 +87,16 @@ loop-less c = search needs
 
 loop-again : tie.Need-loop-again Inv-loop μ-loop
 loop-again c =
-    let a = c .before .before .before .before .before .before .before .before .before .before .before .args in
-    (search needs, search needs, c .before .before .before .before .tile .kept .1 .1 .1 .1 .1 .1 .0 ∙ c .before .before .before .before .before .before .before .loop .inv .2, go (now (a .words)) (now (a .segments)) (a .width) (a .cols) (a .from) (a .to) (c .before .before .before .before .before .before .before .loop .t) _ (c .before .before .before .before .before .before .before .loop .pixels) (c .before .before .before .before .before .before .before .loop .inv .3) (c .before .before .before .before .before .before .loop-test .taken) _ _ (c .before .before .before .before .tile .ensures .0) (c .before .before .before .before .tile .ensures .1) (c .enum-told .given .1))
+    let a = c .before .before .before .before .before .before .before .before .before .before .before .args in (
+      search needs,
+      search needs,
+      c .before .before .before .before .tile .kept .1 .1 .1 .1 .1 .1 .0 ∙ c .before .before .before .before .before .before .before
+          .loop .inv .2,
+      go (now (a .words)) (now (a .segments)) (a .width) (a .cols) (a .from) (a .to)
+          (c .before .before .before .before .before .before .before .loop .t) _ (c .before .before .before .before .before .before .before .loop .pixels)
+          (c .before .before .before .before .before .before .before .loop .inv .3) (c .before .before .before .before .before .before .loop-test .taken) _ _
+          (c .before .before .before .before .tile .ensures .0) (c .before .before .before .before .tile .ensures .1) (c .enum-told .given .1),
+    )
 
 same-length-2 : tie.Need-same-length-2 Inv-loop μ-loop
 same-length-2 c = c .before .loop .inv .2

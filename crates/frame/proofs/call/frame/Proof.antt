@@ -31,7 +31,10 @@ enum-known-a c = search needs
 
 returns-2 : tie.Need-returns-2
 returns-2 c =
-    frame-path _ _ _ _ _ _ _ _ (c .before .before .before .before .before .before .check-lent .result) (c .before .before .before .before .before .before .check-lent .ensures) (c .before .before .before .before .enum-told .given .1) (c .before .before .before .check-paths .result) (c .before .before .before .check-paths .ensures) _ _ (c .before .a .given .1)
+    let s = c .before .before .before .before .before .before in
+    let t = c .before .before .before in
+    frame-path _ _ _ _ _ _ _ _ (s .check-lent .result) (s .check-lent .ensures) (c .before .before .before .before .enum-told .given .1)
+    (t .check-paths .result) (t .check-paths .ensures) _ _ (c .before .a .given .1)
 
 enum-told-2 : tie.Need-enum-told-2
 enum-told-2 c = search needs
@@ -40,8 +43,13 @@ enum-told-2 c = search needs
 draw-requires : tie.Need-draw-requires
 draw-requires c κs =
     let a = c .before .before .before .before .before .before .before .before .before .before .before .before .before .before .before .before .before .before .args in
-    let fine = all-ok (lentChecks (length (a .path-nos .now)) (length (a .coords .now)) (length (a .backdrops .now)) (length (a .stored .now)) (length (a .tally .now)) (length (a .refs .now)) (length (a .segments .now))) (sym (c .before .before .before .before .before .before .before .before .before .before .check-lent .ensures) ∙ c .before .before .before .before .before .before .before .before .enum-told .given .1) in
-    (sym (c .before .before .before .before .before .before .before .check-paths .ensures) ∙ c .before .before .before .before .before .enum-told2 .given .1, eqb-true (length (a .backdrops .now)) (length (a .stored .now)) (fine .1 .1 .0))
+    let fine = all-ok (lentChecks (length (a .path-nos .now)) (length (a .coords .now)) (length (a .backdrops .now)) (length (a .stored .now))
+    (length (a .tally .now)) (length (a .refs .now)) (length (a .segments .now)))
+    (sym (c .before .before .before .before .before .before .before .before .before .before .check-lent .ensures) ∙ c .before .before .before .before
+    .before .before .before .before .enum-told .given .1) in (
+      sym (c .before .before .before .before .before .before .before .check-paths .ensures) ∙ c .before .before .before .before .before .enum-told2 .given .1,
+      eqb-true (length (a .backdrops .now)) (length (a .stored .now)) (fine .1 .1 .0),
+    )
 
 same-length : tie.Need-same-length
 same-length c = search needs
@@ -60,7 +68,14 @@ same-length-5 c = search needs
 
 returns-3 : tie.Need-returns-3
 returns-3 c =
-    frame-goes _ _ _ _ _ _ _ _ (c .before .before .before .before .before .before .before .before .before .before .before .before .before .before .before .before .before .before .before .before .check-lent .result) (c .before .before .before .before .before .before .before .before .before .before .before .before .before .before .before .before .before .before .before .before .check-lent .ensures) (c .before .before .before .before .before .before .before .before .before .before .before .before .before .before .before .before .before .before .enum-told .given .1) (c .before .before .before .before .before .before .before .before .before .before .before .before .before .before .before .before .before .check-paths .result) (c .before .before .before .before .before .before .before .before .before .before .before .before .before .before .before .before .before .check-paths .ensures) _ (c .before .before .before .before .before .before .before .before .before .before .before .before .before .before .before .enum-told2 .given .1) (c .before .before .before .before .before .before .before .before .before .draw .ensures)
+    let s = c .before .before .before .before .before .before .before .before .before .before .before .before .before .before .before .before .before .before
+    .before .before in
+    let t = c .before .before .before .before .before .before .before .before .before .before .before .before .before .before .before .before .before in
+    frame-goes _ _ _ _ _ _ _ _ (s .check-lent .result) (s .check-lent .ensures)
+    (c .before .before .before .before .before .before .before .before .before .before .before .before .before .before .before .before .before .before
+    .enum-told .given .1) (t .check-paths .result) (t .check-paths .ensures) _
+    (c .before .before .before .before .before .before .before .before .before .before .before .before .before .before .before .enum-told2 .given .1)
+    (c .before .before .before .before .before .before .before .before .before .draw .ensures)
 
 pub frame-spec : {M : Type 1} → statement M
 frame-spec =

@@ -45,7 +45,8 @@ returns-2 : tie.Need-returns-2
 returns-2 c =
     let b = c .before .before .before .before .before .before .before .before .before .before .before .before .before .before .backdrop-checked in
     let h = c .before .before .before .before .before .before .before .hand-out in
-    handed-no _ _ _ _ _ _ _ _ _ (b .result) _ (b .ensures) (c .before .before .before .before .before .before .before .before .before .before .before .enum-told .given .1) _ (c .before .before .before .before .before .before .before .before .before .before .slots-of .ensures)
+    handed-no _ _ _ _ _ _ _ _ _ (b .result) _ (b .ensures) (c .before .before .before .before .before .before .before .before .before .before .before
+    .enum-told .given .1) _ (c .before .before .before .before .before .before .before .before .before .before .slots-of .ensures)
     (h .result) _ _ (h .ensures) _ _ (c .before .handed .given .1)
 
 enum-told-2 : tie.Need-enum-told-2
@@ -53,7 +54,9 @@ enum-told-2 c = search needs
 
 -- hand-out leaves as many tiles
 tile-checked-requires : tie.Need-tile-checked-requires
-tile-checked-requires c κs = rw (c .before .before .before .before .before .before .before .stored .given) (c .before .before .before .before .before .before .before .before .before .before .before .before .before .before .before .before .before .before .before .before .before .before .before .before .pre .0)
+tile-checked-requires c κs = rw (c .before .before .before .before .before .before .before .stored .given)
+    (c .before .before .before .before .before .before .before .before .before .before .before .before .before .before .before .before .before .before .before
+    .before .before .before .before .before .pre .0)
 
 enum-known-tiled : tie.Need-enum-known-tiled
 enum-known-tiled c = search needs
@@ -72,10 +75,14 @@ same-length-8 c = search needs
 
 returns-3 : tie.Need-returns-3
 returns-3 c =
-    let b = c .before .before .before .before .before .before .before .before .before .before .before .before .before .before .before .before .before .before .before .before .before .backdrop-checked in
+    let b = c .before .before .before .before .before .before .before .before .before .before .before .before .before .before .before .before .before .before
+    .before .before .before .backdrop-checked in
     let h = c .before .before .before .before .before .before .before .before .before .before .before .before .before .before .hand-out in
     let t = c .before .before .before .before .before .tile-checked in
-    tiled-no _ _ _ _ _ _ _ _ _ (b .result) _ (b .ensures) (c .before .before .before .before .before .before .before .before .before .before .before .before .before .before .before .before .before .before .enum-told .given .1) _ (c .before .before .before .before .before .before .before .before .before .before .before .before .before .before .before .before .before .slots-of .ensures)
+    tiled-no _ _ _ _ _ _ _ _ _ (b .result) _ (b .ensures) (c .before .before .before .before .before .before .before .before .before .before .before .before
+    .before .before .before .before .before .before .enum-told .given .1) _
+    (c .before .before .before .before .before .before .before .before .before .before .before .before .before .before .before .before .before .slots-of
+    .ensures)
     (h .result) _ _ (h .ensures) (c .before .before .before .before .before .before .before .before .enum-told2 .given .1) (t .result) _ (t .ensures) _ _ (c .before .tiled .given .1)
 
 enum-told-3 : tie.Need-enum-told-3
@@ -98,7 +105,9 @@ returns-4 c =
     let b = c .before .before .before .before .before .before .before .before .before .before .before .before .before .before .before .before .before .before .before .before .backdrop-checked in
     let h = c .before .before .before .before .before .before .before .before .before .before .before .before .before .hand-out in
     let t = c .before .before .before .before .tile-checked in
-    all-done _ _ _ _ _ _ _ _ _ (b .result) _ (b .ensures) (c .before .before .before .before .before .before .before .before .before .before .before .before .before .before .before .before .before .enum-told .given .1) _ (c .before .before .before .before .before .before .before .before .before .before .before .before .before .before .before .before .slots-of .ensures)
+    all-done _ _ _ _ _ _ _ _ _ (b .result) _ (b .ensures) (c .before .before .before .before .before .before .before .before .before .before .before .before
+    .before .before .before .before .before .enum-told .given .1) _
+    (c .before .before .before .before .before .before .before .before .before .before .before .before .before .before .before .before .slots-of .ensures)
     (h .result) _ _ (h .ensures) (c .before .before .before .before .before .before .before .enum-told2 .given .1) (t .result) _ (t .ensures) (c .enum-told3 .given .1)
 
 pub place-spec : {M : Type 1} → statement M

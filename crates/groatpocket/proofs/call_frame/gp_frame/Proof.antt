@@ -36,7 +36,10 @@ same-length-5 c = search needs
 
 returns : tie.Need-returns
 returns c =
-    told-frame (c .before .before .before .before .before .before .before .before .before .before .before .before .before .frame .result) (c .before .before .before .running-of .result) _ _ _ _ _ _ _ _ _ (c .number-of .ensures) (c .before .before .stage-of .ensures) (c .before .item-of .ensures) (c .before .before .before .running-of .ensures) (c .before .before .before .before .before .before .before .before .before .before .before .before .before .frame .ensures)
+    let s = c .before .before .before .before .before .before .before .before .before .before .before .before .before in
+    let t = c .before .before .before in
+    told-frame (s .frame .result) (t .running-of .result) _ _ _ _ _ _ _ _ _ (c .number-of .ensures) (c .before .before .stage-of .ensures)
+    (c .before .item-of .ensures) (t .running-of .ensures) (s .frame .ensures)
 
 pub gp-frame-spec : {M : Type 1} → statement M
 gp-frame-spec =

@@ -45,8 +45,11 @@ loop-less c = simp length-set (omega arith)
 loop-again : tie.Need-loop-again Inv-loop μ-loop
 loop-again c =
     let a = c .before .before .before .before .before .args in
-    let l = c .before .before .before .loop in
-    (search needs, put-turn (intsAs (a .words .now) (a .base) (a .code)) (pos 0) (a .out .now) (l .out) (l .i) _ (l .inv .1) (toZ-ofZ (record { sfits = c .int .ok }) ∙ c .int .ensures ∙ ap intOf (c .before .element .ensures)))
+    let l = c .before .before .before .loop in (
+      search needs,
+      put-turn (intsAs (a .words .now) (a .base) (a .code)) (pos 0) (a .out .now) (l .out) (l .i) _ (l .inv .1)
+          (toZ-ofZ (record { sfits = c .int .ok }) ∙ c .int .ensures ∙ ap intOf (c .before .element .ensures)),
+    )
 
 same-length : tie.Need-same-length Inv-loop μ-loop
 same-length c = c .before .loop .inv .0

@@ -40,7 +40,8 @@ returns : tie.Need-returns Inv-loop μ-loop
 returns c =
     let a = c .before .before .before .before .before .before .before .before .args in
     let l = c .before .before .before .before .before .loop in
-    row-less isFloat (wordOf (a .words .now) (a .base) (a .code)) nan (a .found .now) (l .i) (c .before .before .before .before .loop-test .taken) (told (getD (a .found .now) (l .i) nan) _ _ _ _ (c .before .is-float .ensures) (c .before .before .element .ensures) (c .if1 .taken)) ∙ l .inv .1
+    row-less isFloat (wordOf (a .words .now) (a .base) (a .code)) nan (a .found .now) (l .i) (c .before .before .before .before .loop-test .taken)
+    (told (getD (a .found .now) (l .i) nan) _ _ _ _ (c .before .is-float .ensures) (c .before .before .element .ensures) (c .if1 .taken)) ∙ l .inv .1
 
 add-i : tie.Need-add-i Inv-loop μ-loop
 add-i c = search needs
@@ -51,8 +52,12 @@ loop-less c = search needs
 loop-again : tie.Need-loop-again Inv-loop μ-loop
 loop-again c =
     let a = c .before .before .before .before .before .before .before .before .args in
-    let l = c .before .before .before .before .before .loop in
-    (search needs, row-more isFloat (wordOf (a .words .now) (a .base) (a .code)) nan (a .found .now) (l .i) (c .before .before .before .before .loop-test .taken) (told (getD (a .found .now) (l .i) nan) _ _ _ _ (c .before .is-float .ensures) (c .before .before .element .ensures) (c .if1 .left)) ∙ l .inv .1)
+    let l = c .before .before .before .before .before .loop in (
+      search needs,
+      row-more isFloat (wordOf (a .words .now) (a .base) (a .code)) nan (a .found .now) (l .i)
+          (c .before .before .before .before .loop-test .taken) (told (getD (a .found .now) (l .i) nan) _ _ _ _ (c .before .is-float .ensures)
+          (c .before .before .element .ensures) (c .if1 .left)) ∙ l .inv .1,
+    )
 
 returns-2 : tie.Need-returns-2 Inv-loop μ-loop
 returns-2 c =

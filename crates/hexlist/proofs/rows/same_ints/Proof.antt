@@ -44,7 +44,9 @@ returns : tie.Need-returns Inv-loop μ-loop
 returns c =
     let a = c .before .before .before .before .before .before .before .args in
     let l = c .before .before .before .before .before .loop in
-    row-less isInt (wordOf (a .words .now) (a .base) (a .code)) (pos 0) (a .found .now) (l .i) (c .before .before .before .before .loop-test .taken) (told (getD (a .found .now) (l .i) (pos 0)) _ _ _ _ (c .before .before .before .is-int-arg .given) (c .before .is-int .ensures) (c .before .before .element .ensures) (c .if1 .taken)) ∙ l .inv .1
+    row-less isInt (wordOf (a .words .now) (a .base) (a .code)) (pos 0) (a .found .now) (l .i) (c .before .before .before .before .loop-test .taken)
+    (told (getD (a .found .now) (l .i) (pos 0)) _ _ _ _ (c .before .before .before .is-int-arg .given) (c .before .is-int .ensures)
+    (c .before .before .element .ensures) (c .if1 .taken)) ∙ l .inv .1
 
 add-i : tie.Need-add-i Inv-loop μ-loop
 add-i c = search needs
@@ -55,8 +57,12 @@ loop-less c = search needs
 loop-again : tie.Need-loop-again Inv-loop μ-loop
 loop-again c =
     let a = c .before .before .before .before .before .before .before .args in
-    let l = c .before .before .before .before .before .loop in
-    (search needs, row-more isInt (wordOf (a .words .now) (a .base) (a .code)) (pos 0) (a .found .now) (l .i) (c .before .before .before .before .loop-test .taken) (told (getD (a .found .now) (l .i) (pos 0)) _ _ _ _ (c .before .before .before .is-int-arg .given) (c .before .is-int .ensures) (c .before .before .element .ensures) (c .if1 .left)) ∙ l .inv .1)
+    let l = c .before .before .before .before .before .loop in (
+      search needs,
+      row-more isInt (wordOf (a .words .now) (a .base) (a .code)) (pos 0) (a .found .now) (l .i)
+          (c .before .before .before .before .loop-test .taken) (told (getD (a .found .now) (l .i) (pos 0)) _ _ _ _
+          (c .before .before .before .is-int-arg .given) (c .before .is-int .ensures) (c .before .before .element .ensures) (c .if1 .left)) ∙ l .inv .1,
+    )
 
 returns-2 : tie.Need-returns-2 Inv-loop μ-loop
 returns-2 c =

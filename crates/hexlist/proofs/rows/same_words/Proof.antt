@@ -32,7 +32,8 @@ returns : tie.Need-returns Inv-loop μ-loop
 returns c =
     let a = c .before .before .before .before .before .before .before .args in
     let l = c .before .before .before .before .loop in
-    row-less eqb (wordOf (a .words .now) (a .base) (a .code)) 0 (a .found .now) (l .i) (c .before .before .before .loop-test .taken) (ne-eqb _ _ (λ e. c .if1 .taken (e ∙ sym (c .before .element .ensures)))) ∙ l .inv .1
+    row-less eqb (wordOf (a .words .now) (a .base) (a .code)) 0 (a .found .now) (l .i) (c .before .before .before .loop-test .taken)
+    (ne-eqb _ _ (λ e. c .if1 .taken (e ∙ sym (c .before .element .ensures)))) ∙ l .inv .1
 
 add-i : tie.Need-add-i Inv-loop μ-loop
 add-i c = search needs
@@ -43,8 +44,11 @@ loop-less c = search needs
 loop-again : tie.Need-loop-again Inv-loop μ-loop
 loop-again c =
     let a = c .before .before .before .before .before .before .before .args in
-    let l = c .before .before .before .before .loop in
-    (search needs, row-more eqb (wordOf (a .words .now) (a .base) (a .code)) 0 (a .found .now) (l .i) (c .before .before .before .loop-test .taken) (eq-eqb _ _ (c .if1 .left ∙ c .before .element .ensures)) ∙ l .inv .1)
+    let l = c .before .before .before .before .loop in (
+      search needs,
+      row-more eqb (wordOf (a .words .now) (a .base) (a .code)) 0 (a .found .now) (l .i) (c .before .before .before .loop-test .taken)
+          (eq-eqb _ _ (c .if1 .left ∙ c .before .element .ensures)) ∙ l .inv .1,
+    )
 
 returns-2 : tie.Need-returns-2 Inv-loop μ-loop
 returns-2 c =

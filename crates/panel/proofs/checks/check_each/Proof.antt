@@ -39,7 +39,8 @@ enum-told c = search needs
 
 end-of-requires : tie.Need-end-of-requires Inv-loop μ-loop
 end-of-requires c κs =
-    let f = path-fine (c .before .before .before .path-at .result) (c .before .before .before .before .before .loop .end) (c .before .before .before .before .before .before .before .args .tiles) (sym (c .before .before .check-path .ensures) ∙ c .enum-told .given .1) in
+    let f = path-fine (c .before .before .before .path-at .result) (c .before .before .before .before .before .loop .end)
+    (c .before .before .before .before .before .before .before .args .tiles) (sym (c .before .before .check-path .ensures) ∙ c .enum-told .given .1) in
     (f .0 .across, f .0 .down)
 
 add-k : tie.Need-add-k Inv-loop μ-loop

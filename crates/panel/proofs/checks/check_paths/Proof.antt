@@ -25,7 +25,14 @@ enum-told c = search needs
 
 cast-check-each : tie.Need-cast-check-each
 cast-check-each c =
-    record { fits = omega (arith, lent-few (length (c .before .before .before .before .args .paths .now)) (c .before .before .before .before .args .tiles) (sym (c .before .before .check-lent .ensures) ∙ c .enum-told .given .1)) }
+    let s = c .before .before .before .before in
+    record {
+      fits = omega (
+        arith,
+        lent-few (length (s .args .paths .now)) (s .args .tiles)
+            (sym (c .before .before .check-lent .ensures) ∙ c .enum-told .given .1),
+      );
+    }
 
 check-each-requires : tie.Need-check-each-requires
 check-each-requires c κs = search needs

@@ -31,7 +31,9 @@ returns-2 : tie.Need-returns-2
 returns-2 c =
     let a = c .before .before .before .before .before .before .before .before .before .before .before .before .args in
     call-path (a .running) (a .end) (a .path-nos .now) (a .coords .now) (a .paths .now) (a .backdrops .now) (a .counts .now) (a .refs .now)
-    (c .before .before .before .before .before .before .check-lent .result) (c .before .before .before .before .before .before .check-lent .ensures) (c .before .before .before .before .enum-told .given .1) (c .before .before .before .check-paths .result) (c .before .before .before .check-paths .ensures) _ _ (c .before .a .given .1)
+    (c .before .before .before .before .before .before .check-lent .result) (c .before .before .before .before .before .before .check-lent .ensures)
+    (c .before .before .before .before .enum-told .given .1) (c .before .before .before .check-paths .result)
+    (c .before .before .before .check-paths .ensures) _ _ (c .before .a .given .1)
 
 enum-told-2 : tie.Need-enum-told-2
 enum-told-2 c = search needs

@@ -43,7 +43,11 @@ returns-2 : tie.Need-returns-2
 returns-2 c =
     let a = c .before .before .before .before .before .before .before .before .before .before .before .before .before .before .before .before .before .args in
     call-goes (a .running) (a .end) (a .path-nos .now) (a .coords .now) (a .paths .now) (a .backdrops .now) (a .counts .now) (a .refs .now)
-    (c .before .before .before .before .before .before .before .before .before .before .before .check-lent .result) (c .before .before .before .before .before .before .before .before .before .before .before .check-lent .ensures) (c .before .before .before .before .before .before .before .before .before .enum-told .given .1) _ refl _ (c .before .before .before .before .before .before .before .before .before .before .before .before .before .before .before .before .before .pre) (c .before .before .before .before .before .count-batch .ensures)
+    (c .before .before .before .before .before .before .before .before .before .before .before .check-lent .result)
+    (c .before .before .before .before .before .before .before .before .before .before .before .check-lent .ensures)
+    (c .before .before .before .before .before .before .before .before .before .enum-told .given .1) _ refl _
+    (c .before .before .before .before .before .before .before .before .before .before .before .before .before .before .before .before .before .pre)
+    (c .before .before .before .before .before .count-batch .ensures)
 
 pub count-checked-spec : {M : Type 1} → statement M
 count-checked-spec =

@@ -1,4 +1,5 @@
--- `path_count::checks::note_steps` meets its contract. The invariant: what is left to check says what all says, the z carried is that of the step before, and the words noted so far are those of the steps so far.
+-- `path_count::checks::note_steps` meets its contract. The invariant: what is left to check says what all says, the z carried is that of the step
+-- before, and the words noted so far are those of the steps so far.
 -- Assumes nothing.
 use mathlib.Core.Path.{_≡_, refl, sym, ap, _∙_, subst}
 use Prim.Native.Nat.{ℕ, _≤_, _<_, _-_, _+_}

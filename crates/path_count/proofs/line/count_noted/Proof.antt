@@ -30,7 +30,8 @@ use Rattle.walk.proofs.setup.walk_at.Reads as walk-at-reads
 returns : tie.Need-returns
 returns c =
     let the-before = c .before .before .before .before .before .before .before .before in
-    let s = the-before in line-over (s .args .path-nos .now) (s .args .coords .now) (s .args .paths .now) (length (s .args .refs .now) / refWords) (s .args .line .0) (s .args .place) _ (c .if1 .taken)
+    let s = the-before in line-over (s .args .path-nos .now) (s .args .coords .now) (s .args .paths .now) (length (s .args .refs .now) / refWords)
+    (s .args .line .0) (s .args .place) _ (c .if1 .taken)
 
 walk-at-requires : tie.Need-walk-at-requires
 walk-at-requires c κs = search needs

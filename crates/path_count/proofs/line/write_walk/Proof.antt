@@ -42,7 +42,8 @@ acts : (c : tie.After-noted-to) →
     let s = c .before .before .before .before in let m = c .noted-to .result in stepsActs (hitAt (s .args .pace) (s .args .path)) (m - s .args .imin) (s .args .imin) ≡ stepsActs
     (hitsBy (s .args .notes .now) (s .args .imin)) (m - s .args .imin) (s .args .imin)
 acts c =
-    let s = c .before .before .before .before in notes-acts (hitAt (s .args .pace) (s .args .path)) (s .args .imin) (c .noted-to .result) (s .args .notes .now) (length (s .args .backs .now)) (notes c)
+    let s = c .before .before .before .before in notes-acts (hitAt (s .args .pace) (s .args .path)) (s .args .imin) (c .noted-to .result) (s .args .notes .now)
+    (length (s .args .backs .now)) (notes c)
 
 -- and so all of them are those by the words, then the rest
 halves : (c : tie.After-noted-to) →

@@ -45,7 +45,9 @@ same-length-3 c = search needs
 returns : tie.Need-returns
 returns c =
     let s = c .before .before .before .before .before .before .before .before .before .before .before .before in
-    write-hit _ _ (hitBy (s .args .word)) _ _ _ _ _ (s .pre .5) (s .args .word / 2) (eqb (s .args .word % 2) 1) refl _ _ _ (c .before .before .before .before .before .before .before .visit .ensures .0) (c .before .before .before .before .before .before .before .visit .ensures .1) (c .before .mark-if .ensures)
+    write-hit _ _ (hitBy (s .args .word)) _ _ _ _ _ (s .pre .5) (s .args .word / 2) (eqb (s .args .word % 2) 1) refl _ _ _
+    (c .before .before .before .before .before .before .before .visit .ensures .0)
+    (c .before .before .before .before .before .before .before .visit .ensures .1) (c .before .mark-if .ensures)
 
 pub write-noted-spec : {M : Type 1} → statement M
 write-noted-spec =

@@ -25,7 +25,8 @@ add-slot c = omega (arith, c .flipped .ensures, ltb-false (c .before .before .be
 returns-2 : tie.Need-returns-2
 unfolding wordTo
 returns-2 c =
-    let over : c .before .before .before .before .args .slots < slotOf (c .before .before .before .before .args .word) (c .before .before .before .before .args .slice) + 1 = omega (arith, c .before .flipped .ensures) in
+    let s = c .before .before .before .before in
+    let over : s .args .slots < slotOf (s .args .word) (s .args .slice) + 1 = omega (arith, c .before .flipped .ensures) in
     rw (sym (c .before .before .before .skips .ensures) ∙ c .before .before .if1 .left, lt-ltb _ _ over)
 
 piece-of-requires : tie.Need-piece-of-requires
@@ -37,8 +38,15 @@ look-piece-requires c κs = search needs
 returns-3 : tie.Need-returns-3
 unfolding wordTo
 returns-3 c =
-    let room : slotOf (c .before .before .before .before .before .before .args .word) (c .before .before .before .before .before .before .args .slice) + 1 ≤ c .before .before .before .before .before .before .args .slots = omega (arith, c .before .before .before .flipped .ensures) in
-    rw (sym (c .before .before .before .before .before .skips .ensures) ∙ c .before .before .before .before .if1 .left, le-ltb _ _ room, c .look-piece .ensures, c .before .piece-of .ensures, c .before .before .before .flipped .ensures)
+    let s = c .before .before .before .before .before .before in
+    let room : slotOf (s .args .word) (s .args .slice) + 1 ≤ s .args .slots = omega (arith, c .before .before .before .flipped .ensures) in
+    rw (
+      sym (c .before .before .before .before .before .skips .ensures) ∙ c .before .before .before .before .if1 .left,
+      le-ltb _ _ room,
+      c .look-piece .ensures,
+      c .before .piece-of .ensures,
+      c .before .before .before .flipped .ensures,
+    )
 
 pub look-word-spec : {M : Type 1} → statement M
 look-word-spec =

@@ -93,7 +93,8 @@ returns-2 c =
     let a = c .before .before .before .before .before .before .before .before .before .before .args in
     let l = c .before .before .before .before .before .before .loop in
     over (now (a .words)) (now (a .segments)) (a .t) (placeAt (a .column) (a .row)) (l .p) (l .at) (l .count) (l .inv .1) _ _ refl
-    (trace-end (now (a .words)) (now (a .segments)) (l .at) _ (sym (c .before .before .before .before .before .peek-from .ensures) ∙ c .before .before .before .tag .given .1) _ (c .before .if1 .taken))
+    (trace-end (now (a .words)) (now (a .segments)) (l .at) _ (sym (c .before .before .before .before .before .peek-from .ensures) ∙ c .before .before .before
+    .tag .given .1) _ (c .before .if1 .taken))
     (c .pack .ensures)
 
 returns-3 : tie.Need-returns-3 Inv-loop μ-loop

@@ -17,10 +17,14 @@ z-at-requires : tie.Need-z-at-requires
 z-at-requires c κs = search needs
 
 -- the column and the row that passed
-told : (c : tie.Then1) → let s = c .before .before .before .before .before .before .before .before .before .before in let z = c .before .before .before .before .before .before .before .before .z-at .result in Passed (s .args .b) (xAt (s .args .p) z) (yAt (s .args .p) (s .args .i) z) z
+told : (c : tie.Then1) → let s = c .before .before .before .before .before .before .before .before .before .before in
+    let z = c .before .before .before .before .before .before .before .before .z-at .result in Passed (s .args .b) (xAt (s .args .p) z)
+    (yAt (s .args .p) (s .args .i) z) z
 told c =
     let s = c .before .before .before .before .before .before .before .before .before .before in
-    step-passed (s .args .p) (s .pre .2) (s .args .b) (s .pre .0) (s .args .i) (s .pre .1) (s .args .g) (s .pre .3) (c .before .before .before .before .before .before .before .before .z-at .result) (c .before .before .before .before .before .before .before .before .z-at .ensures) (c .if1 .taken)
+    step-passed (s .args .p) (s .pre .2) (s .args .b) (s .pre .0) (s .args .i) (s .pre .1) (s .args .g) (s .pre .3)
+    (c .before .before .before .before .before .before .before .before .z-at .result)
+    (c .before .before .before .before .before .before .before .before .z-at .ensures) (c .if1 .taken)
 
 float-to-int-col : tie.Need-float-to-int-col
 float-to-int-col c = told (c .before) .col-can
@@ -58,7 +62,8 @@ returns-2 c =
     let s = c .before .before .before .before .before .before .before .before .before .before in
     let z = c .before .before .before .before .before .before .before .before .z-at .result in
     let e = c .before .before .before .before .before .before .before .before .z-at .ensures in
-    tile-no (s .args .b) (toSigned 31 (xAt (s .args .p) z)) (toSigned 31 (yAt (s .args .p) (s .args .i) z)) z (step-failed (s .args .p) (s .pre .2) (s .args .b) (s .pre .0) (s .args .i) (s .pre .1) (s .args .g) (s .pre .3) z e (c .if1 .left))
+    tile-no (s .args .b) (toSigned 31 (xAt (s .args .p) z)) (toSigned 31 (yAt (s .args .p) (s .args .i) z)) z
+    (step-failed (s .args .p) (s .pre .2) (s .args .b) (s .pre .0) (s .args .i) (s .pre .1) (s .args .g) (s .pre .3) z e (c .if1 .left))
     ∙ step-is (s .args .p) (s .pre .2) (s .args .b) (s .pre .0) (s .args .i) (s .pre .1) (s .args .g) (s .pre .3) z e
 
 pub step-by-spec : {M : Type 1} → statement M

@@ -40,7 +40,9 @@ floor-near-requires-3 c κs =
     rw (c .pick3 .ensures) (near-turned _ (near-pick (lt (s .args .e .s0 .x) (s .args .e .s1 .x)) (s .args .e .s0 .x) (s .args .e .s1 .x) (s .pre .0 .in-x) (s .pre .1 .in-x)))
 
 -- the four edges, as they were taken
-around : (c : tie.After-floor-near3) → let f = c .before .before .before .before in let b = f .before .before .before .before in let s = b .before .before .before .before .before .before in Around (s .args .e .s0) (s .args .e .s1) (f .floor-near2 .result) (neg (c .floor-near3 .result)) (s .args .top) (neg (b .floor-near .result))
+around : (c : tie.After-floor-near3) → let f = c .before .before .before .before in let b = f .before .before .before .before in
+    let s = b .before .before .before .before .before .before in Around (s .args .e .s0) (s .args .e .s1) (f .floor-near2 .result)
+    (neg (c .floor-near3 .result)) (s .args .top) (neg (b .floor-near .result))
 around c =
     let f = c .before .before .before .before in
     let b = f .before .before .before .before in
@@ -64,7 +66,8 @@ incline-requires c κs = around (c .before)
 start-requires : tie.Need-start-requires
 start-requires c κs = search needs
 
-counted : (c : tie.After-count-steps) → let s = c .before .before .before .before .before .before .before .before .before .before .before .before .before .before .before in c .count-steps .result ≡ countsOf (s .args .e .s0) (s .args .e .s1)
+counted : (c : tie.After-count-steps) → let s = c .before .before .before .before .before .before .before .before .before .before .before .before .before
+    .before .before in c .count-steps .result ≡ countsOf (s .args .e .s0) (s .args .e .s1)
 counted c = c .count-steps .ensures ∙ counts-are _ _ (around (c .before))
 
 rise-requires : tie.Need-rise-requires

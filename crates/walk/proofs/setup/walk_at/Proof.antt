@@ -14,7 +14,9 @@ reached-requires c κs = search needs
 
 returns : tie.Need-returns
 returns c =
-    far-off (now (c .before .before .before .before .before .before .before .before .args .path-nos)) (now (c .before .before .before .before .before .before .before .before .args .coords)) (now (c .before .before .before .before .before .before .before .before .args .paths)) (c .before .before .before .before .before .before .before .before .args .line-no) (c .before .before .before .before .line-at .result) (c .before .before .before .before .line-at .ensures)
+    let s = c .before .before .before .before .before .before .before .before in
+    let t = c .before .before .before .before in
+    far-off (now (s .args .path-nos)) (now (s .args .coords)) (now (s .args .paths)) (s .args .line-no) (t .line-at .result) (t .line-at .ensures)
     (cc (turned-on (c .before .reached .result) (c .if1 .taken)))
 
 mul-path-no : tie.Need-mul-path-no
@@ -28,7 +30,9 @@ cast-if2 c = omega (arith, c .shared-slice-known4 .given (c .before .before .bef
 
 returns-2 : tie.Need-returns-2
 returns-2 c =
-    no-path (now (c .before .before .before .before .before .before .before .before .before .before .args .path-nos)) (now (c .before .before .before .before .before .before .before .before .before .before .args .coords)) (now (c .before .before .before .before .before .before .before .before .before .before .args .paths)) (c .before .before .before .before .before .before .before .before .before .before .args .line-no) (c .before .before .before .before .before .before .line-at .result) (c .before .before .before .before .before .before .line-at .ensures)
+    let s = c .before .before .before .before .before .before .before .before .before .before in
+    let t = c .before .before .before .before .before .before in
+    no-path (now (s .args .path-nos)) (now (s .args .coords)) (now (s .args .paths)) (s .args .line-no) (t .line-at .result) (t .line-at .ensures)
     (cc (turned-off (c .before .before .before .reached .result) (c .before .before .if1 .left)))
     (c .if2 .taken)
 
@@ -40,7 +44,9 @@ walk-on-requires c κs = cc (turned-off (c .before .before .before .before .reac
 
 returns-3 : tie.Need-returns-3
 returns-3 c =
-    goes (now (c .before .before .before .before .before .before .before .before .before .before .before .before .args .path-nos)) (now (c .before .before .before .before .before .before .before .before .before .before .before .before .args .coords)) (now (c .before .before .before .before .before .before .before .before .before .before .before .before .args .paths)) (c .before .before .before .before .before .before .before .before .before .before .before .before .args .line-no) (c .before .before .before .before .before .before .before .before .line-at .result) (c .before .before .before .before .before .before .before .before .line-at .ensures)
+    let s = c .before .before .before .before .before .before .before .before .before .before .before .before in
+    let t = c .before .before .before .before .before .before .before .before in
+    goes (now (s .args .path-nos)) (now (s .args .coords)) (now (s .args .paths)) (s .args .line-no) (t .line-at .result) (t .line-at .ensures)
     (c .walk-on .result)
     (cc (turned-off (c .before .before .before .before .before .reached .result) (c .before .before .before .before .if1 .left)))
     (c .before .before .if2 .left)

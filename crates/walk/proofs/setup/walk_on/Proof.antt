@@ -49,7 +49,9 @@ returns-2 : tie.Need-returns-2
 returns-2 c =
     let o = c .before .before .before .before .before .before .before in
     let s = o .before in
-    walks (s .args .p0) (s .args .p1) (s .args .b) (c .setup .result) (rw (c .before .before .before .flat .ensures, c .before .before .past .ensures, o .order .ensures) at (c .before .if1 .left)) (rw (o .order .ensures) at (c .setup .ensures))
+    walks (s .args .p0) (s .args .p1) (s .args .b) (c .setup .result)
+    (rw (c .before .before .before .flat .ensures, c .before .before .past .ensures, o .order .ensures) at (c .before .if1 .left))
+    (rw (o .order .ensures) at (c .setup .ensures))
 
 pub walk-on-spec : {M : Type 1} → statement M
 walk-on-spec = tie.close (tie.spec order-requires floor-near-requires flat-requires past-requires returns setup-requires returns-2)

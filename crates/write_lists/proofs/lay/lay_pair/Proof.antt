@@ -42,9 +42,13 @@ add-t13 c =
     let a = c .before .before .before .before .before .before .before .before .before .before .before .args in
     let n = length (a .words .now) in
     let r : Room (a .pen) (a .pair ∷ []) n = c .before .before .before .before .before .before .before .before .before .before .before .pre .0 in
-    let ok : c .before .before .before .before .before .before .before .before .before .fits2 .result ≡ fits (a .pair) (a .pen .left) = c .before .before .before .before .before .before .before .before .before .fits2 .ensures in
-    let to : c .before .before .before .before .before .before .turn .result ≡ turned (c .before .before .before .before .before .before .before .before .before .fits2 .result) (a .pen) = c .before .before .before .before .before .before .turn .ensures .0 in
-    let size : c .before .before .before .before .before .before .before .before .pair-size .result ≡ pairSize (a .pair) = c .before .before .before .before .before .before .before .before .pair-size .ensures in
+    let ok : c .before .before .before .before .before .before .before .before .before .fits2 .result ≡ fits (a .pair)
+    (a .pen .left) = c .before .before .before .before .before .before .before .before .before .fits2 .ensures in
+    let to : c .before .before .before .before .before .before .turn .result ≡ turned
+    (c .before .before .before .before .before .before .before .before .before .fits2 .result)
+    (a .pen) = c .before .before .before .before .before .before .turn .ensures .0 in
+    let size : c .before .before .before .before .before .before .before .before .pair-size .result ≡ pairSize
+    (a .pair) = c .before .before .before .before .before .before .before .before .pair-size .ensures in
     let h = pair-there (a .pair) (a .pen) n r (c .before .before .before .before .before .before .before .before .before .fits2 .result) ok in
     let k : c .before .before .before .before .before .before .turn .result .at + c .before .before .before .before .before .before .before .before .pair-size .result ≤ n = rw (to, size) h in
     search needs
@@ -54,9 +58,13 @@ sub-t14 c =
     let a = c .before .before .before .before .before .before .before .before .before .before .before .before .args in
     let n = length (a .words .now) in
     let r : Room (a .pen) (a .pair ∷ []) n = c .before .before .before .before .before .before .before .before .before .before .before .before .pre .0 in
-    let ok : c .before .before .before .before .before .before .before .before .before .before .fits2 .result ≡ fits (a .pair) (a .pen .left) = c .before .before .before .before .before .before .before .before .before .before .fits2 .ensures in
-    let to : c .before .before .before .before .before .before .before .turn .result ≡ turned (c .before .before .before .before .before .before .before .before .before .before .fits2 .result) (a .pen) = c .before .before .before .before .before .before .before .turn .ensures .0 in
-    let size : c .before .before .before .before .before .before .before .before .before .pair-size .result ≡ pairSize (a .pair) = c .before .before .before .before .before .before .before .before .before .pair-size .ensures in
+    let ok : c .before .before .before .before .before .before .before .before .before .before .fits2 .result ≡ fits (a .pair)
+    (a .pen .left) = c .before .before .before .before .before .before .before .before .before .before .fits2 .ensures in
+    let to : c .before .before .before .before .before .before .before .turn .result ≡ turned
+    (c .before .before .before .before .before .before .before .before .before .before .fits2 .result)
+    (a .pen) = c .before .before .before .before .before .before .before .turn .ensures .0 in
+    let size : c .before .before .before .before .before .before .before .before .before .pair-size .result ≡ pairSize
+    (a .pair) = c .before .before .before .before .before .before .before .before .before .pair-size .ensures in
     rw (to, size) (pair-left (a .pair) (a .pen) n r (c .before .before .before .before .before .before .before .before .before .before .fits2 .result) ok)
 
 same-length : tie.Need-same-length
@@ -67,10 +75,18 @@ returns c =
     let a = c .before .before .before .before .before .before .before .before .before .before .before .before .args in
     let n = length (a .words .now) in
     let r : Room (a .pen) (a .pair ∷ []) n = c .before .before .before .before .before .before .before .before .before .before .before .before .pre .0 in
-    let ok : c .before .before .before .before .before .before .before .before .before .before .fits2 .result ≡ fits (a .pair) (a .pen .left) = c .before .before .before .before .before .before .before .before .before .before .fits2 .ensures in
-    let to : c .before .before .before .before .before .before .before .turn .result ≡ turned (c .before .before .before .before .before .before .before .before .before .before .fits2 .result) (a .pen) = c .before .before .before .before .before .before .before .turn .ensures .0 in
-    let size : c .before .before .before .before .before .before .before .before .before .pair-size .result ≡ pairSize (a .pair) = c .before .before .before .before .before .before .before .before .before .pair-size .ensures in
-    pair-laid (a .pair) (a .pen) (c .before .before .before .before .before .before .before .turn .result) (a .words .now) (c .before .before .before .before .before .before .before .turn .last .0) (c .before .before .before .put-pair .last .0) (c .before .before .before .before .before .before .before .before .before .before .fits2 .result) (c .before .before .before .before .before .before .before .before .before .pair-size .result) ok size to (c .before .before .before .before .before .before .before .turn .ensures .1) (c .before .before .before .put-pair .ensures)
+    let ok : c .before .before .before .before .before .before .before .before .before .before .fits2 .result ≡ fits (a .pair)
+    (a .pen .left) = c .before .before .before .before .before .before .before .before .before .before .fits2 .ensures in
+    let to : c .before .before .before .before .before .before .before .turn .result ≡ turned
+    (c .before .before .before .before .before .before .before .before .before .before .fits2 .result)
+    (a .pen) = c .before .before .before .before .before .before .before .turn .ensures .0 in
+    let size : c .before .before .before .before .before .before .before .before .before .pair-size .result ≡ pairSize
+    (a .pair) = c .before .before .before .before .before .before .before .before .before .pair-size .ensures in
+    pair-laid (a .pair) (a .pen) (c .before .before .before .before .before .before .before .turn .result) (a .words .now)
+    (c .before .before .before .before .before .before .before .turn .last .0) (c .before .before .before .put-pair .last .0)
+    (c .before .before .before .before .before .before .before .before .before .before .fits2 .result)
+    (c .before .before .before .before .before .before .before .before .before .pair-size .result) ok size to
+    (c .before .before .before .before .before .before .before .turn .ensures .1) (c .before .before .before .put-pair .ensures)
 
 pub lay-pair-spec : {M : Type 1} → statement M
 lay-pair-spec =

@@ -51,8 +51,11 @@ loop-holds c =
     let y = a .t / a .cols in
     let all = tilePairs s (a .cols) (a .t) in
     let start = lays-start all (penOf (a .t) (a .fresh)) (a .words .now) (c .before .before .before .before .before .before .pre .6) (c .before .before .before .before .before .before .pre .7) in
-    let none : a .n - a .n ≡ 0 = omega arith in
-    (omega arith, rw none (subst (λ (ps : List Pair). Lays ps (penOf (a .t) (a .fresh)) (a .words .now) all (penOf (a .t) (a .fresh)) (a .words .now)) (sym (c .before .before .before .before .before .before .pre .5 .all)) start))
+    let none : a .n - a .n ≡ 0 = omega arith in (
+      omega arith,
+      rw none (subst (λ (ps : List Pair). Lays ps (penOf (a .t) (a .fresh)) (a .words .now) all (penOf (a .t) (a .fresh)) (a .words .now))
+          (sym (c .before .before .before .before .before .before .pre .5 .all)) start),
+    )
 
 sub-p : tie.Need-sub-p Inv-loop μ-loop
 sub-p c = omega (arith, c .before .loop .inv .0, c .loop-test .taken)
@@ -61,15 +64,25 @@ mul-on-path : tie.Need-mul-on-path Inv-loop μ-loop
 mul-on-path c = search needs
 
 shared-slice-read-on-path : tie.Need-shared-slice-read-on-path Inv-loop μ-loop
-shared-slice-read-on-path c = omega (arith, c .before .before .loop .inv .0, c .before .loop-test .taken, c .before .before .before .before .before .before .before .before .before .pre .3, c .before .before .before .before .before .before .before .before .before .pre .4)
+shared-slice-read-on-path c =
+    let s = c .before .before .before .before .before .before .before .before .before in
+    omega (arith, c .before .before .loop .inv .0, c .before .loop-test .taken, s .pre .3, s .pre .4)
 
 on-path-requires : tie.Need-on-path-requires Inv-loop μ-loop
 on-path-requires c κs =
     let a = c .before .before .before .before .before .before .before .before .before .args in
     let s = tables (a .paths .now) (a .paints .now) (a .backdrops .now) (a .stored .now) (a .tally .now) in
     let l = c .before .before .loop in
-    let h : a .n - l .ahead < a .n = omega (arith, l .inv .0, c .before .loop-test .taken) in
-    (c .before .before .before .before .before .before .before .before .before .pre .0, list-there (a .near .now) (a .n) (a .n - l .ahead) (omega (arith, c .before .before .before .before .before .before .before .before .before .pre .3, c .before .before .before .before .before .before .before .before .before .pre .4)) (pathCount (s .paths)) (c .before .before .before .before .before .before .before .before .before .pre .5 .there) h)
+    let h : a .n - l .ahead < a .n = omega (arith, l .inv .0, c .before .loop-test .taken) in (
+      c .before .before .before .before .before .before .before .before .before .pre .0,
+      list-there (a .near .now) (a .n) (a .n - l .ahead)
+          (omega (
+            arith,
+            c .before .before .before .before .before .before .before .before .before .pre .3,
+            c .before .before .before .before .before .before .before .before .before .pre .4,
+          )) (pathCount (s .paths))
+          (c .before .before .before .before .before .before .before .before .before .pre .5 .there) h,
+    )
 
 lay-put-requires : tie.Need-lay-put-requires Inv-loop μ-loop
 lay-put-requires c κs =
@@ -80,7 +93,15 @@ lay-put-requires c κs =
     let l = c .before .before .before .before .loop in
     let put = c .before .on-path .result in
     let rest = pairsOf s x y (drop (a .n - (l .ahead - 1)) (take (a .n) (a .near .now))) in
-    let e = pairs-next s x y (getD (a .near .now) (a .n - l .ahead) 0) (drop (a .n - (l .ahead - 1)) (take (a .n) (a .near .now))) (drop (a .n - l .ahead) (take (a .n) (a .near .now))) (putList put) (list-ahead (a .near .now) (a .n) (l .ahead) (omega (arith, c .before .before .before .before .before .before .before .before .before .before .before .pre .3, c .before .before .before .before .before .before .before .before .before .before .before .pre .4)) (c .before .before .before .loop-test .taken) (l .inv .0)) (c .before .on-path .ensures) in
+    let e = pairs-next s x y (getD (a .near .now) (a .n - l .ahead) 0) (drop (a .n - (l .ahead - 1)) (take (a .n) (a .near .now)))
+    (drop (a .n - l .ahead) (take (a .n) (a .near .now))) (putList put)
+    (list-ahead (a .near .now) (a .n) (l .ahead) (omega (
+      arith,
+      c .before .before .before .before .before .before .before .before .before .before .before
+          .pre .3,
+      c .before .before .before .before .before .before .before .before .before .before .before .pre .4,
+    ))
+    (c .before .before .before .loop-test .taken) (l .inv .0)) (c .before .on-path .ensures) in
     let i = l .inv .1 in
     let r = subst (λ (ps : List Pair). Room (l .pen) ps (length (a .words .now))) e (i .room) in
     let f = subst (λ (ps : List Pair). allFit mostSlots ps ≡ true) e (i .slots) in
@@ -102,10 +123,19 @@ loop-again c =
     let put = c .before .before .before .before .on-path .result in
     let rest = pairsOf s x y (drop (a .n - (l .ahead - 1)) (take (a .n) (a .near .now))) in
     let all = tilePairs s (a .cols) (a .t) in
-    let e = pairs-next s x y (getD (a .near .now) (a .n - l .ahead) 0) (drop (a .n - (l .ahead - 1)) (take (a .n) (a .near .now))) (drop (a .n - l .ahead) (take (a .n) (a .near .now))) (putList put) (list-ahead (a .near .now) (a .n) (l .ahead) (omega (arith, c .before .before .before .before .before .before .before .before .before .before .before .before .before .before .pre .3, c .before .before .before .before .before .before .before .before .before .before .before .before .before .before .pre .4)) (c .before .before .before .before .before .before .loop-test .taken) (l .inv .0)) (c .before .before .before .before .on-path .ensures) in
+    let e = pairs-next s x y (getD (a .near .now) (a .n - l .ahead) 0) (drop (a .n - (l .ahead - 1)) (take (a .n) (a .near .now)))
+    (drop (a .n - l .ahead) (take (a .n) (a .near .now))) (putList put)
+    (list-ahead (a .near .now) (a .n) (l .ahead) (omega (
+      arith,
+      c .before .before .before .before .before .before .before .before .before .before .before
+          .before .before .before .pre .3,
+      c .before .before .before .before .before .before .before .before .before .before .before .before .before .before .pre
+          .4,
+    )) (c .before .before .before .before .before .before .loop-test .taken) (l .inv .0)) (c .before .before .before .before .on-path .ensures) in
     let i = subst (λ (ps : List Pair). Lays ps (l .pen) (l .words) all (penOf (a .t) (a .fresh)) (a .words .now)) e (l .inv .1) in (
       omega (arith, l .inv .0),
-      lays-turn all (penOf (a .t) (a .fresh)) (a .words .now) (putList put) rest (l .pen) (c .before .before .lay-put .result) (l .words) (c .before .before .lay-put .last .0) i (c .before .before .lay-put .ensures .0) (c .before .before .lay-put .ensures .1),
+      lays-turn all (penOf (a .t) (a .fresh)) (a .words .now) (putList put) rest (l .pen) (c .before .before .lay-put .result) (l .words)
+          (c .before .before .lay-put .last .0) i (c .before .before .lay-put .ensures .0) (c .before .before .lay-put .ensures .1),
     )
 
 close-requires : tie.Need-close-requires Inv-loop μ-loop
@@ -125,7 +155,12 @@ returns c =
     let l = c .before .before .before .before .before .loop in
     let all = tilePairs s (a .cols) (a .t) in
     let h : l .ahead ≤ 0 = c .before .before .before .before .loop-test .left in
-    let none = ap (pairsOf s x y) (list-end (a .near .now) (a .n) (a .n - l .ahead) (omega (arith, c .before .before .before .before .before .before .before .before .before .before .before .before .pre .3, c .before .before .before .before .before .before .before .before .before .before .before .before .pre .4)) (omega (arith, h)) (omega (arith, h))) in
+    let none = ap (pairsOf s x y) (list-end (a .near .now) (a .n) (a .n - l .ahead)
+    (omega (
+      arith,
+      c .before .before .before .before .before .before .before .before .before .before .before .before .pre .3,
+      c .before .before .before .before .before .before .before .before .before .before .before .before .pre .4,
+    )) (omega (arith, h)) (omega (arith, h))) in
     let i = subst (λ (ps : List Pair). Lays ps (l .pen) (l .words) all (penOf (a .t) (a .fresh)) (a .words .now)) none (l .inv .1) in
     (c .before .before .close .ensures ∙ i .memory, omega (arith, i .fresh))
 

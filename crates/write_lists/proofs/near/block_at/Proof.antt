@@ -19,7 +19,9 @@ add-on-columns : tie.Need-add-on-columns
 add-on-columns c = record { fits = omega (arith, c .before .before .before .before .pre .5, c .before .before .before .before .pre .6, small .tiles) }
 
 on-columns-requires : tie.Need-on-columns-requires
-on-columns-requires c κs = (c .before .before .before .before .before .pre .0, c .before .before .before .before .before .pre .1, c .before .before .before .before .before .pre .2, c .before .before .before .before .before .pre .3)
+on-columns-requires c κs =
+    let s = c .before .before .before .before .before in
+    (s .pre .0, s .pre .1, s .pre .2, s .pre .3)
 
 same-length : tie.Need-same-length
 same-length c = search needs

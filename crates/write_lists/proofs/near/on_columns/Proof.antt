@@ -38,13 +38,18 @@ path-at-requires : tie.Need-path-at-requires Inv-loop μ-loop
 path-at-requires c κs =
     let a = c .before .before .before .before .before .before .args in
     let l = c .before .before .loop in
-    path-there (a .paths .now) (getD (a .list .now) (l .j) 0) (list-there (a .list .now) (a .n) (l .j) (omega (arith, c .before .before .before .before .before .before .pre .1, c .before .before .before .before .before .before .pre .2)) (pathCount (a .paths .now)) (c .before .before .before .before .before .before .pre .0) (c .before .loop-test .taken))
+    path-there (a .paths .now) (getD (a .list .now) (l .j) 0) (list-there (a .list .now) (a .n) (l .j)
+    (omega (arith, c .before .before .before .before .before .before .pre .1, c .before .before .before .before .before .before .pre .2))
+    (pathCount (a .paths .now)) (c .before .before .before .before .before .before .pre .0) (c .before .loop-test .taken))
 
 mul-out : tie.Need-mul-out Inv-loop μ-loop
 mul-out c = search needs
 
 slice-write-out : tie.Need-slice-write-out Inv-loop μ-loop
-slice-write-out c = omega (arith, c .before .before .before .loop .inv .1, c .before .before .before .loop .inv .2, c .before .before .loop-test .taken, c .before .before .before .before .before .before .before .pre .1, c .before .before .before .before .before .before .before .pre .3)
+slice-write-out c =
+    let s = c .before .before .before .before .before .before .before in
+    let t = c .before .before .before in
+    omega (arith, t .loop .inv .1, t .loop .inv .2, c .before .before .loop-test .taken, s .pre .1, s .pre .3)
 
 has-columns-requires : tie.Need-has-columns-requires Inv-loop μ-loop
 has-columns-requires c κs = search needs
@@ -55,7 +60,18 @@ one-if-requires c κs = search needs
 add-m : tie.Need-add-m Inv-loop μ-loop
 add-m c =
     let l = c .before .before .before .before .before .loop in
-    record { fits = omega (arith, l .inv .1, c .before .before .before .before .loop-test .taken, c .before .before .before .before .before .before .before .before .before .pre .1, small .paths, c .one-if .ensures, one-small (c .before .has-columns .result)) }
+    record {
+      fits = omega (
+        arith,
+        l .inv .1,
+        c .before .before .before .before .loop-test .taken,
+        c .before .before .before .before .before .before .before .before .before .pre .1,
+        small .paths,
+        c .one-if .ensures,
+        one-small
+            (c .before .has-columns .result),
+      );
+    }
 
 add-j : tie.Need-add-j Inv-loop μ-loop
 add-j c = record { fits = omega (arith, c .before .before .before .before .loop-test .taken, c .before .before .before .before .before .before .before .before .before .pre .1, small .paths) }
@@ -71,13 +87,25 @@ loop-again c =
     let p = getD (a .list .now) (l .j) 0 in
     let b = c .before .has-columns .result in
     let is : b ≡ f p = c .before .has-columns .ensures ∙ ap (λ (q : Path). hasColumns q (a .from) (a .to)) (c .before .before .path-at .ensures) in
-    let there : l .m < length (l .out) = omega (arith, l .inv .1, l .inv .2, c .before .before .before .before .loop-test .taken, c .before .before .before .before .before .before .before .before .before .pre .1, c .before .before .before .before .before .before .before .before .before .pre .3) in
+    let there : l .m < length (l .out) = omega (
+      arith,
+      l .inv .1,
+      l .inv .2,
+      c .before .before .before .before .loop-test .taken,
+      c .before .before .before .before .before .before .before .before .before .pre .1,
+      c .before .before .before .before .before .before .before .before .before .pre .3,
+    ) in
     let rest = drop (l .j + 1) (take (a .n) (a .list .now)) in (
       omega (arith, c .before .before .before .before .loop-test .taken),
       omega (arith, l .inv .1, c .one-if .ensures, one-small b),
       length-set (l .out) (l .m) p ∙ l .inv .2,
       ap (λ (k : ℕ). take (l .m + k) (set (l .out) (l .m) p) ++ kept f rest) (c .one-if .ensures) ∙ keep-turn f (l .out) (l .m) p rest b is there
-          ∙ ap (λ (ps : List ℕ). take (l .m) (l .out) ++ kept f ps) (sym (list-turn (a .list .now) (a .n) (l .j) (omega (arith, c .before .before .before .before .before .before .before .before .before .pre .1, c .before .before .before .before .before .before .before .before .before .pre .2)) (c .before .before .before .before .loop-test .taken)))
+          ∙ ap (λ (ps : List ℕ). take (l .m) (l .out) ++ kept f ps)
+          (sym (list-turn (a .list .now) (a .n) (l .j) (omega (
+            arith,
+            c .before .before .before .before .before .before .before .before .before .pre .1,
+            c .before .before .before .before .before .before .before .before .before .pre .2,
+          )) (c .before .before .before .before .loop-test .taken)))
           ∙ l .inv .3,
     )
 
@@ -90,7 +118,11 @@ returns c =
     let a = c .before .before .before .before .before .args in
     let l = c .before .loop in
     let f : ℕ → Bool = λ q. hasColumns (pathAt (a .paths .now) q) (a .from) (a .to) in
-    let none = list-end (a .list .now) (a .n) (l .j) (omega (arith, c .before .before .before .before .before .pre .1, c .before .before .before .before .before .pre .2)) (c .loop-test .left) (l .inv .0) in
+    let none = list-end (a .list .now) (a .n) (l .j) (omega (
+      arith,
+      c .before .before .before .before .before .pre .1,
+      c .before .before .before .before .before .pre .2,
+    )) (c .loop-test .left) (l .inv .0) in
     record {
       few = omega (arith, l .inv .0, l .inv .1, c .before .before .before .before .before .pre .1);
       room = l .inv .2 ∙ c .before .before .before .before .before .pre .3;

@@ -42,7 +42,17 @@ mul-out : tie.Need-mul-out Inv-loop μ-loop
 mul-out c = search needs
 
 slice-write-out : tie.Need-slice-write-out Inv-loop μ-loop
-slice-write-out c = omega (arith, c .before .before .loop .inv .1, c .before .before .loop .inv .2, c .before .before .loop .inv .3, c .before .loop-test .taken, c .before .before .before .before .before .pre .0 .few, c .before .before .before .before .before .pre .1)
+slice-write-out c =
+    let s = c .before .before .before .before .before in
+    omega (
+      arith,
+      c .before .before .loop .inv .1,
+      c .before .before .loop .inv .2,
+      c .before .before .loop .inv .3,
+      c .before .loop-test .taken,
+      s .pre .0 .few,
+      s .pre .1,
+    )
 
 has-row-requires : tie.Need-has-row-requires Inv-loop μ-loop
 has-row-requires c κs = search needs
@@ -53,10 +63,29 @@ one-if-requires c κs = search needs
 add-m : tie.Need-add-m Inv-loop μ-loop
 add-m c =
     let l = c .before .before .before .before .loop in
-    record { fits = omega (arith, l .inv .1, l .inv .2, c .before .before .before .loop-test .taken, c .before .before .before .before .before .before .before .pre .0 .few, small .paths, c .one-if .ensures, one-small (c .before .has-row .result)) }
+    record {
+      fits = omega (
+        arith,
+        l .inv .1,
+        l .inv .2,
+        c .before .before .before .loop-test .taken,
+        c .before .before .before .before .before .before .before .pre .0 .few,
+        small .paths,
+        c .one-if .ensures,
+        one-small (c .before .has-row .result),
+      );
+    }
 
 add-p : tie.Need-add-p Inv-loop μ-loop
-add-p c = record { fits = omega (arith, c .before .before .before .before .loop .inv .1, c .before .before .before .loop-test .taken, c .before .before .before .before .before .before .before .pre .0 .few, small .paths) }
+add-p c = record {
+  fits = omega (
+    arith,
+    c .before .before .before .before .loop .inv .1,
+    c .before .before .before .loop-test .taken,
+    c .before .before .before .before .before .before .before .pre .0 .few,
+    small .paths,
+  );
+}
 
 loop-less : tie.Need-loop-less Inv-loop μ-loop
 loop-less c = search needs
@@ -68,7 +97,15 @@ loop-again c =
     let f : ℕ → Bool = λ q. hasRow (pathAt (a .paths .now) q) (a .y) in
     let b = c .before .has-row .result in
     let is : b ≡ f (l .p) = c .before .has-row .ensures ∙ ap (λ (q : Path). hasRow q (a .y)) (c .before .before .path-at .ensures) in
-    let there : l .m < length (l .out) = omega (arith, l .inv .1, l .inv .2, l .inv .3, c .before .before .before .loop-test .taken, c .before .before .before .before .before .before .before .pre .0 .few, c .before .before .before .before .before .before .before .pre .1) in
+    let there : l .m < length (l .out) = omega (
+      arith,
+      l .inv .1,
+      l .inv .2,
+      l .inv .3,
+      c .before .before .before .loop-test .taken,
+      c .before .before .before .before .before .before .before .pre .0 .few,
+      c .before .before .before .before .before .before .before .pre .1,
+    ) in
     let n = pathCount (a .paths .now) in
     let rest = from (l .p + 1) (n - (l .p + 1)) in (
       omega (arith, c .before .before .before .loop-test .taken),

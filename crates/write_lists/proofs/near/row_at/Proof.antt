@@ -12,7 +12,9 @@ returns c = c .before .before .before .pre .2 (omega (arith, c .if1 .taken))
 
 returns-2 : tie.Need-returns-2
 unfolding edgeMost
-returns-2 c = record { few = omega arith; room = c .before .before .before .before .pre .1; same = row-none (c .before .before .before .before .args .paths .now) (c .before .before .before .before .args .y) (c .before .before .before .before .pre .0) (c .if2 .taken) }
+returns-2 c =
+    let s = c .before .before .before .before in
+    record { few = omega arith; room = s .pre .1; same = row-none (s .args .paths .now) (s .args .y) (s .pre .0) (c .if2 .taken) }
 
 on-row-requires : tie.Need-on-row-requires
 on-row-requires c κs = (c .before .before .before .before .before .pre .0, c .before .before .before .before .before .pre .1)

@@ -55,7 +55,8 @@ returns c =
     let a = c .before .before .before .before .before .before .before .before .before .args in
     let b = getD (a .backdrops .now) (a .t) (pos 0) in
     c .on-tile .ensures
-    ∙ ap (λ (z : ℤ). onTile (colourAt (a .paints .now) (a .p)) (ruleAt (a .paints .now) (a .p)) (getD (a .tally .now) (a .t) 0) (getD (a .stored .now) (a .t) 0) z) (back b (record { sfits = c .before .back .given }))
+    ∙ ap (λ (z : ℤ). onTile (colourAt (a .paints .now) (a .p)) (ruleAt (a .paints .now) (a .p)) (getD (a .tally .now) (a .t) 0)
+    (getD (a .stored .now) (a .t) 0) z) (back b (record { sfits = c .before .back .given }))
 
 pub by-path-spec : {M : Type 1} → statement M
 by-path-spec =

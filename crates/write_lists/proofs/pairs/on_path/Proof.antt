@@ -33,17 +33,24 @@ tile-in-requires : tie.Need-tile-in-requires
 tile-in-requires c κs =
     let a = c .before .before .before .before .before .before .before .args in
     let s = tables (a .paths .now) (a .paints .now) (a .backdrops .now) (a .stored .now) (a .tally .now) in
-    let at : c .before .before .path-at .result ≡ pathAt (s .paths) (a .p) = c .before .before .path-at .ensures in
-    (sym (c .before .in-box .ensures) ∙ not-false (c .before .in-box .result) (c .if1 .left), rw at (tiles-few s (c .before .before .before .before .before .before .before .pre .0) (a .p) (c .before .before .before .before .before .before .before .pre .1)))
+    let at : c .before .before .path-at .result ≡ pathAt (s .paths) (a .p) = c .before .before .path-at .ensures in (
+      sym (c .before .in-box .ensures) ∙ not-false (c .before .in-box .result) (c .if1 .left),
+      rw at
+          (tiles-few s (c .before .before .before .before .before .before .before .pre .0) (a .p)
+          (c .before .before .before .before .before .before .before .pre .1)),
+    )
 
 by-path-requires : tie.Need-by-path-requires
 by-path-requires c κs =
     let a = c .before .before .before .before .before .before .before .before .args in
     let s = tables (a .paths .now) (a .paints .now) (a .backdrops .now) (a .stored .now) (a .tally .now) in
     let at : c .before .before .before .path-at .result ≡ pathAt (s .paths) (a .p) = c .before .before .before .path-at .ensures in
-    let inside : inBox (pathAt (s .paths) (a .p)) (a .x) (a .y) ≡ true = ap (λ (b : Path). inBox b (a .x) (a .y)) (sym at) ∙ sym (c .before .before .in-box .ensures) ∙ not-false (c .before .before .in-box .result) (c .before .if1 .left) in
+    let inside : inBox (pathAt (s .paths) (a .p)) (a .x) (a .y) ≡ true = ap (λ (b : Path). inBox b (a .x) (a .y)) (sym at) ∙ sym
+    (c .before .before .in-box .ensures) ∙ not-false (c .before .before .in-box .result) (c .before .if1 .left) in
     let e : c .tile-in .result ≡ tileOf (pathAt (s .paths) (a .p)) (a .x) (a .y) = c .tile-in .ensures ∙ ap (λ (b : Path). tileOf b (a .x) (a .y)) at in
-    let h : tileOf (pathAt (s .paths) (a .p)) (a .x) (a .y) < length (s .backdrops) = tile-there s (c .before .before .before .before .before .before .before .before .pre .0) (a .p) (c .before .before .before .before .before .before .before .before .pre .1) (a .x) (a .y) inside in
+    let h : tileOf (pathAt (s .paths) (a .p)) (a .x) (a .y) < length (s .backdrops) = tile-there s
+    (c .before .before .before .before .before .before .before .before .pre .0) (a .p)
+    (c .before .before .before .before .before .before .before .before .pre .1) (a .x) (a .y) inside in
     let r = c .before .before .before .before .before .before .before .before .pre .0 in
     (paint-there s r (a .p) (c .before .before .before .before .before .before .before .before .pre .1), omega (arith, e, h), omega (arith, e, h, r .stored), omega (arith, e, h, r .tally))
 
@@ -52,7 +59,8 @@ returns-2 c =
     let a = c .before .before .before .before .before .before .before .before .before .args in
     let s = tables (a .paths .now) (a .paints .now) (a .backdrops .now) (a .stored .now) (a .tally .now) in
     let at : c .before .before .before .before .path-at .result ≡ pathAt (s .paths) (a .p) = c .before .before .before .before .path-at .ensures in
-    let inside : inBox (pathAt (s .paths) (a .p)) (a .x) (a .y) ≡ true = ap (λ (b : Path). inBox b (a .x) (a .y)) (sym at) ∙ sym (c .before .before .before .in-box .ensures) ∙ not-false (c .before .before .before .in-box .result) (c .before .before .if1 .left) in
+    let inside : inBox (pathAt (s .paths) (a .p)) (a .x) (a .y) ≡ true = ap (λ (b : Path). inBox b (a .x) (a .y)) (sym at) ∙ sym
+    (c .before .before .before .in-box .ensures) ∙ not-false (c .before .before .before .in-box .result) (c .before .before .if1 .left) in
     let e : c .before .tile-in .result ≡ tileOf (pathAt (s .paths) (a .p)) (a .x) (a .y) = c .before .tile-in .ensures ∙ ap (λ (b : Path). tileOf b (a .x) (a .y)) at in
     c .by-path .ensures ∙ ap (λ (t : ℕ). byPath s (a .p) t) e ∙ path-inside s (a .x) (a .y) (a .p) inside
 

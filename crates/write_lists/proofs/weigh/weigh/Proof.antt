@@ -19,7 +19,8 @@ use Rattle.write_lists.proofs.weigh.weigh.Tie as tie
 abbrev Inv-loop : tie.InvT-loop
 Inv-loop paths paints backdrops stored tally near n cols t room x y w₀ j₀ w j =
     (j ≤ n) × Light j w
-    × (weighAll room (pairsOf (tables paths paints backdrops stored tally) x y (drop j (take n near))) w ≡ weighAll room (pairsOf (tables paths paints backdrops stored tally) x y (take n near)) noWeight)
+    × (weighAll room (pairsOf (tables paths paints backdrops stored tally) x y (drop j (take n near))) w ≡ weighAll room
+    (pairsOf (tables paths paints backdrops stored tally) x y (take n near)) noWeight)
 
 abbrev μ-loop : tie.MeasureT-loop
 μ-loop paths paints backdrops stored tally near n cols t room x y w₀ j₀ w j = n - j
@@ -40,19 +41,33 @@ mul-on-path : tie.Need-mul-on-path Inv-loop μ-loop
 mul-on-path c = search needs
 
 shared-slice-read-on-path : tie.Need-shared-slice-read-on-path Inv-loop μ-loop
-shared-slice-read-on-path c = omega (arith, c .before .loop-test .taken, c .before .before .before .before .before .before .before .before .pre .2, c .before .before .before .before .before .before .before .before .pre .3)
+shared-slice-read-on-path c =
+    let s = c .before .before .before .before .before .before .before .before in
+    omega (arith, c .before .loop-test .taken, s .pre .2, s .pre .3)
 
 on-path-requires : tie.Need-on-path-requires Inv-loop μ-loop
 on-path-requires c κs =
     let a = c .before .before .before .before .before .before .before .before .args in
     let s = tables (a .paths .now) (a .paints .now) (a .backdrops .now) (a .stored .now) (a .tally .now) in
-    let l = c .before .before .loop in
-    (c .before .before .before .before .before .before .before .before .pre .0, list-there (a .near .now) (a .n) (l .j) (omega (arith, c .before .before .before .before .before .before .before .before .pre .2, c .before .before .before .before .before .before .before .before .pre .3)) (pathCount (s .paths)) (c .before .before .before .before .before .before .before .before .pre .4 .there) (c .before .loop-test .taken))
+    let l = c .before .before .loop in (
+      c .before .before .before .before .before .before .before .before .pre .0,
+      list-there (a .near .now) (a .n) (l .j)
+          (omega (
+            arith,
+            c .before .before .before .before .before .before .before .before .pre .2,
+            c .before .before .before .before .before .before .before .before .pre .3,
+          )) (pathCount (s .paths))
+          (c .before .before .before .before .before .before .before .before .pre .4 .there) (c .before .loop-test .taken),
+    )
 
 weigh-put-requires : tie.Need-weigh-put-requires Inv-loop μ-loop
 weigh-put-requires c κs =
-    let g = c .before .before .before .loop .inv .1 in
-    (omega (arith, c .before .before .loop-test .taken, c .before .before .before .before .before .before .before .before .before .pre .2, g .pairs), omega (arith, c .before .before .loop-test .taken, c .before .before .before .before .before .before .before .before .before .pre .2, g .jumps), g .left)
+    let g = c .before .before .before .loop .inv .1 in (
+      omega (arith, c .before .before .loop-test .taken, c .before .before .before .before .before .before .before .before .before .pre .2, g .pairs),
+      omega
+          (arith, c .before .before .loop-test .taken, c .before .before .before .before .before .before .before .before .before .pre .2, g .jumps),
+      g .left,
+    )
 
 add-j : tie.Need-add-j Inv-loop μ-loop
 add-j c = record { fits = omega (arith, c .before .before .before .loop-test .taken, c .before .before .before .before .before .before .before .before .before .before .pre .2, small .paths) }
@@ -69,10 +84,15 @@ loop-again c =
     let x = a .t % a .cols in
     let y = a .t / a .cols in
     let rest = drop (l .j + 1) (take (a .n) (a .near .now)) in
-    let e = list-turn (a .near .now) (a .n) (l .j) (omega (arith, c .before .before .before .before .before .before .before .before .before .before .pre .2, c .before .before .before .before .before .before .before .before .before .before .pre .3)) (c .before .before .before .loop-test .taken) in (
+    let e = list-turn (a .near .now) (a .n) (l .j) (omega (
+      arith,
+      c .before .before .before .before .before .before .before .before .before .before .pre .2,
+      c .before .before .before .before .before .before .before .before .before .before .pre .3,
+    )) (c .before .before .before .loop-test .taken) in (
       omega (arith, c .before .before .before .loop-test .taken),
       rw (c .weigh-put .ensures) (put-light (a .room) (l .j) put (l .w) (l .inv .1)),
-      weigh-next s x y (getD (a .near .now) (l .j) 0) rest (drop (l .j) (take (a .n) (a .near .now))) (a .room) (putList put) (l .w) (c .weigh-put .result) e (c .before .on-path .ensures) (c .weigh-put .ensures) ∙ l .inv .2,
+      weigh-next s x y (getD (a .near .now) (l .j) 0) rest (drop (l .j) (take (a .n) (a .near .now))) (a .room) (putList put) (l .w) (c .weigh-put .result) e
+          (c .before .on-path .ensures) (c .weigh-put .ensures) ∙ l .inv .2,
     )
 
 returns : tie.Need-returns Inv-loop μ-loop
@@ -82,8 +102,13 @@ returns c =
     let l = c .before .loop in
     let x = a .t % a .cols in
     let y = a .t / a .cols in
-    let none = list-end (a .near .now) (a .n) (l .j) (omega (arith, c .before .before .before .before .before .before .before .pre .2, c .before .before .before .before .before .before .before .pre .3)) (c .loop-test .left) (l .inv .0) in
-    sym (ap (λ (ps : List ℕ). weighAll (a .room) (pairsOf s x y ps) (l .w)) none) ∙ l .inv .2 ∙ ap (λ (ps : List Pair). weighAll (a .room) ps noWeight) (c .before .before .before .before .before .before .before .pre .4 .all)
+    let none = list-end (a .near .now) (a .n) (l .j) (omega (
+      arith,
+      c .before .before .before .before .before .before .before .pre .2,
+      c .before .before .before .before .before .before .before .pre .3,
+    )) (c .loop-test .left) (l .inv .0) in
+    sym (ap (λ (ps : List ℕ). weighAll (a .room) (pairsOf s x y ps) (l .w)) none) ∙ l .inv .2 ∙ ap (λ (ps : List Pair). weighAll (a .room) ps noWeight)
+    (c .before .before .before .before .before .before .before .pre .4 .all)
 
 pub weigh-spec : {M : Type 1} → statement M
 weigh-spec =

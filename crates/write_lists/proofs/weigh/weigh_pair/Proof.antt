@@ -42,7 +42,8 @@ returns : tie.Need-returns
 returns c =
     let s = c .before .before .before in
     let a = s .before .before .before .before .before .args in
-    weigh-is (a .room) (a .pair) (a .w) (s .before .before .before .before .fits2 .result) (s .before .before .before .pair-size .result) (s .before .before .jump-count .result) (s .before .left-at .result) (s .slots-fit .result)
+    weigh-is (a .room) (a .pair) (a .w) (s .before .before .before .before .fits2 .result) (s .before .before .before .pair-size .result)
+    (s .before .before .jump-count .result) (s .before .left-at .result) (s .slots-fit .result)
     (s .before .before .before .before .fits2 .ensures) (s .before .before .before .pair-size .ensures) (s .before .before .jump-count .ensures) (s .before .left-at .ensures) (s .slots-fit .ensures)
 
 pub weigh-pair-spec : {M : Type 1} → statement M
