@@ -1,0 +1,3 @@
+pub mod FirstLaws
+pub mod Stores
+pub mod Windows

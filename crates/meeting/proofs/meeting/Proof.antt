@@ -1,0 +1,110 @@
+-- `meeting::meeting` meets its contract. The loop's invariant: the ranges before the best one do not meet where a start lies below the window, and the best one, if it is not n, meets an earlier one.
+-- Assumes nothing.
+use native.Mathlib.Omega.{arith}
+use borrow.Author.Needs.{needs}
+use mathlib.Core.Path.{_≡_, refl, subst}
+use Prim.Native.Nat.{ℕ, _≤_, _<_, _-_, _+_}
+use lib.Dec.{ltb}
+use lib.ListN.{length}
+use borrow.Author.Tests.{ltb-true}
+use Rattle.meeting.specs.Meeting.{startsAt, lensIn}
+use Rattle.meeting.specs.Found.{KeptBelow, MeetsAt, keys, windowEnd, NextStart}
+use Rattle.meeting.proofs.Stores.{kept-all}
+use Rattle.meeting.proofs.Windows.{ApartBelow, both-true, windows-go, windows-less, windows-end}
+use Rattle.meeting.proofs.meeting.Statement.{statement}
+use Rattle.meeting.proofs.meeting.Tie as tie
+
+abbrev Inv-loop : tie.InvT-loop
+Inv-loop work₀ at lens n free width best₀ low₀ work best low =
+    (best ≤ n) × KeptBelow free work₀ work × (best < n → MeetsAt (startsAt work₀ at) (lensIn lens) best)
+    × ApartBelow (startsAt work₀ at) (lensIn lens) low best × (low ≤ keys)
+    × (0 < low → (i : ℕ) → i < best → startsAt work₀ at i < keys)
+
+abbrev μ-loop : tie.MeasureT-loop
+μ-loop work₀ at lens n free width best₀ low₀ work best low = keys - low
+
+sub-width : tie.Need-sub-width Inv-loop μ-loop
+sub-width c = omega arith
+
+loop-holds : tie.Need-loop-holds Inv-loop μ-loop
+loop-holds c = (omega arith, kept-all _ _, (λ h. absurd (omega arith)), (λ i j h l m. absurd (omega arith)), omega arith, λ h. absurd (omega arith))
+
+clear-requires : tie.Need-clear-requires Inv-loop μ-loop
+clear-requires c κs = tt
+
+pass-requires : tie.Need-pass-requires Inv-loop μ-loop
+pass-requires c κs =
+    let s = c .before .before .before .before .before .before .before .before .before in
+    let v = c .before .before .before .before .before .before .loop .inv in
+    let k = c .before .before .before .clear .ensures in
+    (omega (arith, v .0, s .pre .0), omega (arith, v .1 .same-length, k .0 .same-length, s .pre .1), k .1)
+
+window-end-requires : tie.Need-window-end-requires Inv-loop μ-loop
+window-end-requires c κs =
+    let l = c .before .before .before .before .before .before .before .before .before .before .loop in
+    ltb-true (l .low) keys (both-true (ltb 1 (l .best)) (ltb (l .low) keys) (c .before .before .before .before .before .before .before .before .before .loop-test .taken) .1)
+
+next-start-requires : tie.Need-next-start-requires Inv-loop μ-loop
+next-start-requires c κs =
+    let s = c .before .before .before .before .before .before .before .before .before .before .before .before .before .before in
+    let v = c .before .before .before .before .before .before .before .before .before .before .before .loop .inv in
+    let k = c .before .before .before .before .before .before .before .before .clear .ensures in
+    let q = c .before .before .before .before .pass .ensures in
+    omega (arith, v .0, v .1 .same-length, k .0 .same-length, q .0 .same-length, q .1 .within, s .pre .0, s .pre .1)
+
+loop-less : tie.Need-loop-less Inv-loop μ-loop
+loop-less c =
+    let s = c .before .before .before .before .before .before .before .before .before .before .before .before .before .before .before in
+    let a = s .args in
+    let l = c .before .before .before .before .before .before .before .before .before .before .before .before .loop in
+    let q = c .before .before .before .before .before .pass in
+    let width = length (a .work .now) - a .free in
+    let t = both-true (ltb 1 (l .best)) (ltb (l .low) keys) (c .before .before .before .before .before .before .before .before .before .before .before .loop-test .taken) in
+    let more : 1 < a .n = omega (arith, ltb-true 1 (l .best) (t .0), l .inv .0) in
+    let wide : 0 < width = omega (arith, s .pre .2 more) in
+    let w = q .last .0 in
+    let end : NextStart (startsAt w (a .at)) (windowEnd (l .low) width) (q .result) (c .next-start .result) =
+    subst (λ (e : ℕ). NextStart (startsAt w (a .at)) e (q .result) (c .next-start .result)) (c .before .window-end .ensures) (c .next-start .ensures) in
+    windows-less (startsAt w (a .at)) (l .low) width (q .result) (c .next-start .result) (ltb-true (l .low) keys (t .1)) wide end
+
+loop-again : tie.Need-loop-again Inv-loop μ-loop
+loop-again c =
+    let s = c .before .before .before .before .before .before .before .before .before .before .before .before .before .before .before in
+    let a = s .args in
+    let l = c .before .before .before .before .before .before .before .before .before .before .before .before .loop in
+    let v = l .inv in
+    let k = c .before .before .before .before .before .before .before .before .before .clear in
+    let q = c .before .before .before .before .before .pass in
+    let width = length (a .work .now) - a .free in
+    let w = q .last .0 in
+    let end : NextStart (startsAt w (a .at)) (windowEnd (l .low) width) (q .result) (c .next-start .result) =
+    subst (λ (e : ℕ). NextStart (startsAt w (a .at)) e (q .result) (c .next-start .result)) (c .before .window-end .ensures) (c .next-start .ensures) in
+    windows-go (a .work .now) (l .work) (k .last .0) w (a .lens .now) (a .at) (a .n) (a .free) (l .low) width (l .best) (q .result) (c .next-start .result)
+    (s .pre .0) (v .0) refl (v .1) (k .ensures .0) (q .ensures .0) (v .3) (v .2) (q .ensures .1) end
+
+same-length : tie.Need-same-length Inv-loop μ-loop
+same-length c = search needs
+
+returns : tie.Need-returns Inv-loop μ-loop
+returns c =
+    let a = c .before .before .before .before .args in
+    let l = c .before .loop in
+    let v = l .inv in
+    (windows-end (a .work .now) (a .lens .now) (a .at) (a .n) (l .low) (l .best) (v .0) (v .2) (v .3) (v .5) (c .loop-test .left), v .1)
+
+pub meeting-spec : {M : Type 1} → statement M
+meeting-spec =
+    tie.close
+    (tie.spec
+    Inv-loop
+    μ-loop
+    sub-width
+    loop-holds
+    clear-requires
+    pass-requires
+    window-end-requires
+    next-start-requires
+    loop-less
+    loop-again
+    same-length
+    returns)

@@ -1,0 +1,134 @@
+// The first of a row of ranges that meets an earlier one, with no sort: flags for a window of keys at
+// a time, in working room that the caller lends. The ranges' first keys stand in the same room.
+ghost use mathlib.Core.Path.{_≡_};
+ghost use Prim.Native.Nat.{_+_, _-_, _≤_, _<_};
+ghost use lib.ListN.{length};
+ghost use Rattle.meeting.specs.Meeting.{firstMeeting, startsAt, lensIn};
+ghost use Rattle.meeting.specs.Found.{KeptBelow, ClearFrom, FlagRan, PassedTo, keys, placeOf, windowEnd, Nearer, NextStart};
+
+// Keys are u32 numbers.
+const KEYS: u64 = 0x1_0000_0000;
+
+// The number of keys of range i: 1 where no length is lent for it.
+fn len_at(lens: &[u32], i: usize) -> u32
+    ensures { λ r. ⌜ r ≡ lensIn (now (lens .entry)) i ⌝ }
+{
+    if i < lens.len() { lens[i] } else { 1 }
+}
+
+// Zeroes from a place on.
+fn clear(work: &mut [u32], free: usize)
+    ensures { λ _. ⌜ KeptBelow free (now (work .entry)) (now (work .exit)) × ClearFrom free (now (work .exit)) ⌝ }
+{
+    let mut k = free;
+    while k < work.len() {
+        work[k] = 0;
+        k += 1;
+    }
+}
+
+// Flags the words from a up to b, and stops at one that is flagged: whether there was one.
+fn flag(work: &mut [u32], a: usize, b: usize) -> bool
+    requires { ⌜ (a ≤ b) × (b ≤ length (now work)) ⌝ }
+    ensures { λ r. ⌜ KeptBelow a (now (work .entry)) (now (work .exit)) × FlagRan (now (work .entry)) (now (work .exit)) a b r ⌝ }
+{
+    let mut k = a;
+    while k < b {
+        if work[k] != 0 {
+            return true;
+        }
+        work[k] = 1;
+        k += 1;
+    }
+    false
+}
+
+// How far a key lies in a window that begins at low, at most its width.
+fn place_of(key: u64, low: u64, width: usize) -> usize
+    ensures { λ r. ⌜ r ≡ placeOf key low width ⌝ }
+{
+    if key <= low {
+        return 0;
+    }
+    if key - low < (width as u64) {
+        (key - low) as usize
+    } else {
+        width
+    }
+}
+
+// One pass over the window of keys from low on, whose flags are clear: the first range that has a key
+// there which an earlier one has too, else n.
+fn pass(work: &mut [u32], at: usize, lens: &[u32], n: usize, free: usize, low: u64) -> usize
+    requires { ⌜ (at + n ≤ free) × (free ≤ length (now work)) × ClearFrom free (now work) ⌝ }
+    ensures { λ r. ⌜ KeptBelow free (now (work .entry)) (now (work .exit))
+        × PassedTo (startsAt (now (work .entry)) at) (lensIn (now (lens .entry))) low (low + (length (now (work .entry)) - free)) n r ⌝ }
+{
+    let width = work.len() - free;
+    let mut i = 0;
+    while i < n {
+        let start = work[at + i] as u64;
+        let end = start + len_at(lens, i) as u64;
+        let a = place_of(start, low, width);
+        let b = place_of(end, low, width);
+        if flag(work, free + a, free + b) {
+            return i;
+        }
+        i += 1;
+    }
+    n
+}
+
+// A start in the place of the least so far, if it is less and lies at or past the end.
+fn nearer(least: u64, start: u64, end: u64) -> u64
+    ensures { λ r. ⌜ Nearer least start end r ⌝ }
+{
+    if start < end {
+        return least;
+    }
+    if least < start { least } else { start }
+}
+
+// The least start at or past an end, of the first n; KEYS where there is none.
+fn next_start(work: &[u32], at: usize, n: usize, end: u64) -> u64
+    requires { ⌜ at + n ≤ length (now work) ⌝ }
+    ensures { λ r. ⌜ NextStart (startsAt (now (work .entry)) at) end n r ⌝ }
+{
+    let mut least = KEYS;
+    let mut i = 0;
+    while i < n {
+        least = nearer(least, work[at + i] as u64, end);
+        i += 1;
+    }
+    least
+}
+
+// The end of a window of so many keys.
+fn window_end(low: u64, width: usize) -> u64
+    requires { ⌜ low < keys ⌝ }
+    ensures { λ r. ⌜ r ≡ windowEnd low width ⌝ }
+{
+    if (width as u64) < KEYS {
+        low + (width as u64)
+    } else {
+        low + KEYS
+    }
+}
+
+// The first of n ranges that meets an earlier one, else n. Range i starts at the key that stands in
+// the room at place at + i, and has as many keys as lens says. The room from free on is for the flags.
+pub fn meeting(work: &mut [u32], at: usize, lens: &[u32], n: usize, free: usize) -> usize
+    requires { ⌜ (at + n ≤ free) × (free ≤ length (now work)) × (1 < n → free < length (now work)) ⌝ }
+    ensures { λ r. ⌜ (r ≡ firstMeeting (startsAt (now (work .entry)) at) (lensIn (now (lens .entry))) n)
+        × KeptBelow free (now (work .entry)) (now (work .exit)) ⌝ }
+{
+    let width = work.len() - free;
+    let mut best = n;
+    let mut low: u64 = 0;
+    while (1 < best) & (low < KEYS) {
+        clear(work, free);
+        best = pass(work, at, lens, best, free, low);
+        low = next_start(work, at, best, window_end(low, width));
+    }
+    best
+}
