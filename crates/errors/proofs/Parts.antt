@@ -80,7 +80,8 @@ le-parts (fin false a e) (fin false b d) n m v w h =
 pub round-above : (x : Float) (n a c : ℕ) → T (fits binary32 x) → Is x n → 0 < c → n * c ≤ a * parts → T (finite (round binary32 false a c)) → n ≤ grid binary32 a c
 round-above x n a c h v C l f =
     le-parts x (round binary32 false a c) n (grid binary32 a c) v (round-parts a c f)
-    (subst (λ (y : Float). le y (round binary32 false a c) ≡ true) (parts-round x n h v) (is-true (le (round binary32 false n parts) (round binary32 false a c)) (round-mono binary32 n parts a c parts-pos C l)))
+    (subst (λ (y : Float). le y (round binary32 false a c) ≡ true) (parts-round x n h v)
+    (is-true (le (round binary32 false n parts) (round binary32 false a c)) (round-mono binary32 n parts a c parts-pos C l)))
 
 -- ---- sums
 sums : (A D B E P n m : ℕ) → A * P ≡ n * D → B * P ≡ m * E → (A * E + B * D) * P ≡ (n + m) * (D * E)

@@ -307,7 +307,8 @@ module _ (s0 s1 : Vec2) (h : Scaled s0) (k : Scaled s1) (ordered : lt (s1 .y) (s
   start-in =
       let t = sub binary32 (m .ytop) (s0 .y) in
       let v = add binary32 (mul binary32 (m .dy) (m .c)) (mul binary32 (m .dx) t) in
-      min-start (mul binary32 v (m .idxdy)) (mul-plus v (m .idxdy) (add-plus (mul binary32 (m .dy) (m .c)) (mul binary32 (m .dx) t) (mul-plus (m .dy) (m .c) dy-plus c-plus) (mul-plus (m .dx) t (inl dx-plus) t-plus)) over-plus)
+      min-start (mul binary32 v (m .idxdy))
+      (mul-plus v (m .idxdy) (add-plus (mul binary32 (m .dy) (m .c)) (mul binary32 (m .dx) t) (mul-plus (m .dy) (m .c) dy-plus c-plus) (mul-plus (m .dx) t (inl dx-plus) t-plus)) over-plus)
 
   -- a
   a0-most : T (finite (mul binary32 (m .dx) (m .idxdy))) → (signOf (mul binary32 (m .dx) (m .idxdy)) ≡ false) × AtMost (mul binary32 (m .dx) (m .idxdy)) 1 1

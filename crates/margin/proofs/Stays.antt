@@ -44,7 +44,9 @@ module _ (L M H X Z n cx : ℕ) (p : 0 < M * H) (few : n ≤ 16384) (x-in : X �
   most-by : X * L * n * H + Z * L ≤ (cx * L + L) * (M * H)
   most-by =
       le-trans (le-of-eq (sym (add-mul (X * (n * H)) Z L ∙ ap (λ (z : ℕ). z + Z * L) rows)))
-      (le-trans (mul-le-mul-right L most) (le-of-eq (add-mul (cx * (M * H)) (M * H) L ∙ sym (add-mul (cx * L) L (M * H) ∙ ap (λ (z : ℕ). z + L * (M * H)) (mul-right-comm cx L (M * H)) ∙ ap (λ (z : ℕ). cx * (M * H) * L + z) (mul-comm L (M * H))))))
+      (le-trans (mul-le-mul-right L most)
+      (le-of-eq (add-mul (cx * (M * H)) (M * H) L
+      ∙ sym (add-mul (cx * L) L (M * H) ∙ ap (λ (z : ℕ). z + L * (M * H)) (mul-right-comm cx L (M * H)) ∙ ap (λ (z : ℕ). cx * (M * H) * L + z) (mul-comm L (M * H))))))
 
   x-by : X * L ≤ L * M
   x-by = le-trans (mul-le-mul-right L x-in) (le-of-eq (mul-comm M L))
@@ -100,7 +102,8 @@ module _ (L M H X Z n cx : ℕ) (p : 0 < M * H) (few : n ≤ 16384) (x-in : X �
         let c : K * n * (M * H) * 256 ≤ L * (M * H) = le-trans (le-of-eq (mul-right-comm (K * n) (M * H) 256)) (mul-le-mul-right (M * H) (few-more K L k)) in
         let e : B * (H * M) ≡ B * (M * H) = ap (λ (z : ℕ). B * z) (mul-comm H M) in
         let w : (cx * L + K * n) * (M * H) * 8 ≤ B * (M * H) * 8 + L * (M * H) =
-        core-none ((cx * L + K * n) * (M * H)) (cx * L * (M * H)) (K * n * (M * H)) (L * (M * H)) (B * (M * H)) (B * (H * M)) (X * L * n * H) (Z * L) (add-mul (cx * L) (K * n) (M * H)) e y b c least-by in
+        core-none ((cx * L + K * n) * (M * H)) (cx * L * (M * H)) (K * n * (M * H)) (L * (M * H)) (B * (M * H)) (B * (H * M)) (X * L * n * H) (Z * L)
+        (add-mul (cx * L) (K * n) (M * H)) e y b c least-by in
         le-of-mul-le-mul-right {k = M * H} (over (cx * L + K * n) B L w) p
       where
         little : (AM XL LM : ℕ) → AM * 4194304 ≤ LM → XL * 16777216 ≤ AM * 16777230 → XL * 2097152 ≤ LM
@@ -157,7 +160,8 @@ module _ (L n cx cy i z W : ℕ) (l : 0 < L) (few : n ≤ 16384) (i-in : i ≤ n
     where
       steps : (j : ℕ) → j ≤ 16384 → K * j * 16 ≤ j * L * 16 + L
       steps j h =
-          let g : K * j * 2097152 ≤ 2097160 * (j * L) = le-trans (le-of-eq (mul-right-comm K j 2097152)) (le-trans (mul-le-mul-right j k) (le-of-eq (mul-assoc 2097160 L j ∙ ap (λ (q : ℕ). 2097160 * q) (mul-comm L j)))) in
+          let g : K * j * 2097152 ≤ 2097160 * (j * L) =
+          le-trans (le-of-eq (mul-right-comm K j 2097152)) (le-trans (mul-le-mul-right j k) (le-of-eq (mul-assoc 2097160 L j ∙ ap (λ (q : ℕ). 2097160 * q) (mul-comm L j)))) in
           omega (arith, mul-le-mul-right L h)
 
   -- a from -2 ^ -22 to 0, where a i + b isn't negative; P is the size of a i
