@@ -45,12 +45,18 @@ use Rattle.ppm_read.specs.Header.{numberFrom, headerOf}
 use Rattle.ppm_read.specs.Read.{readOf, ReadMet}
 use Rattle.ppm_read.specs.declared.Answer as Read
 use Rattle.ppm_read.specs.declared.Answer.the-variants as Reading
+use Rattle.panel.specs.Refusals.{badText}
+use Rattle.svg.specs.Lines.{LinesMet}
+use Rattle.svg.specs.declared.Answer as Svg
+use Rattle.svg.specs.declared.Answer.the-variants as Drawing
+use Rattle.svg.proofs.Exact.{one-lines}
+use Rattle.svg.proofs.Examples.{drawing}
 use Rattle.theorems.specs.Starred.{floatsOf}
 use Rattle.theorems.proofs.StarredTable.{computing}
 use Rattle.theorems.proofs.OneAnswer.{one-count, one-backdrop, one-hand, one-tile, one-fill, one-fine}
 use Rattle.theorems.proofs.Framing.{one-frame}
 use Rattle.list_theorems.proofs.Written.{one-lists}
-use Rattle.call_theorems.specs.Cheats.{Once, Shut, Refuses, RefusesCount, RefusesFrame, RefusesWrite, RefusesRead}
+use Rattle.call_theorems.specs.Cheats.{Once, Shut, Refuses, RefusesCount, RefusesFrame, RefusesWrite, RefusesRead, RefusesSvg}
 use Rattle.call_theorems.proofs.OneAnswer.{one-write, one-read}
 
 -- ---- the law: an input whose answer a is no refusal and which leaves another content than before, and one whose answer b is a refusal
@@ -239,3 +245,27 @@ read-shut =
     (Reading.Done 1 1) (Reading.Refused badFile) (0x20 ∷ 0x40 ∷ 0x60 ∷ []) (replicate 3 9)
     (λ a b m n p q. one-read file (replicate 3 9) a b m n p q) (λ a b m n p q. one-read [] (replicate 3 9) a b m n p q)
     refl refl (λ h. h) tt (apart (0x20 ∷ 0x40 ∷ 0x60 ∷ []) (replicate 3 9) 0 (λ z. omega arith))
+
+-- ---- an outline: a closing alone after a move to 1, 2, which draws one line of no length, over NaNs; and a letter with no numbers
+
+abbrev move-close : List ℕ
+move-close = 77 ∷ 49 ∷ 32 ∷ 50 ∷ 90 ∷ []
+
+abbrev SvgMemory : Type 0
+SvgMemory = List ℕ × List Float
+
+abbrev SvgAt : (text : List ℕ) → Svg.Answer → SvgMemory → Type 0
+SvgAt text a m = LinesMet text 0 3 (9 ∷ []) (replicate 4 nan) a (m .0) (m .1)
+
+once-svg : (text : List ℕ) → Once Svg.Answer SvgMemory (SvgAt text)
+once-svg text a b m n p q = let e = one-lines text 0 3 (9 ∷ []) (replicate 4 nan) a b (m .0) (n .0) (m .1) (n .1) p q in (e .0, λ i. (e .1 i, e .2 i))
+
+abbrev no-length : List Float
+no-length = floatsOf (1 ∷ 2 ∷ 1 ∷ 2 ∷ [])
+
+pub svg-shut : Shut Svg.Answer SvgMemory RefusesSvg (SvgAt move-close) (SvgAt (77 ∷ [])) (9 ∷ [], replicate 4 nan)
+unfolding computing drawing
+svg-shut =
+    shut Svg.Answer SvgMemory RefusesSvg (SvgAt move-close) (SvgAt (77 ∷ [])) (9 ∷ [], replicate 4 nan)
+    (Drawing.Done 1) (Drawing.Refused badText 1) (3 ∷ [], no-length) (9 ∷ [], replicate 4 nan) (once-svg move-close) (once-svg (77 ∷ []))
+    refl refl (λ h. h) tt (λ e. apart (3 ∷ []) (9 ∷ []) 0 (λ z. omega arith) (ap (λ (m : SvgMemory). m .0) e))

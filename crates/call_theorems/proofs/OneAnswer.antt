@@ -20,6 +20,7 @@ use Rattle.groatpocket.specs.CallLists.{GpListsMet}
 use Rattle.groatpocket.specs.CallPixel.{GpPixelAreaMet, GpPixelMet}
 use Rattle.groatpocket.specs.CallRecount.{RecountSeen, GpRecountMet}
 use Rattle.groatpocket.specs.CallPpm.{ReadSeen, GpWriteMet, GpReadMet}
+use Rattle.groatpocket.specs.CallSvg.{SvgSeen, GpSvgMet}
 
 -- ---- the picture's writer and reader, whole
 
@@ -135,3 +136,15 @@ one-gp-pixel-area segs first n flag backdrop x y column row old r s a b p q = sa
 pub one-gp-pixel : (ws : List ℕ) (segs : List Float) (t column row old r s px qx : ℕ)
     → GpPixelMet ws segs t column row old r px → GpPixelMet ws segs t column row old s qx → (r ≡ s) × (px ≡ qx)
 one-gp-pixel ws segs t column row old r s px qx p q = same-seen r s px qx _ p q
+
+pub one-gp-svg : (text : List ℕ) (d path : ℕ) (ps : List ℕ) (cs : List Float) (r s l₁ l₂ at₁ at₂ : ℕ) (ps₁ ps₂ : List ℕ) (cs₁ cs₂ : List Float)
+    → GpSvgMet text d path ps cs r l₁ at₁ ps₁ cs₁ → GpSvgMet text d path ps cs s l₂ at₂ ps₂ cs₂
+    → (r ≡ s) × (l₁ ≡ l₂) × (at₁ ≡ at₂) × (ps₁ ≡ ps₂) × (cs₁ ≡ cs₂)
+one-gp-svg text d path ps cs r s l₁ l₂ at₁ at₂ ps₁ ps₂ cs₁ cs₂ p q =
+    let e = p ∙ sym q in (
+      ap (λ (x : SvgSeen). x .number) e,
+      ap (λ (x : SvgSeen). x .lines) e,
+      ap (λ (x : SvgSeen). x .place) e,
+      ap (λ (x : SvgSeen). x .paths) e,
+      ap (λ (x : SvgSeen). x .coords) e,
+    )

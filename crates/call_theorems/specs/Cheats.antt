@@ -11,6 +11,8 @@ use Rattle.ppm_write.specs.declared.Written.{Written}
 use Rattle.ppm_write.specs.declared.Written.the-variants as Written
 use Rattle.ppm_read.specs.declared.Answer as Read
 use Rattle.ppm_read.specs.declared.Answer.the-variants as Reading
+use Rattle.svg.specs.declared.Answer as Svg
+use Rattle.svg.specs.declared.Answer.the-variants as Drawing
 
 -- it admits one answer, and one content of what was lent
 abbrev pub Once : (A M : Type 0) → (A → M → Type 0) → Type 0
@@ -46,3 +48,7 @@ RefusesWrite (Written.Refused n) = Unit {0}
 abbrev pub RefusesRead : Read.Answer → Type 0
 RefusesRead (Reading.Done w h) = ⊥
 RefusesRead (Reading.Refused n) = Unit {0}
+
+abbrev pub RefusesSvg : Svg.Answer → Type 0
+RefusesSvg (Drawing.Done n) = ⊥
+RefusesSvg (Drawing.Refused n at) = Unit {0}

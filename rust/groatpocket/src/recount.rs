@@ -1,7 +1,7 @@
 //! One path's lines counted again, where one gauge has moved.
 use crate::raw;
 use crate::refusal::{answered, Refused, UNTOLD};
-use std::fmt;
+use core::fmt;
 
 /// A recount that stopped: why, and the references made before.
 #[derive(Clone, Copy, Debug, PartialEq, Eq, Hash)]
@@ -18,7 +18,7 @@ impl fmt::Display for RecountStopped {
     }
 }
 
-impl std::error::Error for RecountStopped {}
+impl core::error::Error for RecountStopped {}
 
 /// Counts a path's lines again: its tiles are zeroed and the lines lent counted into them; no tile of
 /// another path changes. It works on counts and backdrops as [`count`](crate::count) leaves them, before
@@ -30,7 +30,7 @@ impl std::error::Error for RecountStopped {}
 /// use groatpocket::{count, recount, Refusal, Running, PATH_WORDS};
 /// // Path 0: a box of two by two tiles, from tile 0 on.
 /// let mut paths = [0; PATH_WORDS];
-/// (paths[2], paths[3]) = (2, 2);
+/// paths[..4].copy_from_slice(&[0, 0, 2, 2]);
 /// let (mut backdrops, mut counts, mut refs) = ([0; 4], [0; 4], [0; 8]);
 /// count(
 ///     Running::default(), 1, &[0], &[8.0, 8.0, 8.0, 24.0], &paths, &mut backdrops, &mut counts, &mut refs,

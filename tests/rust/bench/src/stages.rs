@@ -7,7 +7,7 @@ use cases::memory::one_zero;
 use cases::Rng;
 use oracle::{BumpAllocators, PathSegment, SegmentCount, Tile};
 use rules::limits::{REF, SEGMENT};
-use rules::records::path;
+use rules::records::{box_at, path};
 use std::hint::black_box;
 
 /// The sizes that show the growth.
@@ -311,15 +311,9 @@ pub fn recount(rounds: usize) {
 const PATHS: usize = 64;
 
 fn one_path(kind: Kind, n: usize, rounds: usize) -> Times {
-    let (scene, words) = (Scene::new(kind, n), rules::limits::PATH);
-    let paths: Vec<u32> = (0..PATHS)
-        .flat_map(|p| {
-            let mut path = scene.paths.clone();
-            path[FIRST] = (p * scene.tiles) as u32;
-            path
-        })
-        .collect();
-    assert_eq!(paths.len(), PATHS * words);
+    let scene = Scene::new(kind, n);
+    let of = box_at(&scene.paths, 0);
+    let paths: Vec<u32> = (0..PATHS).flat_map(|p| path(of, (p * scene.tiles) as u32)).collect();
     let path_nos: Vec<u32> = (0..PATHS as u32).flat_map(|p| vec![p; n]).collect();
     let coords = scene.coords.repeat(PATHS);
     let (tiles, lines) = (PATHS * scene.tiles, (PATHS * n) as u32);
@@ -332,8 +326,8 @@ fn one_path(kind: Kind, n: usize, rounds: usize) -> Times {
     count(&mut backs, &mut counts);
     let (mut again, mut tally) = (backs.clone(), counts.clone());
     let (mut own, mut kept_backs, mut kept_counts) = (vec![0; 2 * scene.room], vec![0; scene.tiles], vec![0; scene.tiles]);
-    let path = PATHS as u32 / 2;
-    let (line_nos, own_nos): (Vec<u32>, Vec<u32>) = ((0..n as u32).map(|l| path * n as u32 + l).collect(), vec![path; n]);
+    let moved = PATHS as u32 / 2;
+    let (line_nos, own_nos): (Vec<u32>, Vec<u32>) = ((0..n as u32).map(|l| moved * n as u32 + l).collect(), vec![moved; n]);
     let times = measured(
         1,
         rounds,
@@ -341,7 +335,7 @@ fn one_path(kind: Kind, n: usize, rounds: usize) -> Times {
         || {
             timed(|| {
                 let no = ours::recount(
-                    path,
+                    moved,
                     &line_nos,
                     &own_nos,
                     &scene.coords,
@@ -361,9 +355,6 @@ fn one_path(kind: Kind, n: usize, rounds: usize) -> Times {
     assert_eq!((backs, counts), (again, tally));
     times
 }
-
-/// The place of a path's first tile.
-const FIRST: usize = 4;
 
 /// The pixels of a tile under a list of so many fills of 10 segments each, one call a pixel, beside the tile by one call of fine.
 pub fn pixel(rounds: usize) {

@@ -115,14 +115,10 @@ fn pixel(rng: &mut Rng, kind: u32) -> Call {
 fn recount(rng: &mut Rng, kind: u32) -> Call {
     let down = bits([8.0, 4.0, 8.0, 12.0]);
     let (paths, wide) = (many_paths(rng), [80.0, 0.0, 80.0, f32::from_bits(rng.range(1, 2_000) as u32)]);
-    let boxed = |columns: u32| {
-        let mut path = vec![0; rules::limits::PATH];
-        (path[2], path[3]) = (columns, 1);
-        path
-    };
+    let boxed = |columns: u32| path([0, 0, columns, 1], 0).to_vec();
     let often = rules::limits::COUNT_MOST as usize + rng.range(0, 2) as usize;
     let (line_no, coords, paths, tiles) = match rng.below(12) {
-        0 => (0, down, paths, 0),
+        0 | 6 | 7 => (0, down, paths, 0),
         1 | 2 => (0, down.repeat(often), boxed(1), 1),
         3..=5 => (rules::limits::LINES_MOST as u32 - rng.below(2) as u32, down, boxed(1), 1),
         _ => (0, bits(wide), boxed(6), 6),

@@ -7,6 +7,7 @@ use crate::table::Table;
 use cases::memory::Lent;
 use cases::{boxes, lines, Rng};
 use rules::limits::{COUNT_MOST, LINE, LINES_MOST, PATH, PATHS_MOST};
+use rules::records::{no_tiles, paths_in};
 use rules::walk::Place;
 
 #[derive(Clone, Debug)]
@@ -71,7 +72,7 @@ fn spoil(rng: &mut Rng, case: &mut Case) {
         4 => _ = case.refs.pop(),
         5 => case.kept[0] += 1,
         6 => case.kept[1] = case.kept[1].saturating_sub(1),
-        7 | 16 => case.path = rng.pick(&[(case.old.paths.len() / PATH) as u32, u32::MAX]),
+        7 | 16 => case.path = rng.pick(&[paths_in(&case.old.paths) as u32, u32::MAX]),
         8 | 17 => {
             if let Some(l) = case.line_nos.last_mut() {
                 *l = rng.pick(&[LINES_MOST as u32, LINES_MOST as u32 - 1, u32::MAX]);
@@ -84,7 +85,7 @@ fn spoil(rng: &mut Rng, case: &mut Case) {
             }
         }
         12 | 18 => case.refs.truncate(2 * rng.below(4) as usize),
-        13 | 19 => case.old.paths = vec![0; PATH * (PATHS_MOST as usize + rng.range(0, 1) as usize)],
+        13 | 19 => case.old.paths = no_tiles(PATHS_MOST as usize + rng.range(0, 1) as usize),
         _ => boxes::spoil(rng, &mut case.old.paths, case.old.counts.len()),
     }
 }
@@ -97,7 +98,7 @@ impl Stage for Recount {
 
     fn make(&self, rng: &mut Rng) -> Case {
         let old = count::long_list(rng);
-        let path = rng.below((old.paths.len() / PATH) as u64) as u32;
+        let path = rng.below(paths_in(&old.paths) as u64) as u32;
         let (mut path_nos, mut coords) = (vec![], vec![]);
         for _ in 0..rng.range(0, 12) {
             let (family, line) = lines::any(rng, &box_of(&old.paths, path as usize));
@@ -185,7 +186,7 @@ impl Stage for Recount {
     fn show(&self, case: &Case) -> String {
         let c = case;
         if c.old.paths.len() > 200 {
-            return format!("  path {}, {} paths, {} lines", c.path, c.old.paths.len() / PATH, c.line_nos.len());
+            return format!("  path {}, {} paths, {} lines", c.path, paths_in(&c.old.paths), c.line_nos.len());
         }
         format!(
             "  path {}, line numbers {:?}, path numbers {:?}, coordinates {}\n  paths {:?}\n  the old list: path numbers {:?}, coordinates {}",
