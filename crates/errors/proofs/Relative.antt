@@ -108,8 +108,8 @@ kept-error n c C = go (below-or-not (size (n / c)) 24)
         → (kept 24 n c * 2 ^ drop 24 n c * c * 16777216 ≤ n * 16777217 + c * 16777216) × (n * 16777216 ≤ kept 24 n c * 2 ^ drop 24 n c * c * 16777218 + c * 16777216)
     go (inr h) = looser (kept 24 n c * 2 ^ drop 24 n c * c) n c (kept-high n c C h) (kept-low n c C h)
     go (inl h) =
-        subst (λ (k : ℕ). (closest n (c * 2 ^ k) * 2 ^ k * c * 16777216 ≤ n * 16777217 + c * 16777216) ×
-        (n * 16777216 ≤ closest n (c * 2 ^ k) * 2 ^ k * c * 16777218 + c * 16777216)) (sym (few (size (n / c)) h))
+        subst (λ (k : ℕ). (closest n (c * 2 ^ k) * 2 ^ k * c * 16777216 ≤ n * 16777217 + c * 16777216) × (n * 16777216 ≤ closest n (c * 2 ^ k) * 2 ^ k * c * 16777218 + c * 16777216))
+        (sym (few (size (n / c)) h))
         (subst (λ (u : ℕ). (closest n u * 1 * c * 16777216 ≤ n * 16777217 + c * 16777216) × (n * 16777216 ≤ closest n u * 1 * c * 16777218 + c * 16777216)) (sym (mul-one c))
         (subst (λ (g : ℕ). (g * c * 16777216 ≤ n * 16777217 + c * 16777216) × (n * 16777216 ≤ g * c * 16777218 + c * 16777216)) (sym (mul-one (closest n c)))
         (let e = closest-half n c C in subnormal (closest n c) n c (e .0) (e .1))))

@@ -78,7 +78,8 @@ mul-near x y n m v w b h =
     record {
       g = r .g;
       is = subst (λ (z : Float). Is z (r .g)) (sym (mul-is x y n m v w)) (r .is);
-      near = near-cancel 2 (r .g * parts) (n * m) parts parts-pos
+      near =
+          near-cancel 2 (r .g * parts) (n * m) parts parts-pos
           (near-as 2 (r .g * (parts * parts)) (n * m * parts) (r .g * parts * parts) (n * m * parts) (sym (mul-assoc (r .g) parts parts)) refl (r .near));
     }
   where

@@ -165,8 +165,8 @@ sum-low false t a b c C l k = inl (sum-plus false t a b c C (inl refl) k)
 sum-low true true a b c C l k = inr (small-round true (a + b) c 1 C (lit≤ tt) (omega (arith, minus-none b k)))
 sum-low true false a b c C l k = go (ltb a b)
   where
-    go : (t : Bool) → Plus (cond t (round binary32 false (b - a) c) (round binary32 (true && ltb b a) (a - b) c)) ⊎ Small
-        (cond t (round binary32 false (b - a) c) (round binary32 (true && ltb b a) (a - b) c)) 1
+    go : (t : Bool)
+        → Plus (cond t (round binary32 false (b - a) c) (round binary32 (true && ltb b a) (a - b) c)) ⊎ Small (cond t (round binary32 false (b - a) c) (round binary32 (true && ltb b a) (a - b) c)) 1
     go true = inl (inl (round-plus (b - a) c))
     go false = inr (small-round (ltb b a) (a - b) c 1 C (lit≤ tt) (omega arith))
 

@@ -122,8 +122,7 @@ product-most : (n R Q P : ℕ) → n ≤ R → Q * R * 16777216 ≤ P * 16777217
 product-most n R Q P h k = let l = mul-le-mul-right Q h in omega (arith, mul-comm R Q)
 
 -- what is finite among dx * (1 / r) is 1 at most
-pub rise-most : (x r : Float) → Total x r → T (finite (mul binary32 x (div binary32 one r))) → (signOf (mul binary32 x (div binary32 one r)) ≡ false) × AtMost
-    (mul binary32 x (div binary32 one r)) 1 1
+pub rise-most : (x r : Float) → Total x r → T (finite (mul binary32 x (div binary32 one r))) → (signOf (mul binary32 x (div binary32 one r)) ≡ false) × AtMost (mul binary32 x (div binary32 one r)) 1 1
 rise-most x r t f = go (t .R) (t .is-r) (t .over) (t .few)
   where
     q : Float
@@ -308,9 +307,8 @@ module _ (s0 s1 : Vec2) (h : Scaled s0) (k : Scaled s1) (ordered : lt (s1 .y) (s
   start-in =
       let t = sub binary32 (m .ytop) (s0 .y) in
       let v = add binary32 (mul binary32 (m .dy) (m .c)) (mul binary32 (m .dx) t) in
-      min-start (mul binary32 v (m .idxdy)) (mul-plus v (m .idxdy)
-      (add-plus (mul binary32 (m .dy) (m .c)) (mul binary32 (m .dx) t) (mul-plus (m .dy) (m .c) dy-plus c-plus) (mul-plus (m .dx) t (inl dx-plus) t-plus))
-      over-plus)
+      min-start (mul binary32 v (m .idxdy))
+      (mul-plus v (m .idxdy) (add-plus (mul binary32 (m .dy) (m .c)) (mul binary32 (m .dx) t) (mul-plus (m .dy) (m .c) dy-plus c-plus) (mul-plus (m .dx) t (inl dx-plus) t-plus)) over-plus)
 
   -- a
   a0-most : T (finite (mul binary32 (m .dx) (m .idxdy))) → (signOf (mul binary32 (m .dx) (m .idxdy)) ≡ false) × AtMost (mul binary32 (m .dx) (m .idxdy)) 1 1

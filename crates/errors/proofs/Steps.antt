@@ -146,5 +146,6 @@ module _ (a b : Float) (w : Bounded a b) (i : ℕ) (few : i ≤ 2 ^ 22) (f : T (
       go : (signOf a ≡ false) ⊎ AtMost a 1 4194304 → minusOf (floorZ v) ≤ 1
       go (inl s) = omega (arith, floor-plus v (add-plus (mul binary32 a (float i)) b (mul-plus a (float i) (inl s) (inl (number-plus i))) (w .start .plus)))
       go (inr s) =
-          low (add-low (mul binary32 a (float i)) b (times-small a (float i) 1 i 1 (lit≤ tt) s (number-value i (omega arith)) (λ A D h. shrink A D i h few))
-          (small-finite b 1 (w .start .most)) (w .start .plus))
+          low
+          (add-low (mul binary32 a (float i)) b (times-small a (float i) 1 i 1 (lit≤ tt) s (number-value i (omega arith)) (λ A D h. shrink A D i h few)) (small-finite b 1 (w .start .most))
+          (w .start .plus))

@@ -26,19 +26,8 @@ module _ (X Y C T cx j H : ℕ) (r : Crosses X Y C T cx j H) where
 
   pub line-most : X * ((cx + j) * H) + (Y * C + X * T) ≤ cx * ((X + Y) * H) + (X + Y) * H
   line-most =
-      omega (
-        arith,
-        spread,
-        steps,
-        mul-le-mul-left X (r .rows-most),
-        mul-add X T (j * H),
-        mul-add X Y H,
-        mul-le-mul-left Y (r .cols-most),
-        mul-add Y C X,
-        mul-add Y (cx * H) H,
-        mul-comm X Y,
-        add-mul X Y H,
-      )
+      omega
+      (arith, spread, steps, mul-le-mul-left X (r .rows-most), mul-add X T (j * H), mul-add X Y H, mul-le-mul-left Y (r .cols-most), mul-add Y C X, mul-add Y (cx * H) H, mul-comm X Y, add-mul X Y H)
 
   pub start-most : Y * C + X * T ≤ (X + Y) * H
   start-most = omega (arith, mul-le-mul-left Y (r .c-in), mul-le-mul-left X (r .t-in), add-mul X Y H)

@@ -24,11 +24,12 @@ module _ (L H : ℕ) (l : 0 < L) (X Y D1 D2 R Q : ℕ) (n1 : Near 2 (D1 * H) (X 
 
   pub rise-near : (A : ℕ) → Near 2 (A * L) (D1 * Q) → Near 14 (A * (X + Y)) (X * L)
   rise-near A n5 =
-      let a : Near 5 (A * R * H) (D1 * H * L) = near-as 5 (A * R * H) (D1 * L * H) (A * R * H) (D1 * H * L) refl (simp (mul-assoc, mul-comm, mul-left-comm))
-      (near-mul 5 (A * R) (D1 * L) H (by-reciprocal A D1 n5)) in
+      let a : Near 5 (A * R * H) (D1 * H * L) =
+      near-as 5 (A * R * H) (D1 * L * H) (A * R * H) (D1 * H * L) refl (simp (mul-assoc, mul-comm, mul-left-comm)) (near-mul 5 (A * R) (D1 * L) H (by-reciprocal A D1 n5)) in
       let b : Near 8 (A * R * H) (X * L * L) = near-trans 5 2 (A * R * H) (D1 * H * L) (X * L * L) (lit≤ tt) a (near-mul 2 (D1 * H) (X * L) L n1) in
-      let c : Near 5 ((X + Y) * L * A) (A * R * H) = near-as 5 ((X + Y) * L * A) (R * H * A) ((X + Y) * L * A) (A * R * H) refl
-      (simp (mul-assoc, mul-comm, mul-left-comm)) (near-turned 5 (R * H * A) ((X + Y) * L * A) (near-mul 5 (R * H) ((X + Y) * L) A total)) in
+      let c : Near 5 ((X + Y) * L * A) (A * R * H) =
+      near-as 5 ((X + Y) * L * A) (R * H * A) ((X + Y) * L * A) (A * R * H) refl (simp (mul-assoc, mul-comm, mul-left-comm))
+      (near-turned 5 (R * H * A) ((X + Y) * L * A) (near-mul 5 (R * H) ((X + Y) * L) A total)) in
       near-cancel 14 (A * (X + Y)) (X * L) L l
       (near-as 14 ((X + Y) * L * A) (X * L * L) (A * (X + Y) * L) (X * L * L) (mul-comm ((X + Y) * L) A ∙ sym (mul-assoc A (X + Y) L)) refl
       (near-trans 5 8 ((X + Y) * L * A) (A * R * H) (X * L * L) (lit≤ tt) c b))
@@ -36,24 +37,24 @@ module _ (L H : ℕ) (l : 0 < L) (X Y D1 D2 R Q : ℕ) (n1 : Near 2 (D1 * H) (X 
   pub start-near : (C T Cp Tp P1 P2 S J : ℕ) → Cp * H ≡ C * L → Tp * H ≡ T * L → Near 2 (P1 * L) (D2 * Cp) → Near 2 (P2 * L) (D1 * Tp) → Near 2 S (P1 + P2) → Near 2 (J * L) (S * Q)
       → Near 20 (J * (H * (X + Y))) ((Y * C + X * T) * L)
   start-near C T Cp Tp P1 P2 S J ec et n6 n7 n8 n9 =
-      let a : Near 2 ((P1 + P2) * L) (D2 * Cp + D1 * Tp) = near-as 2 (P1 * L + P2 * L) (D2 * Cp + D1 * Tp) ((P1 + P2) * L) (D2 * Cp + D1 * Tp)
-      (sym (add-mul P1 P2 L)) refl (near-sum 2 (P1 * L) (D2 * Cp) (P2 * L) (D1 * Tp) n6 n7) in
+      let a : Near 2 ((P1 + P2) * L) (D2 * Cp + D1 * Tp) =
+      near-as 2 (P1 * L + P2 * L) (D2 * Cp + D1 * Tp) ((P1 + P2) * L) (D2 * Cp + D1 * Tp) (sym (add-mul P1 P2 L)) refl (near-sum 2 (P1 * L) (D2 * Cp) (P2 * L) (D1 * Tp) n6 n7) in
       let b : Near 5 (S * L) (D2 * Cp + D1 * Tp) = near-trans 2 2 (S * L) ((P1 + P2) * L) (D2 * Cp + D1 * Tp) (lit≤ tt) (near-mul 2 S (P1 + P2) L n8) a in
       let c : Near 2 (D2 * Cp * (H * H)) (Y * C * (L * L)) = exact D2 Y Cp C n2 ec in
       let d : Near 2 (D1 * Tp * (H * H)) (X * T * (L * L)) = exact D1 X Tp T n1 et in
-      let e : Near 2 ((D2 * Cp + D1 * Tp) * (H * H)) ((Y * C + X * T) * (L * L)) = near-as 2 (D2 * Cp * (H * H) + D1 * Tp * (H * H))
-      (Y * C * (L * L) + X * T * (L * L)) ((D2 * Cp + D1 * Tp) * (H * H)) ((Y * C + X * T) * (L * L)) (sym (add-mul (D2 * Cp) (D1 * Tp) (H * H)))
+      let e : Near 2 ((D2 * Cp + D1 * Tp) * (H * H)) ((Y * C + X * T) * (L * L)) =
+      near-as 2 (D2 * Cp * (H * H) + D1 * Tp * (H * H)) (Y * C * (L * L) + X * T * (L * L)) ((D2 * Cp + D1 * Tp) * (H * H)) ((Y * C + X * T) * (L * L)) (sym (add-mul (D2 * Cp) (D1 * Tp) (H * H)))
       (sym (add-mul (Y * C) (X * T) (L * L))) (near-sum 2 (D2 * Cp * (H * H)) (Y * C * (L * L)) (D1 * Tp * (H * H)) (X * T * (L * L)) c d) in
-      let f : Near 8 (S * L * (H * H)) ((Y * C + X * T) * (L * L)) = near-trans 5 2 (S * L * (H * H)) ((D2 * Cp + D1 * Tp) * (H * H))
-      ((Y * C + X * T) * (L * L)) (lit≤ tt) (near-mul 5 (S * L) (D2 * Cp + D1 * Tp) (H * H) b) e in
-      let g : Near 14 (J * R * (H * H)) ((Y * C + X * T) * (L * L)) = near-trans 5 8 (J * R * (H * H)) (S * L * (H * H)) ((Y * C + X * T) * (L * L)) (lit≤ tt)
-      (near-mul 5 (J * R) (S * L) (H * H) (by-reciprocal J S n9)) f in
-      let h : Near 5 ((X + Y) * L * (J * H)) (J * R * (H * H)) = near-as 5 ((X + Y) * L * (J * H)) (R * H * (J * H)) ((X + Y) * L * (J * H))
-      (J * R * (H * H)) refl (simp (mul-assoc, mul-comm, mul-left-comm))
+      let f : Near 8 (S * L * (H * H)) ((Y * C + X * T) * (L * L)) =
+      near-trans 5 2 (S * L * (H * H)) ((D2 * Cp + D1 * Tp) * (H * H)) ((Y * C + X * T) * (L * L)) (lit≤ tt) (near-mul 5 (S * L) (D2 * Cp + D1 * Tp) (H * H) b) e in
+      let g : Near 14 (J * R * (H * H)) ((Y * C + X * T) * (L * L)) =
+      near-trans 5 8 (J * R * (H * H)) (S * L * (H * H)) ((Y * C + X * T) * (L * L)) (lit≤ tt) (near-mul 5 (J * R) (S * L) (H * H) (by-reciprocal J S n9)) f in
+      let h : Near 5 ((X + Y) * L * (J * H)) (J * R * (H * H)) =
+      near-as 5 ((X + Y) * L * (J * H)) (R * H * (J * H)) ((X + Y) * L * (J * H)) (J * R * (H * H)) refl (simp (mul-assoc, mul-comm, mul-left-comm))
       (near-turned 5 (R * H * (J * H)) ((X + Y) * L * (J * H)) (near-mul 5 (R * H) ((X + Y) * L) (J * H) total)) in
       near-cancel 20 (J * (H * (X + Y))) ((Y * C + X * T) * L) L l
-      (near-as 20 ((X + Y) * L * (J * H)) ((Y * C + X * T) * (L * L)) (J * (H * (X + Y)) * L) ((Y * C + X * T) * L * L)
-      (simp (mul-assoc, mul-comm, mul-left-comm)) (sym (mul-assoc (Y * C + X * T) L L))
+      (near-as 20 ((X + Y) * L * (J * H)) ((Y * C + X * T) * (L * L)) (J * (H * (X + Y)) * L) ((Y * C + X * T) * L * L) (simp (mul-assoc, mul-comm, mul-left-comm))
+      (sym (mul-assoc (Y * C + X * T) L L))
       (near-trans 5 14 ((X + Y) * L * (J * H)) (J * R * (H * H)) ((Y * C + X * T) * (L * L)) (lit≤ tt) h g))
     where
       exact : (D Z Ep E : ℕ) → Near 2 (D * H) (Z * L) → Ep * H ≡ E * L → Near 2 (D * Ep * (H * H)) (Z * E * (L * L))

@@ -6,28 +6,7 @@ use mathlib.Core.Path.{_≡_, refl, sym, ap, _∙_, subst}
 use mathlib.Core.Bool.{Bool, true, false, not, cond, _&&_, true≢false, false≢true}
 use mathlib.Core.Logic.{_⊎_, inl, inr}
 use Prim.Native.Nat.{ℕ, zero, suc, _+_, _-_, _*_, _/_, _%_, _^_, _≤_, _<_}
-use native.Mathlib.Nat.{
-  le-trans,
-  le-of-eq,
-  le-of-lt,
-  le-antisymm,
-  lt-of-lt-of-le,
-  lt-of-le-of-lt,
-  lt-irrefl,
-  mul-one,
-  one-mul,
-  mul-assoc,
-  mul-comm,
-  mul-right-comm,
-  mul-pos,
-  mul-sub,
-  mul-le-mul-right,
-  mul-lt-mul-of-pos-right,
-  le-of-mul-le-mul-right,
-  lt-of-mul-lt-mul-right,
-  div-add-mod',
-  mod-lt,
-}
+use native.Mathlib.Nat.{le-trans, le-of-eq, le-of-lt, le-antisymm, lt-of-lt-of-le, lt-of-le-of-lt, lt-irrefl, mul-one, one-mul, mul-assoc, mul-comm, mul-right-comm, mul-pos, mul-sub, mul-le-mul-right, mul-lt-mul-of-pos-right, le-of-mul-le-mul-right, lt-of-mul-lt-mul-right, div-add-mod', mod-lt}
 use native.Mathlib.Omega.{arith}
 use lib.Dec.{T, ltb, lit<, lit≤}
 use lib.IntN.{ℤ, pos, negsuc, _-ℤ_, natAbs}
@@ -121,8 +100,8 @@ one-scaled (fin true m e) h f = absurd (none (m * up e) (down e) (down-pos e) (l
 one-scaled (fin false m e) h f =
     let l : 1 * 16 * down e ≤ m * up e * 1 = ltb-false (m * up e * 1) (1 * 16 * down e) (not-lt-of-le tileSide (fin false m e) h) in
     let w = round binary32 false (m * up e * (1 * 1)) (down e * 16) in
-    subst (λ (y : Float). le y w ≡ true) one-round (is-true (le (round binary32 false 1 1) w)
-    (round-mono binary32 1 1 (m * up e * (1 * 1)) (down e * 16) (lit< tt) (mul-pos (down-pos e) (lit< tt)) (omega arith)))
+    subst (λ (y : Float). le y w ≡ true) one-round
+    (is-true (le (round binary32 false 1 1) w) (round-mono binary32 1 1 (m * up e * (1 * 1)) (down e * 16) (lit< tt) (mul-pos (down-pos e) (lit< tt)) (omega arith)))
   where
     one-round : round binary32 false 1 1 ≡ fin false 1 (pos 0)
     one-round = unfold round in refl
@@ -384,8 +363,8 @@ span-at a b n m h k v w n-in m-in =
         go (inr g) =
             let e : n ≡ m = le-antisymm l g in
             rw (value-lt a b n m 8388608 C v w ∙ le-ltb n m g, value-lt b a m n 8388608 C w v ∙ le-ltb m n l)
-            (apart-whole a a (up-div m 8388608) (n / 8388608) (ceil-at a n 8388608 C v ∙ ap (λ (z : ℕ). whole false (up-div z 8388608)) e)
-            (floor-at a n 8388608 C v) (omega arith) (omega (arith, far .tiles)))
+            (apart-whole a a (up-div m 8388608) (n / 8388608) (ceil-at a n 8388608 C v ∙ ap (λ (z : ℕ). whole false (up-div z 8388608)) e) (floor-at a n 8388608 C v) (omega arith)
+            (omega (arith, far .tiles)))
 
     falling : m ≤ n → IsWhole (spanAt a b) (pos (up-div n 8388608 - m / 8388608))
     falling l = go (below-or-not m n)
@@ -397,5 +376,5 @@ span-at a b n m h k v w n-in m-in =
         go (inr g) =
             let e : n ≡ m = le-antisymm g l in
             rw (value-lt a b n m 8388608 C v w ∙ le-ltb n m l, value-lt b a m n 8388608 C w v ∙ le-ltb m n g)
-            (apart-whole a a (up-div n 8388608) (m / 8388608) (ceil-at a n 8388608 C v)
-            (floor-at a n 8388608 C v ∙ ap (λ (z : ℕ). whole false (z / 8388608)) e) (omega arith) (omega (arith, far .tiles)))
+            (apart-whole a a (up-div n 8388608) (m / 8388608) (ceil-at a n 8388608 C v) (floor-at a n 8388608 C v ∙ ap (λ (z : ℕ). whole false (z / 8388608)) e) (omega arith)
+            (omega (arith, far .tiles)))

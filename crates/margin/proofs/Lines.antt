@@ -77,31 +77,34 @@ module _ (s : Float) (g : Grid s) (f : T (lib.Ieee.fits binary32 s)) where
       let v = mul binary32 s (unit false) in
       let q = g .S / 8388608 in
       let i = times-unit false s (g .S) 8388608 f (g .is) in
-      let j : HasValue (floorOf v) false (q * 8388608) 8388608 = subst (λ (y : Float). HasValue y false (q * 8388608) 8388608)
-      (sym (floor-at v (g .S) 8388608 (lit< tt) i)) (value-scale (whole false q) false q 8388608 (whole-value false q (omega (arith, n-few)))) in
+      let j : HasValue (floorOf v) false (q * 8388608) 8388608 =
+      subst (λ (y : Float). HasValue y false (q * 8388608) 8388608) (sym (floor-at v (g .S) 8388608 (lit< tt) i))
+      (value-scale (whole false q) false q 8388608 (whole-value false q (omega (arith, n-few)))) in
       exactly (sub binary32 v (floorOf v)) (g .S - q * 8388608) (value-less v (floorOf v) (g .S) (q * 8388608) 8388608 (lit< tt) i j (omega arith)) (omega arith)
   col-value false =
       let v = mul binary32 s (unit true) in
       let u = up-div (g .S) 8388608 in
       let i = times-unit true s (g .S) 8388608 f (g .is) in
-      let j : HasValue (floorOf v) true (u * 8388608) 8388608 = subst (λ (y : Float). HasValue y true (u * 8388608) 8388608)
-      (sym (floor-turned v (g .S) 8388608 (lit< tt) i)) (value-scale (whole true u) true u 8388608 (whole-value true u (omega (arith, n-few)))) in
+      let j : HasValue (floorOf v) true (u * 8388608) 8388608 =
+      subst (λ (y : Float). HasValue y true (u * 8388608) 8388608) (sym (floor-turned v (g .S) 8388608 (lit< tt) i))
+      (value-scale (whole true u) true u 8388608 (whole-value true u (omega (arith, n-few)))) in
       exactly (sub binary32 v (floorOf v)) (u * 8388608 - g .S) (value-turned v (floorOf v) (g .S) (u * 8388608) 8388608 (lit< tt) i j (omega arith)) (omega arith)
 
   pub row-value : (same : Bool) → HasValue (sub binary32 (cond same (ceilOf s) (add binary32 (floorOf s) one)) s) false (rowPart same (g .S)) 8388608
   unfolding ofBits
   row-value true =
       let u = up-div (g .S) 8388608 in
-      let j : HasValue (ceilOf s) false (u * 8388608) 8388608 = subst (λ (y : Float). HasValue y false (u * 8388608) 8388608)
-      (sym (ceil-at s (g .S) 8388608 (lit< tt) (g .is))) (value-scale (whole false u) false u 8388608 (whole-value false u (omega (arith, n-few)))) in
+      let j : HasValue (ceilOf s) false (u * 8388608) 8388608 =
+      subst (λ (y : Float). HasValue y false (u * 8388608) 8388608) (sym (ceil-at s (g .S) 8388608 (lit< tt) (g .is)))
+      (value-scale (whole false u) false u 8388608 (whole-value false u (omega (arith, n-few)))) in
       exactly (sub binary32 (ceilOf s) s) (u * 8388608 - g .S) (value-less (ceilOf s) s (u * 8388608) (g .S) 8388608 (lit< tt) j (g .is) (omega arith)) (omega arith)
   row-value false =
       let q = g .S / 8388608 in
-      let e : add binary32 (floorOf s) (unit false) ≡ whole false (q + 1) = ap (λ (y : Float). add binary32 y (unit false))
-      (floor-at s (g .S) 8388608 (lit< tt) (g .is)) ∙ one-more false (whole false q) q (whole-value false q (omega (arith, n-few))) in
+      let e : add binary32 (floorOf s) (unit false) ≡ whole false (q + 1) =
+      ap (λ (y : Float). add binary32 y (unit false)) (floor-at s (g .S) 8388608 (lit< tt) (g .is)) ∙ one-more false (whole false q) q (whole-value false q (omega (arith, n-few))) in
       let y = add binary32 (floorOf s) (unit false) in
-      let j : HasValue y false ((q + 1) * 8388608) 8388608 = subst (λ (y : Float). HasValue y false ((q + 1) * 8388608) 8388608) (sym e)
-      (value-scale (whole false (q + 1)) false (q + 1) 8388608 (whole-value false (q + 1) (omega (arith, n-few)))) in
+      let j : HasValue y false ((q + 1) * 8388608) 8388608 =
+      subst (λ (y : Float). HasValue y false ((q + 1) * 8388608) 8388608) (sym e) (value-scale (whole false (q + 1)) false (q + 1) 8388608 (whole-value false (q + 1) (omega (arith, n-few)))) in
       exactly (sub binary32 y s) ((q + 1) * 8388608 - g .S) (value-less y s ((q + 1) * 8388608) (g .S) 8388608 (lit< tt) j (g .is) (omega arith)) (omega arith)
 
 -- ---- what is 1 at most has parts at most
@@ -109,8 +112,8 @@ parts-most : (x : Float) (n : ℕ) → Is x n → Small x 1 → n ≤ parts
 parts-most nan n v h = absurd v
 parts-most (inf s) n v h = absurd v
 parts-most (fin s m e) n v h =
-    le-of-mul-le-mul-right (le-trans (le-of-eq (sym (v .1))) (le-trans (mul-le-mul-right parts h)
-    (le-of-eq (ap (λ (z : ℕ). z * parts) (native.Mathlib.Nat.one-mul (down e)) ∙ mul-comm (down e) parts)))) (down-pos e)
+    le-of-mul-le-mul-right
+    (le-trans (le-of-eq (sym (v .1))) (le-trans (mul-le-mul-right parts h) (le-of-eq (ap (λ (z : ℕ). z * parts) (native.Mathlib.Nat.one-mul (down e)) ∙ mul-comm (down e) parts)))) (down-pos e)
 
 number-value : (i : ℕ) → i ≤ 2 ^ 24 → HasValue (float i) false i 1
 unfolding ofInt
@@ -131,8 +134,8 @@ none-sum = refl
 
 top : (A M X L : ℕ) → 0 < M → X ≤ M → A * M * 16777216 ≤ X * L * 16777230 → A * 16777216 ≤ 16777232 * L
 top A M X L p x h =
-    le-of-mul-le-mul-right {k = M} (last (A * 16777216 * M) (A * M * 16777216) (X * L) (M * L) (16777232 * L * M) (L * M) (mul-right-comm A 16777216 M) h
-    (mul-le-mul-right L x) (mul-comm M L) (mul-assoc 16777232 L M)) p
+    le-of-mul-le-mul-right {k = M}
+    (last (A * 16777216 * M) (A * M * 16777216) (X * L) (M * L) (16777232 * L * M) (L * M) (mul-right-comm A 16777216 M) h (mul-le-mul-right L x) (mul-comm M L) (mul-assoc 16777232 L M)) p
   where
     last : (a b xl ml c lm : ℕ) → a ≡ b → b ≤ xl * 16777230 → xl ≤ ml → ml ≡ lm → c ≡ 16777232 * lm → a ≤ c
     last a b xl ml c lm e f g h k = omega arith
@@ -287,21 +290,20 @@ module _ (s0 s1 : Vec2) (h : Scaled s0) (k : Scaled s1) (ordered : lt (s1 .y) (s
 
     kept-by : (i : ℕ) → i ≤ cx + j → Moved (aOf m (countsOf s0 s1) (bOf m s0)) (su .A) → Kept (add binary32 (mul binary32 (aOf m (countsOf s0 s1) (bOf m s0)) (float i)) (bOf m s0)) i cx (j + 1)
     kept-by i l (inl o) =
-        z-over (aOf m (countsOf s0 s1) (bOf m s0)) (bOf m s0) (float i) (su .A) (su .B) (cx + j) cx (j + 1) i (su .is-b)
-        (number-value i (omega (arith, steps-few))) b-in a-in steps-few l (omega arith) o
-        (last-most parts (X + Y) 8388608 X (Y * C + X * R) (cx + j) cx wide steps-few (omega arith) (start-most X Y C R cx j 8388608 crosses)
-        (line-least X Y C R cx j 8388608 crosses) (line-most X Y C R cx j 8388608 crosses) (su .A) (su .B) (su .a-near) (su .b-near) (o .K) (o .high))
-        (last-least parts (X + Y) 8388608 X (Y * C + X * R) (cx + j) cx wide steps-few (omega arith) (start-most X Y C R cx j 8388608 crosses)
-        (line-least X Y C R cx j 8388608 crosses) (line-most X Y C R cx j 8388608 crosses) (su .A) (su .B) (su .a-near) (su .b-near) (o .K) (o .low))
+        z-over (aOf m (countsOf s0 s1) (bOf m s0)) (bOf m s0) (float i) (su .A) (su .B) (cx + j) cx (j + 1) i (su .is-b) (number-value i (omega (arith, steps-few))) b-in a-in steps-few l
+        (omega arith) o
+        (last-most parts (X + Y) 8388608 X (Y * C + X * R) (cx + j) cx wide steps-few (omega arith) (start-most X Y C R cx j 8388608 crosses) (line-least X Y C R cx j 8388608 crosses)
+        (line-most X Y C R cx j 8388608 crosses) (su .A) (su .B) (su .a-near) (su .b-near) (o .K) (o .high))
+        (last-least parts (X + Y) 8388608 X (Y * C + X * R) (cx + j) cx wide steps-few (omega arith) (start-most X Y C R cx j 8388608 crosses) (line-least X Y C R cx j 8388608 crosses)
+        (line-most X Y C R cx j 8388608 crosses) (su .A) (su .B) (su .a-near) (su .b-near) (o .K) (o .low))
       where
         wide : 0 < (X + Y) * 8388608
         wide = mul-pos long (lit< tt)
     kept-by i l (inr o) =
-        z-under (aOf m (countsOf s0 s1) (bOf m s0)) (bOf m s0) (float i) (su .A) (su .B) (cx + j) cx (j + 1) i (su .is-b)
-        (number-value i (omega (arith, steps-few))) b-in a-in steps-few l (omega arith) o
-        (low-least parts (X + Y) 8388608 X (Y * C + X * R) (cx + j) cx (mul-pos long (lit< tt)) steps-few (omega arith)
-        (start-most X Y C R cx j 8388608 crosses) (line-least X Y C R cx j 8388608 crosses) (line-most X Y C R cx j 8388608 crosses) (su .A) (su .B)
-        (su .a-near) (su .b-near) (o .K) (o .few) (o .most))
+        z-under (aOf m (countsOf s0 s1) (bOf m s0)) (bOf m s0) (float i) (su .A) (su .B) (cx + j) cx (j + 1) i (su .is-b) (number-value i (omega (arith, steps-few))) b-in a-in steps-few l
+        (omega arith) o
+        (low-least parts (X + Y) 8388608 X (Y * C + X * R) (cx + j) cx (mul-pos long (lit< tt)) steps-few (omega arith) (start-most X Y C R cx j 8388608 crosses)
+        (line-least X Y C R cx j 8388608 crosses) (line-most X Y C R cx j 8388608 crosses) (su .A) (su .B) (su .a-near) (su .b-near) (o .K) (o .few) (o .most))
 
   pub line-kept : flatOf s0 s1 ≡ false → (i : ℕ) → i < countsOf s0 s1 .count → Kept (add binary32 (mul binary32 (aOf m (countsOf s0 s1) (bOf m s0)) (float i)) (bOf m s0)) i cx (j + 1)
   line-kept e i l = kept-by (some e) i (omega (arith, count-is)) (moved (some e))

@@ -130,8 +130,8 @@ fall-col F n u q0 cx q1 lo hi e a b c d f g h =
     let m = neg-minus n in
     (omega arith, omega arith, omega arith)
 
-row-at : (F n : ℤ) (i q j u1 q1 lo hi : ℕ) → F ≡ pos q → plusOf n ≤ i + 1 → i + minusOf n ≤ plusOf n + (j + 1) → j ≡ u1 - q - 1 → lo + 1 ≤ q → q + 2 ≤ hi →
-    u1 ≤ q1 + 1 → q1 + 2 ≤ hi → In (F +ℤ pos i -ℤ n) lo hi
+row-at : (F n : ℤ) (i q j u1 q1 lo hi : ℕ) → F ≡ pos q → plusOf n ≤ i + 1 → i + minusOf n ≤ plusOf n + (j + 1) → j ≡ u1 - q - 1 → lo + 1 ≤ q → q + 2 ≤ hi → u1 ≤ q1 + 1 → q1 + 2 ≤ hi
+    → In (F +ℤ pos i -ℤ n) lo hi
 row-at F n i q j u1 q1 lo hi e a b c d f g h =
     let s = sum-parts (F +ℤ pos i) (negℤ n) in
     let t = sum-parts F (pos i) in

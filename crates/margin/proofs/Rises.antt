@@ -5,22 +5,7 @@ use mathlib.Core.Path.{_≡_, refl, sym, ap, _∙_, subst}
 use mathlib.Core.Bool.{Bool, true, false, not, cond, _&&_, true≢false, false≢true}
 use mathlib.Core.Logic.{_⊎_, inl, inr}
 use Prim.Native.Nat.{ℕ, zero, suc, _+_, _-_, _*_, _/_, _^_, _≤_, _<_}
-use native.Mathlib.Nat.{
-  le-trans,
-  le-of-eq,
-  le-of-lt,
-  mul-one,
-  mul-assoc,
-  mul-comm,
-  mul-right-comm,
-  add-mul,
-  mul-pos,
-  mul-le-mul,
-  mul-le-mul-right,
-  le-of-mul-le-mul-right,
-  div-mul-le-self,
-  lt-div-mul-add,
-}
+use native.Mathlib.Nat.{le-trans, le-of-eq, le-of-lt, mul-one, mul-assoc, mul-comm, mul-right-comm, add-mul, mul-pos, mul-le-mul, mul-le-mul-right, le-of-mul-le-mul-right, div-mul-le-self, lt-div-mul-add}
 use native.Mathlib.Omega.{arith}
 use lib.Dec.{T, ltb, lit<, lit≤}
 use lib.IntN.{ℤ, pos, negsuc, negℤ}
@@ -140,13 +125,9 @@ corrected x A v b true s = by s (14073749 * 2 ^ 103) epsilon-is epsilon-few
     down-by E e f (inl h) =
         let r = rounding true (E - A) (omega (arith, twice A E parts f b)) in
         let o = turned A E (r .g) parts f h big (r .high) in
-        inr (record {
-          K = r .g;
-          is = subst (λ (y : Float). HasValue y true (r .g) parts)
-              (sym (value-minus x (fin false 14073749 (negsuc 45)) A E parts parts-pos v e h)) (r .is);
-          few = o .0;
-          most = o .1;
-        })
+        let i : HasValue (sub binary32 x (fin false 14073749 (negsuc 45))) true (r .g) parts =
+        subst (λ (y : Float). HasValue y true (r .g) parts) (sym (value-minus x (fin false 14073749 (negsuc 45)) A E parts parts-pos v e h)) (r .is) in
+        inr (record { K = r .g; is = i; few = o .0; most = o .1 })
     down-by E e f (inr h) =
         let r = rounding false (A - E) (omega (arith, twice A E parts f b)) in
         let o = less A E (r .g) parts (weak-e E parts f) (weak-b A parts b) h small-big (r .high) (r .low) in
@@ -170,8 +151,8 @@ product-at s (fin t a e) (fin true b d) K i v w = absurd (true≢false (w .0))
 product-at s (fin t a e) (fin false b d) K i v w =
     ap (λ (u : Bool). round binary32 u (a * up e * (b * up d)) (down e * down d)) (plain t ∙ v .0)
     ∙ round-same binary32 s (a * up e * (b * up d)) (down e * down d) (K * i) parts (mul-pos (down-pos e) (down-pos d)) parts-pos
-    (mul-right-comm (a * up e) (b * up d) parts ∙ ap (λ (z : ℕ). z * (b * up d)) (v .1) ∙ ap (λ (z : ℕ). K * down e * z)
-    (sym (mul-one (b * up d)) ∙ w .1) ∙ native.Mathlib.Nat.mul-mul-mul-comm K (down e) i (down d))
+    (mul-right-comm (a * up e) (b * up d) parts ∙ ap (λ (z : ℕ). z * (b * up d)) (v .1) ∙ ap (λ (z : ℕ). K * down e * z) (sym (mul-one (b * up d)) ∙ w .1)
+    ∙ native.Mathlib.Nat.mul-mul-mul-comm K (down e) i (down d))
   where
     plain : (t : Bool) → unlike t false ≡ t
     plain true = refl
@@ -193,8 +174,8 @@ floor-under (fin false m e) g h b = absurd (false≢true (h .0))
 floor-under (fin true m e) g h b =
     let u = up-div (m * up e) (down e) in
     let l : m * up e ≤ 1 * down e =
-    le-of-mul-le-mul-right (le-trans (le-of-eq (h .1)) (le-trans (mul-le-mul-right (down e) b)
-    (le-of-eq (mul-comm parts (down e) ∙ ap (λ (z : ℕ). z * parts) (sym (native.Mathlib.Nat.one-mul (down e))))))) parts-pos in
+    le-of-mul-le-mul-right
+    (le-trans (le-of-eq (h .1)) (le-trans (mul-le-mul-right (down e) b) (le-of-eq (mul-comm parts (down e) ∙ ap (λ (z : ℕ). z * parts) (sym (native.Mathlib.Nat.one-mul (down e))))))) parts-pos in
     let m1 = up-most (m * up e) (down e) 1 (down-pos e) l in
     (omega (arith, neg-plus (pos u)), omega (arith, neg-minus (pos u)))
 
@@ -218,8 +199,8 @@ from-held v k i cx cy f e h =
     let m : minusOf (floorZ v) ≡ 0 = ap minusOf e in
     record { real = f; least = omega arith; cols = omega (arith, h .cols); up = omega (arith, h .up); down = omega (arith, h .down) }
 
-module _ (a b f : Float) (A B n cx cy i : ℕ) (wb : Is b B) (wf : HasValue f false i 1) (b-in : B ≤ parts) (a-in : A * 16777216 ≤ 16777232 * parts)
-    (few : n ≤ 16384) (i-in : i ≤ n) (count : n + 1 ≡ cx + cy) where
+module _ (a b f : Float) (A B n cx cy i : ℕ) (wb : Is b B) (wf : HasValue f false i 1) (b-in : B ≤ parts) (a-in : A * 16777216 ≤ 16777232 * parts) (few : n ≤ 16384) (i-in : i ≤ n)
+    (count : n + 1 ≡ cx + cy) where
   abbrev v : Float
   v = add binary32 (mul binary32 a f) b
 
@@ -290,8 +271,8 @@ module _ (a b f : Float) (A B n cx cy i : ℕ) (wb : Is b B) (wf : HasValue f fa
           let w = rounding false (B - p .g) (room B (p .g) parts b-in) in
           let iw : Is v (w .g) = subst (λ (y : Float). Is y (w .g)) (sym (mixed .0 h)) (w .is) in
           let W = w .g in
-          at W iw (held-low parts n cx cy i (W / parts) W parts-pos few i-in count (div-mul-le-self W parts) (lt-div-mul-add parts-pos) K B (p .g)
-          (o .most) b-in h lo (p .high) (w .high) (w .low) small-big)
+          at W iw
+          (held-low parts n cx cy i (W / parts) W parts-pos few i-in count (div-mul-le-self W parts) (lt-div-mul-add parts-pos) K B (p .g) (o .most) b-in h lo (p .high) (w .high) (w .low) small-big)
         where
           room : (B P L : ℕ) → B ≤ L → B - P ≤ 65536 * L
           room B P L h = omega arith

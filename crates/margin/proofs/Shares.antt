@@ -4,24 +4,7 @@ use mathlib.Core.Path.{_≡_, refl, sym, ap, _∙_, subst}
 use mathlib.Core.Bool.{Bool, true, false, not}
 use mathlib.Core.Logic.{_⊎_, inl, inr}
 use Prim.Native.Nat.{ℕ, zero, suc, _+_, _-_, _*_, _/_, _^_, _≤_, _<_}
-use native.Mathlib.Nat.{
-  le-refl,
-  le-trans,
-  le-of-eq,
-  mul-one,
-  one-mul,
-  zero-mul,
-  mul-assoc,
-  mul-comm,
-  mul-left-comm,
-  mul-right-comm,
-  add-mul,
-  mul-pos,
-  mul-le-mul,
-  mul-le-mul-left,
-  mul-le-mul-right,
-  le-of-mul-le-mul-right,
-}
+use native.Mathlib.Nat.{le-refl, le-trans, le-of-eq, mul-one, one-mul, zero-mul, mul-assoc, mul-comm, mul-left-comm, mul-right-comm, add-mul, mul-pos, mul-le-mul, mul-le-mul-left, mul-le-mul-right, le-of-mul-le-mul-right}
 use native.Mathlib.Omega.{arith}
 use lib.Dec.{T, lit<, lit≤}
 use lib.IntN.{ℤ, pos, negsuc}
@@ -137,8 +120,9 @@ product-of x y X C s p =
     let E = p .E in
     let b : D * E ≤ D * parts = mul-le-mul-left D (p .most) in
     let k = large (s .clear) (p .clear) in
-    let m = mul-near x y D E (s .is) (p .is) (le-trans b (le-trans (mul-le-mul-right parts (s .few))
-    (le-trans (le-of-eq (mul-assoc 8192 parts parts)) (mul-le-mul-right (parts * parts) (lit≤ tt))))) (weaker k) in
+    let m =
+    mul-near x y D E (s .is) (p .is) (le-trans b (le-trans (mul-le-mul-right parts (s .few)) (le-trans (le-of-eq (mul-assoc 8192 parts parts)) (mul-le-mul-right (parts * parts) (lit≤ tt)))))
+    (weaker k) in
     record {
       P = m .g;
       is = m .is;
@@ -196,7 +180,8 @@ recip-of x y X Y s t h =
     let n : Near 2 R (D1 + D2) = near-as 2 (R * 1) (D1 + D2) R (D1 + D2) (mul-one R) refl (c .near) in
     let l : parts ≤ 16777216 * R = least-sum (X * parts) (Y * parts) parts D1 D2 R (s .near .low) (t .near .low) (n .low) (one-side X Y h) in
     let m : R ≤ 32768 * parts = most-sum D1 D2 R parts (s .few) (t .few) (n .high) in
-    let q = over-near (add binary32 x y) R (c .is) (above R parts parts-pos l) l
+    let q =
+    over-near (add binary32 x y) R (c .is) (above R parts parts-pos l) l
     (le-trans (mul-le-mul-left 8388608 m) (le-trans (le-of-eq (sym (mul-assoc 8388608 32768 parts))) (mul-le-mul-right parts (le-trans (lit≤ tt) big)))) in
     record {
       R = R;
@@ -208,8 +193,8 @@ recip-of x y X Y s t h =
       most = double (q .g * R) (parts * parts) (q .near .high);
       least =
           le-of-mul-le-mul-right
-          (le-trans (least-recip (parts * parts) (q .g * R) (q .g * parts) (q .near .low)
-          (le-trans (mul-le-mul-left (q .g) m) (le-of-eq (mul-left-comm (q .g) 32768 parts)))) (le-of-eq (sym (mul-assoc 65536 (q .g) parts))))
+          (le-trans (least-recip (parts * parts) (q .g * R) (q .g * parts) (q .near .low) (le-trans (mul-le-mul-left (q .g) m) (le-of-eq (mul-left-comm (q .g) 32768 parts))))
+          (le-of-eq (sym (mul-assoc 65536 (q .g) parts))))
           parts-pos;
     }
   where
@@ -247,9 +232,9 @@ module _ (x y : Float) (D1 D2 : ℕ) (r : Recip x y D1 D2) where
 
   share-of : (s : Float) (S : ℕ) → Is s S → S ≤ 8 * r .R → Clear 549755813888 S → Share (mul binary32 s (div binary32 one (add binary32 x y))) S
   share-of s S v b k =
-      let m = mul-near s (div binary32 one (add binary32 x y)) S (r .Q) v (r .is)
-      (le-trans (mul-le-mul-right (r .Q) b) (most (r .R * r .Q) (r .Q * r .R) (8 * r .R * r .Q) (parts * parts) (mul-comm (r .R) (r .Q))
-      (mul-assoc 8 (r .R) (r .Q)) (r .most))) (wide k) in
+      let m =
+      mul-near s (div binary32 one (add binary32 x y)) S (r .Q) v (r .is)
+      (le-trans (mul-le-mul-right (r .Q) b) (most (r .R * r .Q) (r .Q * r .R) (8 * r .R * r .Q) (parts * parts) (mul-comm (r .R) (r .Q)) (mul-assoc 8 (r .R) (r .Q)) (r .most))) (wide k) in
       record { J = m .g; is = m .is; near = m .near }
     where
       most : (RQ QR E LL : ℕ) → RQ ≡ QR → E ≡ 8 * RQ → QR ≤ 2 * LL → E ≤ 16777216 * LL
@@ -294,7 +279,8 @@ min-near v J W Z i n z = go (min-picks v oneMinusUlp)
     small : (U : ℕ) → U * 16777216 ≡ 16777215 * parts → U ≤ J → Near 20 (U * W) (Z * parts)
     small U e h = record {
       high = le-trans (mul-le-mul-right 16777216 (mul-le-mul-right W h)) (n .high);
-      low = cut-low (U * W) (Z * parts) (parts * W) (mul-right-comm U W 16777216 ∙ ap (λ (y : ℕ). y * W) e ∙ mul-assoc 16777215 parts W)
+      low =
+          cut-low (U * W) (Z * parts) (parts * W) (mul-right-comm U W 16777216 ∙ ap (λ (y : ℕ). y * W) e ∙ mul-assoc 16777215 parts W)
           (le-trans (mul-le-mul-right parts z) (le-of-eq (mul-comm W parts)));
     }
 
@@ -350,8 +336,8 @@ module _ (dx dy c t : Float) (X Y C T : ℕ) (sx : Side dx X) (sy : Side dy Y) (
 
   s-close : Close (add binary32 (mul binary32 dy c) (mul binary32 dx t)) 1 (p1 .P + p2 .P)
   s-close =
-      add-near (mul binary32 dy c) (mul binary32 dx t) (p1 .P) (p2 .P) (p1 .is) (p2 .is)
-      (few (p1 .P) (p2 .P) (sx .D) (sy .D) parts (p1 .most) (p2 .most) (sx .few) (sy .few)) (weaker (sums (p1 .clear) (p2 .clear)))
+      add-near (mul binary32 dy c) (mul binary32 dx t) (p1 .P) (p2 .P) (p1 .is) (p2 .is) (few (p1 .P) (p2 .P) (sx .D) (sy .D) parts (p1 .most) (p2 .most) (sx .few) (sy .few))
+      (weaker (sums (p1 .clear) (p2 .clear)))
 
   s-near : Near 2 (s-close .g) (p1 .P + p2 .P)
   s-near = near-as 2 (s-close .g * 1) (p1 .P + p2 .P) (s-close .g) (p1 .P + p2 .P) (mul-one (s-close .g)) refl (s-close .near)
@@ -377,8 +363,8 @@ module _ (dx dy c t : Float) (X Y C T : ℕ) (sx : Side dx X) (sy : Side dy Y) (
   cut : Cut (minOf (mul binary32 (add binary32 (mul binary32 dy c) (mul binary32 dx t)) q) oneMinusUlp) (8388608 * (X + Y)) ((Y * C + X * T) * parts)
   cut =
       min-near (mul binary32 (add binary32 (mul binary32 dy c) (mul binary32 dx t)) q) (b-share .J) (8388608 * (X + Y)) (Y * C + X * T) (b-share .is)
-      (start-near parts 8388608 parts-pos X Y (sx .D) (sy .D) (r .R) (r .Q) (sx .near) (sy .near) (r .sum-near) (r .near) C T (pc .E) (pt .E) (p1 .P) (p2 .P)
-      (s-close .g) (b-share .J) (pc .same) (pt .same) (p1 .near) (p2 .near) s-near (b-share .near))
+      (start-near parts 8388608 parts-pos X Y (sx .D) (sy .D) (r .R) (r .Q) (sx .near) (sy .near) (r .sum-near) (r .near) C T (pc .E) (pt .E) (p1 .P) (p2 .P) (s-close .g) (b-share .J) (pc .same)
+      (pt .same) (p1 .near) (p2 .near) s-near (b-share .near))
       start-in
 
   pub set-up : SetUp (mul binary32 dx q) (minOf (mul binary32 (add binary32 (mul binary32 dy c) (mul binary32 dx t)) q) oneMinusUlp) X Y C T

@@ -424,6 +424,12 @@ fn margined(rng: &mut Rng) -> Input {
     Input { b: [least(0), least(1), last(0), last(1)], line }
 }
 
+/// Such lines alone.
+pub fn margins_alone(n: u64, seed: u64) -> bool {
+    println!("lines at 16 and more in boxes with a margin, none refused with 10: {}", spaced(margins(n, seed)));
+    true
+}
+
 /// How many of n such lines are walked; none of their steps may be outside.
 fn margins(n: u64, seed: u64) -> u64 {
     let mut rng = Rng::of_case(seed, 79);
