@@ -122,7 +122,8 @@ product-most : (n R Q P : ℕ) → n ≤ R → Q * R * 16777216 ≤ P * 16777217
 product-most n R Q P h k = let l = mul-le-mul-right Q h in omega (arith, mul-comm R Q)
 
 -- what is finite among dx * (1 / r) is 1 at most
-pub rise-most : (x r : Float) → Total x r → T (finite (mul binary32 x (div binary32 one r))) → (signOf (mul binary32 x (div binary32 one r)) ≡ false) × AtMost (mul binary32 x (div binary32 one r)) 1 1
+pub rise-most : (x r : Float) → Total x r → T (finite (mul binary32 x (div binary32 one r))) → (signOf (mul binary32 x (div binary32 one r)) ≡ false) × AtMost
+    (mul binary32 x (div binary32 one r)) 1 1
 rise-most x r t f = go (t .R) (t .is-r) (t .over) (t .few)
   where
     q : Float

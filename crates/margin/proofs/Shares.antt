@@ -4,7 +4,24 @@ use mathlib.Core.Path.{_≡_, refl, sym, ap, _∙_, subst}
 use mathlib.Core.Bool.{Bool, true, false, not}
 use mathlib.Core.Logic.{_⊎_, inl, inr}
 use Prim.Native.Nat.{ℕ, zero, suc, _+_, _-_, _*_, _/_, _^_, _≤_, _<_}
-use native.Mathlib.Nat.{le-refl, le-trans, le-of-eq, mul-one, one-mul, zero-mul, mul-assoc, mul-comm, mul-left-comm, mul-right-comm, add-mul, mul-pos, mul-le-mul, mul-le-mul-left, mul-le-mul-right, le-of-mul-le-mul-right}
+use native.Mathlib.Nat.{
+  le-refl,
+  le-trans,
+  le-of-eq,
+  mul-one,
+  one-mul,
+  zero-mul,
+  mul-assoc,
+  mul-comm,
+  mul-left-comm,
+  mul-right-comm,
+  add-mul,
+  mul-pos,
+  mul-le-mul,
+  mul-le-mul-left,
+  mul-le-mul-right,
+  le-of-mul-le-mul-right,
+}
 use native.Mathlib.Omega.{arith}
 use lib.Dec.{T, lit<, lit≤}
 use lib.IntN.{ℤ, pos, negsuc}

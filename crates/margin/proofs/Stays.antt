@@ -5,7 +5,22 @@
 --     held, held-low, held-below   z of step i
 use mathlib.Core.Path.{_≡_, refl, sym, ap, _∙_, subst}
 use Prim.Native.Nat.{ℕ, _+_, _-_, _*_, _/_, _^_, _≤_, _<_}
-use native.Mathlib.Nat.{le-trans, le-of-eq, mul-assoc, mul-comm, mul-left-comm, mul-right-comm, mul-add, add-mul, one-mul, mul-pos, mul-le-mul-left, mul-le-mul-right, le-of-mul-le-mul-right, lt-of-mul-lt-mul-right}
+use native.Mathlib.Nat.{
+  le-trans,
+  le-of-eq,
+  mul-assoc,
+  mul-comm,
+  mul-left-comm,
+  mul-right-comm,
+  mul-add,
+  add-mul,
+  one-mul,
+  mul-pos,
+  mul-le-mul-left,
+  mul-le-mul-right,
+  le-of-mul-le-mul-right,
+  lt-of-mul-lt-mul-right,
+}
 use native.Mathlib.Omega.{arith}
 use Rattle.errors.proofs.Near.{Near}
 
@@ -82,7 +97,8 @@ module _ (L M H X Z n cx : ℕ) (p : 0 < M * H) (few : n ≤ 16384) (x-in : X �
     last-most K h =
         let a = over-h (K * M * n) (X * L * n) (L * M) (by-steps (K * M) (X * L) (L * M) n few (rise-high (K * M) (A * M) (X * L) (L * M) (times K h) (a-near .high) x-by)) in
         let b = start-high (B * (H * M)) (Z * L) (L * (M * H)) (b-near .high) z-by in
-        let w = core-high ((K * n + B) * (M * H)) ((cx * L + L) * (M * H)) (L * (M * H)) (L * M * H) (K * M * n * H) (B * (H * M)) (X * L * n * H) (Z * L) (spread K B) a b most-by (mul-assoc L M H) in
+        let w = core-high ((K * n + B) * (M * H)) ((cx * L + L) * (M * H)) (L * (M * H)) (L * M * H) (K * M * n * H) (B * (H * M)) (X * L * n * H) (Z * L)
+        (spread K B) a b most-by (mul-assoc L M H) in
         le-of-mul-le-mul-right {k = M * H} (over (K * n + B) (cx * L + L) L w) p
 
     pub last-least : (K : ℕ) → A * 2097152 ≤ K * 2097152 + L → cx * L * 8 ≤ (K * n + B) * 8 + L
@@ -126,7 +142,8 @@ module _ (L M H X Z n cx : ℕ) (p : 0 < M * H) (few : n ≤ 16384) (x-in : X �
 pub sum-high : (KI P B W L : ℕ) → P * 16777216 ≤ KI * 16777217 + 16777216 → W * 16777216 ≤ (P + B) * 16777217 + 16777216 → KI ≤ 32768 * L → B ≤ L → 1099511627776 ≤ L → W * 64 ≤ (KI + B) * 64 + L
 sum-high KI P B W L p w k b l = omega arith
 
-pub sum-low : (KI P B W L : ℕ) → KI * 16777216 ≤ P * 16777218 + 16777216 → (P + B) * 16777216 ≤ W * 16777218 + 16777216 → W ≤ 32772 * L → P ≤ 32772 * L → 1099511627776 ≤ L → (KI + B) * 64 ≤ W * 64 + L
+pub sum-low : (KI P B W L : ℕ) → KI * 16777216 ≤ P * 16777218 + 16777216 → (P + B) * 16777216 ≤ W * 16777218 + 16777216 → W ≤ 32772 * L → P ≤ 32772 * L →
+    1099511627776 ≤ L → (KI + B) * 64 ≤ W * 64 + L
 sum-low KI P B W L p w k b l = omega arith
 
 -- ---- z of step i: the numbers of whole parts in W
