@@ -63,14 +63,16 @@ returns c =
     let s = c .before .before .before .before .before .before .before .before .before .before in
     known (now (s .args .segments)) (now (s .args .area)) (now (s .args .rgba)) (s .args .act) _ _ _
     (c .before .before .before .before .before .before .act .given .1) (
-      by-fill (now (c .before .before .before .before .before .before .before .before .before .before .args .segments)) (now (c .before .before .before .before .before .before .before .before .before .before .args .area)) (now (c .before .before .before .before .before .before .before .before .before .before .args .rgba)) _ _ _ _ _ (c .before .before .before .before .before .before .before .before .before .before .pre .1) (toZ-ofZ w32 _ (record {
-        sfits =
-            let s = c .before .before .before .before .before .before .before .before .before .before in
-            let t = c .before .before .before .before in
-            t .signed .ok;
-      }) ∙ t .signed .ensures) (c .before .before .fill-path .ensures),
-      fill-paints (now (s .args .segments)) (now (s .args .area))
-          (now (s .args .rgba)) _ _ _,
+      by-fill (now (c .before .before .before .before .before .before .before .before .before .before .args .segments))
+          (now (c .before .before .before .before .before .before .before .before .before .before .args .area))
+          (now (c .before .before .before .before .before .before .before .before .before .before .args .rgba)) _ _ _ _ _
+          (c .before .before .before .before .before .before .before .before .before .before .pre .1)
+          (toZ-ofZ w32 _ (record { sfits = c .before .before .before .before .signed .ok }) ∙ c .before .before .before .before .signed .ensures)
+          (c .before .before .fill-path .ensures),
+      fill-paints (now
+          (c .before .before .before .before .before .before .before .before .before .before .args .segments))
+          (now (c .before .before .before .before .before .before .before .before .before .before .args .area))
+          (now (c .before .before .before .before .before .before .before .before .before .before .args .rgba)) _ _ _,
     )
 
 same-length-2 : tie.Need-same-length-2
