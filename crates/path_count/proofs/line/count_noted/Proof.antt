@@ -14,7 +14,7 @@ use Rattle.panel.specs.Widths.{refWords}
 use Rattle.walk.specs.Lent.{walkAt}
 use Rattle.walk.specs.declared.kinds.Walked.{Walked}
 use Rattle.walk.specs.declared.kinds.Walked.the-variants.{Refused as WalkRefused, Skipped, Line}
-use Rattle.walk.proofs.setup.Walked.{the-type}
+use Rattle.walk.proofs.kinds.Walked.{the-type}
 use Rattle.acts.specs.Acts.{St, stOf}
 use Rattle.path_count.specs.Count.{lineRan}
 use Rattle.path_count.proofs.Lines.{on-tiles, walkable, line-over, line-walked}
