@@ -1,0 +1,2 @@
+-- Whether our lines make a reference. Definitions only.
+pub mod Made
