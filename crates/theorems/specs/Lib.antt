@@ -10,6 +10,7 @@
 --     Refusing   the ground of each refusal
 --     Commands   the same of a screen tile's commands
 --     StepNumbers   why step numbers stay exact in a float
+--     Margins    a line whose path's box has a margin around it
 pub mod Drawn
 pub mod Events
 pub mod Refs
@@ -21,3 +22,4 @@ pub mod Promises
 pub mod Refusing
 pub mod Commands
 pub mod StepNumbers
+pub mod Margins
