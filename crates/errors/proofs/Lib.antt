@@ -7,13 +7,13 @@
 --     Rounds     the error bound for sums, products and quotients
 --     Floors     a floor isn't above its number, a ceiling not below
 --     Slopes     the walk's a and b
---     Steps      the walk's z: from -1 to two more than the step's number
+--     ZBounds    the walk's z: from -1 to two more than the step's number
 pub mod Relative
 pub mod Sizes
 pub mod Signs
 pub mod Parts
 pub mod Floors
 pub mod Slopes
-pub mod Steps
+pub mod ZBounds
 pub mod Near
 pub mod Rounds

@@ -27,14 +27,14 @@ named Stage.Tile = refl
 pub stage-once : (a b : Stage) → stageNo a ≡ stageNo b → a ≡ b
 stage-once a b e = sym (named a) ∙ ap stageAt e ∙ named b
 
-pub paper-once : (a b : Framed) → paperOf a ≡ paperOf b → a ≡ b
-paper-once (Done r) (Done s) e =
+pub framed-once : (a b : Framed) → paperOf a ≡ paperOf b → a ≡ b
+framed-once (Done r) (Done s) e =
     let p : r .lines ≡ s .lines = cc in
     let q : r .refs ≡ s .refs = cc in
     λ i. Done (record { lines = p i; refs = q i })
-paper-once (Done r) (Refused at n item s) e = let z : _≡_ {A = ℕ} 0 1 = cc in absurd (omega arith)
-paper-once (Refused at n item r) (Done s) e = let z : _≡_ {A = ℕ} 0 1 = cc in absurd (omega arith)
-paper-once (Refused at n item r) (Refused by m other s) e =
+framed-once (Done r) (Refused at n item s) e = let z : _≡_ {A = ℕ} 0 1 = cc in absurd (omega arith)
+framed-once (Refused at n item r) (Done s) e = let z : _≡_ {A = ℕ} 0 1 = cc in absurd (omega arith)
+framed-once (Refused at n item r) (Refused by m other s) e =
     let a : n ≡ m = cc in
     let t : stageNo at ≡ stageNo by = cc in
     let b : item ≡ other = cc in

@@ -54,14 +54,14 @@ line-unwalked nos coords paths room l k bs cs rs made (Line w b) t h e u f = abs
 -- ---- a batch
 
 -- the paper has one answer only
-pub paper-once : (a b : Counted) → paperOf a ≡ paperOf b → a ≡ b
-paper-once (Done r) (Done s) e =
+pub counted-once : (a b : Counted) → paperOf a ≡ paperOf b → a ≡ b
+counted-once (Done r) (Done s) e =
     let p : r .lines ≡ s .lines = cc in
     let q : r .refs ≡ s .refs = cc in
     ap₂ (λ (l n : ℕ). Done (runningOf l n)) p q
-paper-once (Done r) (Refused n i s) e = let z : _≡_ {A = ℕ} 0 1 = cc in absurd (omega arith)
-paper-once (Refused m h r) (Done s) e = let z : _≡_ {A = ℕ} 0 1 = cc in absurd (omega arith)
-paper-once (Refused m h r) (Refused n i s) e =
+counted-once (Done r) (Refused n i s) e = let z : _≡_ {A = ℕ} 0 1 = cc in absurd (omega arith)
+counted-once (Refused m h r) (Done s) e = let z : _≡_ {A = ℕ} 0 1 = cc in absurd (omega arith)
+counted-once (Refused m h r) (Refused n i s) e =
     let k : m ≡ n = cc in
     let j : h ≡ i = cc in
     let p : r .lines ≡ s .lines = cc in

@@ -9,11 +9,11 @@ use Rattle.recount.specs.Recount.{Out, outOf, paperOf, RecountMet}
 use Rattle.recount.specs.declared.kinds.Recounted.{Recounted}
 use Rattle.recount.specs.declared.kinds.Recounted.the-variants.{Done, Refused}
 
-paper-once : (a b : Recounted) → paperOf a ≡ paperOf b → a ≡ b
-paper-once (Done m) (Done n) e = let q : m ≡ n = cc in ap Done q
-paper-once (Done m) (Refused n i k) e = let z : _≡_ {A = ℕ} 0 1 = cc in absurd (omega arith)
-paper-once (Refused n i k) (Done m) e = let z : _≡_ {A = ℕ} 0 1 = cc in absurd (omega arith)
-paper-once (Refused n i k) (Refused m j l) e =
+recounted-once : (a b : Recounted) → paperOf a ≡ paperOf b → a ≡ b
+recounted-once (Done m) (Done n) e = let q : m ≡ n = cc in ap Done q
+recounted-once (Done m) (Refused n i k) e = let z : _≡_ {A = ℕ} 0 1 = cc in absurd (omega arith)
+recounted-once (Refused n i k) (Done m) e = let z : _≡_ {A = ℕ} 0 1 = cc in absurd (omega arith)
+recounted-once (Refused n i k) (Refused m j l) e =
     let x : n ≡ m = cc in
     let y : i ≡ j = cc in
     let z : k ≡ l = cc in
@@ -25,7 +25,7 @@ pub one-recount : (p : ℕ) (lineNos nos : List ℕ) (coords : List Float) (path
     → (r ≡ q) × (bs₁ ≡ bs₂) × (cs₁ ≡ cs₂) × (rs₁ ≡ rs₂) × (kb₁ ≡ kb₂) × (kc₁ ≡ kc₂)
 one-recount p lineNos nos coords paths bs cs rs kb kc r bs₁ cs₁ rs₁ kb₁ kc₁ d q bs₂ cs₂ rs₂ kb₂ kc₂ e =
     let same : outOf r bs₁ cs₁ rs₁ kb₁ kc₁ ≡ outOf q bs₂ cs₂ rs₂ kb₂ kc₂ = d ∙ sym e in (
-      paper-once r q (ap (λ (o : Out). o .paper) same),
+      recounted-once r q (ap (λ (o : Out). o .paper) same),
       ap (λ (o : Out). o .backs) same,
       ap (λ (o : Out). o .counts) same,
       ap (λ (o : Out). o .refs) same,

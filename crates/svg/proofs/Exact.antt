@@ -32,17 +32,17 @@ use Rattle.svg.proofs.Answers as A
 use Rattle.svg.proofs.Readings.{text-lines}
 
 -- ---- one answer only
-paper-once : (a b : Answer) → paperOf a ≡ paperOf b → a ≡ b
-paper-once (Done n) (Done m) e = let k : n ≡ m = cc in ap Done k
-paper-once (Done n) (Refused m at) e = let z : _≡_ {A = ℕ} 2 3 = ap length e in absurd (omega arith)
-paper-once (Refused m at) (Done n) e = let z : _≡_ {A = ℕ} 3 2 = ap length e in absurd (omega arith)
-paper-once (Refused n at) (Refused m to) e = let k : n ≡ m = cc in let l : at ≡ to = cc in rw (k, l)
+drawn-once : (a b : Answer) → paperOf a ≡ paperOf b → a ≡ b
+drawn-once (Done n) (Done m) e = let k : n ≡ m = cc in ap Done k
+drawn-once (Done n) (Refused m at) e = let z : _≡_ {A = ℕ} 2 3 = ap length e in absurd (omega arith)
+drawn-once (Refused m at) (Done n) e = let z : _≡_ {A = ℕ} 3 2 = ap length e in absurd (omega arith)
+drawn-once (Refused n at) (Refused m to) e = let k : n ≡ m = cc in let l : at ≡ to = cc in rw (k, l)
 
 pub one-lines : (text : List ℕ) (d path : ℕ) (ps : List ℕ) (cs : List Float) (a b : Answer) (ps₁ ps₂ : List ℕ) (cs₁ cs₂ : List Float)
     → LinesMet text d path ps cs a ps₁ cs₁ → LinesMet text d path ps cs b ps₂ cs₂ → (a ≡ b) × (ps₁ ≡ ps₂) × (cs₁ ≡ cs₂)
 one-lines text d path ps cs a b ps₁ ps₂ cs₁ cs₂ p q =
     let e = p ∙ sym q in
-    (paper-once a b (ap (λ (l : Left). l .answer) e), ap (λ (l : Left). l .paths) e, ap (λ (l : Left). l .coords) e)
+    (drawn-once a b (ap (λ (l : Left). l .answer) e), ap (λ (l : Left). l .paths) e, ap (λ (l : Left). l .coords) e)
 
 -- ---- two beginnings of one text: they are the same, or one goes on with the character that follows the other
 data Split (p r p′ r′ : List ℕ) : Type 0 where

@@ -242,7 +242,7 @@ module _ (nos : List ℕ) (coords : List Float) (paths : List ℕ) (backs : List
 out-once : (f g : Framed) (bs bs′ : List ℤ) (ts ts′ ks ks′ rs rs′ : List ℕ) (sg sg′ : List Float) → outOf f bs ts ks rs sg ≡ outOf g bs′ ts′ ks′ rs′ sg′
     → (f ≡ g) × (bs ≡ bs′) × (ts ≡ ts′) × (ks ≡ ks′) × (rs ≡ rs′) × (sg ≡ sg′)
 out-once f g bs bs′ ts ts′ ks ks′ rs rs′ sg sg′ e = (
-  Framed.paper-once f g (ap (λ (o : Out). o .paper) e),
+  Framed.framed-once f g (ap (λ (o : Out). o .paper) e),
   ap (λ (o : Out). o .backs) e,
   ap (λ (o : Out). o .tiles) e,
   ap (λ (o : Out). o .tally) e,

@@ -18,7 +18,8 @@ use Rattle.panel.specs.declared.kinds.Answer.{Answer}
 use Rattle.panel.proofs.KindLaws.{paper-once}
 use Rattle.path_count.specs.Count.{Told, toldOf, paperOf, madeOf, counted}
 use Rattle.path_count.specs.declared.kinds.Counted.{Counted}
-use Rattle.path_count.specs.declared.kinds.Counted.the-variants.{Done, Refused}
+use Rattle.path_count.proofs.Batches.{counted-once}
+use Rattle.path_count.specs.declared.kinds.Counted.the-variants.{Done}
 use Rattle.acts.specs.Acts.{stOf}
 use Rattle.backdrop.proofs.CellLaws as Backdrop
 use Rattle.hand_out.proofs.HandLaws as HandOut
@@ -30,22 +31,6 @@ use Rattle.theorems.specs.Promises.{CountMet, BackdropMet, HandMet, Tile
 use Rattle.theorems.specs.Starred.{floatsOf}
 use Rattle.theorems.proofs.SumLaws.{startOf, through, sums}
 use Rattle.theorems.proofs.StarredTable.{computing}
-
--- ---- counting's answer is fixed by its paper
-
-counted-once : (a b : Counted) → paperOf a ≡ paperOf b → a ≡ b
-counted-once (Done r) (Done s) e =
-    let p : r .lines ≡ s .lines = cc in
-    let q : r .refs ≡ s .refs = cc in
-    λ i. Done (record { lines = p i; refs = q i })
-counted-once (Done r) (Refused n j s) e = let z : _≡_ {A = ℕ} 0 1 = cc in absurd (omega arith)
-counted-once (Refused n j r) (Done s) e = let z : _≡_ {A = ℕ} 0 1 = cc in absurd (omega arith)
-counted-once (Refused n j r) (Refused m k s) e =
-    let a : n ≡ m = cc in
-    let b : j ≡ k = cc in
-    let p : r .lines ≡ s .lines = cc in
-    let q : r .refs ≡ s .refs = cc in
-    λ i. Refused (a i) (b i) (record { lines = p i; refs = q i })
 
 -- ---- one answer only, of each public call
 

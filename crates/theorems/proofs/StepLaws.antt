@@ -28,7 +28,7 @@ use Rattle.walk.specs.declared.step.Step.the-variants.{Tile, Refused}
 use Rattle.walk.proofs.Walks.{line-starts, line-few}
 use Rattle.walk.proofs.StepTiles.{z-fits, zWhole, z-whole, turned-whole}
 use Rattle.walk.proofs.Tiles.{step-told, step-exact}
-use Rattle.errors.proofs.Steps.{Bounded, line-bounded, z-least, z-most}
+use Rattle.errors.proofs.ZBounds.{Bounded, line-bounded, z-least, z-most}
 use Rattle.theorems.specs.StepNumbers.{ExactAt, ExactTile, FewAt, ExactLine}
 
 -- the coordinate's limit in tiles
