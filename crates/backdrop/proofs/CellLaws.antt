@@ -108,24 +108,24 @@ row-held p x y t b g h =
 module _ (ws : List ℕ) where
   -- a tile in no path's range keeps what it held, refused or not
   pub paths-elsewhere : (n k : ℕ) (bs : List ℤ) (t : ℕ) → ((j : ℕ) → k ≤ j → j < k + n → Holds (pathAt ws j) t → ⊥)
-      → backdropAt (sumPaths ws n k bs .tiles) t ≡ backdropAt bs t
+      → backdropAt (sumPaths ws n k bs .backs) t ≡ backdropAt bs t
   unfolding sumPaths
   paths-elsewhere zero k bs t h = refl
   paths-elsewhere (suc n) k bs t h =
       go (pathFits (pathAt ws k) bs) (paths-elsewhere n (suc k) (pathSums (pathAt ws k) bs) t (λ j p q. h j (omega arith) (omega arith)))
     where
-      go : (b : Bool) → backdropAt (sumPaths ws n (suc k) (pathSums (pathAt ws k) bs) .tiles) t ≡ backdropAt (pathSums (pathAt ws k) bs) t
-          → backdropAt (cond b (sumPaths ws n (suc k) (pathSums (pathAt ws k) bs)) (outOf (Refused sumOver k) bs) .tiles) t ≡ backdropAt bs t
+      go : (b : Bool) → backdropAt (sumPaths ws n (suc k) (pathSums (pathAt ws k) bs) .backs) t ≡ backdropAt (pathSums (pathAt ws k) bs) t
+          → backdropAt (cond b (sumPaths ws n (suc k) (pathSums (pathAt ws k) bs)) (outOf (Refused sumOver k) bs) .backs) t ≡ backdropAt bs t
       go true ih = ih ∙ path-elsewhere (pathAt ws k) bs t (h k (omega arith) (omega arith))
       go false ih = refl
 
-  pub paths-length : (n k : ℕ) (bs : List ℤ) → length (sumPaths ws n k bs .tiles) ≡ length bs
+  pub paths-length : (n k : ℕ) (bs : List ℤ) → length (sumPaths ws n k bs .backs) ≡ length bs
   unfolding sumPaths
   paths-length zero k bs = refl
   paths-length (suc n) k bs = go (pathFits (pathAt ws k) bs) (paths-length n (suc k) (pathSums (pathAt ws k) bs))
     where
-      go : (b : Bool) → length (sumPaths ws n (suc k) (pathSums (pathAt ws k) bs) .tiles) ≡ length (pathSums (pathAt ws k) bs)
-          → length (cond b (sumPaths ws n (suc k) (pathSums (pathAt ws k) bs)) (outOf (Refused sumOver k) bs) .tiles) ≡ length bs
+      go : (b : Bool) → length (sumPaths ws n (suc k) (pathSums (pathAt ws k) bs) .backs) ≡ length (pathSums (pathAt ws k) bs)
+          → length (cond b (sumPaths ws n (suc k) (pathSums (pathAt ws k) bs)) (outOf (Refused sumOver k) bs) .backs) ≡ length bs
       go true ih = ih ∙ length-path (pathAt ws k) bs
       go false ih = refl
 
@@ -156,7 +156,7 @@ module _ (ws : List ℕ) where
       go true d (yes s) ih =
           let t : ℕ = tileOf pj x y in
           let own = own-tile pj x y b in
-          ap (λ (o : Out). backdropAt (o .tiles) t) (sym d)
+          ap (λ (o : Out). backdropAt (o .backs) t) (sym d)
           ∙ paths-elsewhere n (suc k) bs′ t (λ i g h held. omega (arith, apart j i (omega arith) (omega arith), own .1, held .0))
           ∙ ap (λ (i : ℕ). backdropAt (pathSums (pathAt ws i) bs) t) s
           ∙ path-cell pj bs x y b (fits j q)
@@ -182,22 +182,22 @@ module _ (ws : List ℕ) (bs : List ℤ) where
       go (Refused n i) q d = let z : Refused n i ≡ Done = paper-once (Refused n i) Done (ap (λ (o : Out). o .paper) d) in let w : _≡_ {A = ℕ} 0 1 = cc in absurd (omega arith)
 
   -- any call: a tile in no path's range keeps what it held, and there are as many tiles as there were
-  pub backdrop-gap : (t : ℕ) → ((k : ℕ) → k < pathCount ws → Holds (pathAt ws k) t → ⊥) → backdropAt (backdropOf ws bs .tiles) t ≡ backdropAt bs t
+  pub backdrop-gap : (t : ℕ) → ((k : ℕ) → k < pathCount ws → Holds (pathAt ws k) t → ⊥) → backdropAt (backdropOf ws bs .backs) t ≡ backdropAt bs t
   unfolding backdropOf
   backdrop-gap t h = go (pathsAnswer ws (length bs))
     where
-      go : (a : Answer) → backdropAt (onDone a bs (sumPaths ws (pathCount ws) 0 bs) .tiles) t ≡ backdropAt bs t
+      go : (a : Answer) → backdropAt (onDone a bs (sumPaths ws (pathCount ws) 0 bs) .backs) t ≡ backdropAt bs t
       go Done = paths-elsewhere ws (pathCount ws) 0 bs t (λ k p q. h k (omega arith))
       go (Refused n i) = refl
 
-  pub backdrop-length : length (backdropOf ws bs .tiles) ≡ length bs
+  pub backdrop-length : length (backdropOf ws bs .backs) ≡ length bs
   unfolding backdropOf
   backdrop-length = go (pathsAnswer ws (length bs))
     where
-      go : (a : Answer) → length (onDone a bs (sumPaths ws (pathCount ws) 0 bs) .tiles) ≡ length bs
+      go : (a : Answer) → length (onDone a bs (sumPaths ws (pathCount ws) 0 bs) .backs) ≡ length bs
       go Done = paths-length ws (pathCount ws) 0 bs
       go (Refused n i) = refl
 
 -- the promise admits one answer only, and one list
 pub out-once : (a b : Answer) (cs ds : List ℤ) → outOf a cs ≡ outOf b ds → (a ≡ b) × (cs ≡ ds)
-out-once a b cs ds e = (paper-once a b (ap (λ (o : Out). o .paper) e), ap (λ (o : Out). o .tiles) e)
+out-once a b cs ds e = (paper-once a b (ap (λ (o : Out). o .paper) e), ap (λ (o : Out). o .backs) e)

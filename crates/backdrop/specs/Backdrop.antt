@@ -46,10 +46,10 @@ pathFits p bs = rowsFit (heightOf p) (widthOf p) (p .first) bs
 -- what a call leaves: its answer on paper, and the backdrops
 pub record Out : Type 0 where
   pub paper : List ℕ
-  pub tiles : List ℤ
+  pub backs : List ℤ
 
 abbrev pub outOf : Answer → List ℤ → Out
-outOf a bs = record { paper = paperOf a; tiles = bs }
+outOf a bs = record { paper = paperOf a; backs = bs }
 
 -- n paths from path k on: it stops before the first whose sums leave i32, and that path is as it was
 unfoldable pub sumPaths : List ℕ → ℕ → ℕ → List ℤ → Out

@@ -51,77 +51,77 @@ use Rattle.call_theorems.proofs.ExactCount.{met-line, count-exact}
 use Rattle.call_theorems.proofs.ExactStages.{backdrop-call-exact}
 use Rattle.call_theorems.proofs.ExactTile.{tile-call-exact}
 
-module _ (nos : List ℕ) (coords : List Float) (paths : List ℕ) (backs : List ℤ) (tiles tally refs : List ℕ) (segs : List Float) where
+module _ (nos : List ℕ) (coords : List Float) (paths : List ℕ) (backs : List ℤ) (stored tally refs : List ℕ) (segs : List Float) where
   abbrev checksAre : Answer
-  checksAre = checksOf nos coords paths backs tiles tally refs segs
+  checksAre = checksOf nos coords paths backs stored tally refs segs
 
   abbrev first : List Check
-  first = frameRow nos coords backs tiles tally refs segs
+  first = frameRow nos coords backs stored tally refs segs
 
   -- the first checks
-  checks-pass : (checksAre ≡ Answer.Done) ↔ Passes first paths (length tiles)
+  checks-pass : (checksAre ≡ Answer.Done) ↔ Passes first paths (length stored)
   unfolding checksOf
   checks-pass = (
-    (λ e. unless-done (firstNo first) 0 (pathsAnswer paths (length tiles)) e),
-    (λ h. unless-fine (firstNo first) 0 (pathsAnswer paths (length tiles)) (h .0) ∙ h .1),
+    (λ e. unless-done (firstNo first) 0 (pathsAnswer paths (length stored)) e),
+    (λ h. unless-fine (firstNo first) 0 (pathsAnswer paths (length stored)) (h .0) ∙ h .1),
   )
 
-  checks-why : (n item : ℕ) → (checksAre ≡ Answer.Refused n item) ↔ FirstWhy first paths (length tiles) n item
+  checks-why : (n item : ℕ) → (checksAre ≡ Answer.Refused n item) ↔ FirstWhy first paths (length stored) n item
   unfolding checksOf
   checks-why n item = (why (firstNo first) refl, halts)
     where
-      why : (v : Verdict) → firstNo first ≡ v → unless v 0 (pathsAnswer paths (length tiles)) ≡ Answer.Refused n item → FirstWhy first paths (length tiles) n item
-      why Fine q e = inr (q, paths-exact paths (length tiles) n item .0 e)
+      why : (v : Verdict) → firstNo first ≡ v → unless v 0 (pathsAnswer paths (length stored)) ≡ Answer.Refused n item → FirstWhy first paths (length stored) n item
+      why Fine q e = inr (q, paths-exact paths (length stored) n item .0 e)
       why (Against m) q e =
           let w : m ≡ n = cc in
           let z : 0 ≡ item = cc in
           inl (row-exact n first .0 (q ∙ ap Against w), sym z)
 
-      halts : FirstWhy first paths (length tiles) n item → unless (firstNo first) 0 (pathsAnswer paths (length tiles)) ≡ Answer.Refused n item
+      halts : FirstWhy first paths (length stored) n item → unless (firstNo first) 0 (pathsAnswer paths (length stored)) ≡ Answer.Refused n item
       halts (inl h) = rw (row-exact n first .1 (h .0), h .1)
-      halts (inr h) = rw (h .0) (paths-exact paths (length tiles) n item .1 (h .1))
+      halts (inr h) = rw (h .0) (paths-exact paths (length stored) n item .1 (h .1))
 
   abbrev CountsTo : Counted → List ℤ → List ℕ → List ℕ → Type 0
-  CountsTo x bs cs rs = CountMet (runningOf 0 0) (length nos) nos coords paths (replicate (length tiles) (pos 0)) (zeros (length tiles)) refs x bs cs rs
+  CountsTo x bs cs rs = CountMet (runningOf 0 0) (length nos) nos coords paths (replicate (length stored) (pos 0)) (zeros (length stored)) refs x bs cs rs
 
-  counts-exact : (x : Counted) (bs : List ℤ) (cs rs : List ℕ) → CountsTo x bs cs rs ↔ FrameCounts nos coords paths (length tiles) refs x bs cs rs
-  counts-exact x bs cs rs = count-exact (runningOf 0 0) (length nos) nos coords paths (replicate (length tiles) (pos 0)) (zeros (length tiles)) refs x bs cs rs
+  counts-exact : (x : Counted) (bs : List ℤ) (cs rs : List ℕ) → CountsTo x bs cs rs ↔ FrameCounts nos coords paths (length stored) refs x bs cs rs
+  counts-exact x bs cs rs = count-exact (runningOf 0 0) (length nos) nos coords paths (replicate (length stored) (pos 0)) (zeros (length stored)) refs x bs cs rs
 
   module _ (ok : checksAre ≡ Answer.Done) where
     -- once the checks pass, the frame is what is drawn
-    is-drawn : drawnOf nos coords paths backs tiles tally refs segs ≡ frameOf nos coords paths backs tiles tally refs segs
+    is-drawn : drawnOf nos coords paths backs stored tally refs segs ≡ frameOf nos coords paths backs stored tally refs segs
     unfolding frameOf
     is-drawn = rw ok
 
     drawn-line : (n : ℕ) (s : Running) (bs : List ℤ) (cs rs : List ℕ) → CountsTo (Counted.Refused n (s .lines) s) bs cs rs
-        → outOf (Framed.Refused Stage.Count n (s .lines) s) bs cs tally rs segs ≡ drawnOf nos coords paths backs tiles tally refs segs
+        → outOf (Framed.Refused Stage.Count n (s .lines) s) bs cs tally rs segs ≡ drawnOf nos coords paths backs stored tally refs segs
     unfolding drawnOf
-    drawn-line n s bs cs rs m = rw (paired nos coords paths backs tiles tally refs segs ok, ← m)
+    drawn-line n s bs cs rs m = rw (paired nos coords paths backs stored tally refs segs ok, ← m)
 
     drawn-placed : (s : Running) (marks : List ℤ) (cs rs : List ℕ) → CountsTo (Counted.Done s) marks cs rs
-        → placedOf s nos coords paths marks cs tally rs segs ≡ drawnOf nos coords paths backs tiles tally refs segs
+        → placedOf s nos coords paths marks cs tally rs segs ≡ drawnOf nos coords paths backs stored tally refs segs
     unfolding drawnOf
-    drawn-placed s marks cs rs m = rw (paired nos coords paths backs tiles tally refs segs ok, ← m)
+    drawn-placed s marks cs rs m = rw (paired nos coords paths backs stored tally refs segs ok, ← m)
 
     -- all lines counted: their counts are as many as the tally's words, and sum to the references
     module _ (s : Running) (marks : List ℤ) (cs rs : List ℕ) (m : CountsTo (Counted.Done s) marks cs rs) where
-      counted-all : AllCounted (length nos) nos coords paths (length tiles) refs marks cs rs (s .refs)
+      counted-all : AllCounted (length nos) nos coords paths (length stored) refs marks cs rs (s .refs)
       counted-all =
-          let w = through 0 (length nos) (s .lines) nos coords paths (startOf (length tiles) refs) (stOf marks cs rs (s .refs)) (sym m) in
+          let w = through 0 (length nos) (s .lines) nos coords paths (startOf (length stored) refs) (stOf marks cs rs (s .refs)) (sym m) in
           rw (w .1) at (sym m)
 
       total : sum cs ≡ s .refs
-      total = sums (length nos) nos coords paths (length tiles) refs marks cs rs (s .refs) counted-all .total
+      total = sums (length nos) nos coords paths (length stored) refs marks cs rs (s .refs) counted-all .total
 
       long : length cs ≡ length tally
-      long = counts-long (length nos) nos coords paths (length tiles) refs marks cs rs (s .refs) counted-all ∙ kept nos coords paths backs tiles tally refs segs ok
+      long = counts-long (length nos) nos coords paths (length stored) refs marks cs rs (s .refs) counted-all ∙ kept nos coords paths backs stored tally refs segs ok
 
       few : length cs ≤ mostTiles
       few =
           omega (
             arith,
-            counts-long (length nos) nos coords paths (length tiles) refs marks cs rs (s .refs) counted-all,
-            checked paths (length tiles) (row nos coords paths backs tiles tally refs segs ok .1) .tiled,
+            counts-long (length nos) nos coords paths (length stored) refs marks cs rs (s .refs) counted-all,
+            checked paths (length stored) (row nos coords paths backs stored tally refs segs ok .1) .tiled,
           )
 
       hand-over : slotsOf (length segs) < s .refs → HandOut.handOutOf (slotsOf (length segs)) cs tally ≡ HandOut.outOf (Answer.Refused noRoom 0) cs tally
@@ -165,44 +165,44 @@ module _ (nos : List ℕ) (coords : List Float) (paths : List ℕ) (backs : List
 
   module _ (x : Framed) (bs : List ℤ) (ts ks rs : List ℕ) (sg : List Float) where
     abbrev Met : Framed → List ℤ → List ℕ → List ℕ → List ℕ → List Float → Type 0
-    Met f a b c d e = FrameMet nos coords paths backs tiles tally refs segs f a b c d e
+    Met f a b c d e = FrameMet nos coords paths backs stored tally refs segs f a b c d e
 
     abbrev Ended : Type 0
-    Ended = FrameWay nos coords paths backs tiles tally refs segs x bs ts ks rs sg
+    Ended = FrameWay nos coords paths backs stored tally refs segs x bs ts ks rs sg
 
-    told : (n item : ℕ) → checksAre ≡ Answer.Refused n item → Met (Framed.Refused Stage.Lent n item (runningOf 0 0)) backs tiles tally refs segs
+    told : (n item : ℕ) → checksAre ≡ Answer.Refused n item → Met (Framed.Refused Stage.Lent n item (runningOf 0 0)) backs stored tally refs segs
     unfolding frameOf
     told n item e = rw e
 
     why : Met x bs ts ks rs sg → Ended
-    why p = go (ways nos coords paths backs tiles tally refs segs)
+    why p = go (ways nos coords paths backs stored tally refs segs)
       where
-        counts-to : (s : Running) (bs′ : List ℤ) (cs rs′ : List ℕ) → (c : Counts nos coords paths (length tiles) refs s bs′ cs rs′) → CountsTo (Counted.Done s) (c .marks) cs rs′
+        counts-to : (s : Running) (bs′ : List ℤ) (cs rs′ : List ℕ) → (c : Counts nos coords paths (length stored) refs s bs′ cs rs′) → CountsTo (Counted.Done s) (c .marks) cs rs′
         counts-to s bs′ cs rs′ c =
             let z : runningOf (length nos) (s .refs) ≡ s = λ i. record { lines = sym (c .lines) i; refs = s .refs } in
             subst (λ (u : Running). CountsTo (Counted.Done u) (c .marks) cs rs′) z (sym (c .all))
 
-        go : Way nos coords paths backs tiles tally refs segs (frameOf nos coords paths backs tiles tally refs segs) → Ended
+        go : Way nos coords paths backs stored tally refs segs (frameOf nos coords paths backs stored tally refs segs) → Ended
         go (Ends.lent-refused n item q o) =
-            let e = one-frame nos coords paths backs tiles tally refs segs x (Framed.Refused Stage.Lent n item (runningOf 0 0)) bs backs ts tiles ks tally rs refs sg segs p (sym o) in
+            let e = one-frame nos coords paths backs stored tally refs segs x (Framed.Refused Stage.Lent n item (runningOf 0 0)) bs backs ts stored ks tally rs refs sg segs p (sym o) in
             frame-refused n item (e .0) (checks-why n item .0 q) (e .1) (e .2) (e .3) (e .4) (e .5)
         go (Ends.line-refused n s bs′ cs rs′ ok w o) =
-            let e = one-frame nos coords paths backs tiles tally refs segs x (Framed.Refused Stage.Count n (s .lines) s) bs bs′ ts cs ks tally rs rs′ sg segs p (sym o) in
+            let e = one-frame nos coords paths backs stored tally refs segs x (Framed.Refused Stage.Count n (s .lines) s) bs bs′ ts cs ks tally rs rs′ sg segs p (sym o) in
             let u = stOf bs′ cs rs′ (s .refs) in
             let m : CountsTo (Counted.Refused n (s .lines) s) bs′ cs rs′ =
-            met-line (runningOf 0 0) (length nos) nos coords paths (replicate (length tiles) (pos 0)) (zeros (length tiles)) refs
-            (call-ok nos coords paths backs tiles tally refs segs ok) u (refusal n (s .lines))
-            (batch-exact nos coords paths (length refs / refWords) 0 (length nos) (cleared (length tiles) refs) u (refusal n (s .lines)) .1 w) in
+            met-line (runningOf 0 0) (length nos) nos coords paths (replicate (length stored) (pos 0)) (zeros (length stored)) refs
+            (call-ok nos coords paths backs stored tally refs segs ok) u (refusal n (s .lines))
+            (batch-exact nos coords paths (length refs / refWords) 0 (length nos) (cleared (length stored) refs) u (refusal n (s .lines)) .1 w) in
             count-refused n s (e .0) (checks-pass .0 ok)
             (rw (e .1, e .2, e .4) (counts-exact (Counted.Refused n (s .lines) s) bs′ cs rs′ .0 m))
             (e .3) (e .5)
         go (Ends.slots-refused s bs′ cs rs′ ok c h o) =
-            let e = one-frame nos coords paths backs tiles tally refs segs x (Framed.Refused Stage.HandOut noRoom 0 s) bs bs′ ts cs ks tally rs rs′ sg segs p (sym o) in
+            let e = one-frame nos coords paths backs stored tally refs segs x (Framed.Refused Stage.HandOut noRoom 0 s) bs bs′ ts cs ks tally rs rs′ sg segs p (sym o) in
             slots-refused s (c .marks) (e .0) (checks-pass .0 ok)
             (rw (e .2, e .4) (counts-exact (Counted.Done s) (c .marks) cs rs′ .0 (counts-to s bs′ cs rs′ c)))
             (rw (e .1) (backdrop-call-exact paths (c .marks) Answer.Done bs′ .0 (sym (c .sums)))) h (e .3) (e .5)
         go (Ends.tiled-out a s bs′ cs rs′ sg′ ok c h t o) =
-            let e = one-frame nos coords paths backs tiles tally refs segs x (tiledAs a s) bs bs′ ts (hand 0 cs) ks cs rs rs′ sg sg′ p (sym o) in
+            let e = one-frame nos coords paths backs stored tally refs segs x (tiledAs a s) bs bs′ ts (hand 0 cs) ks cs rs rs′ sg sg′ p (sym o) in
             frame-tiled a s (c .marks) (e .0) (checks-pass .0 ok)
             (rw (e .3, e .4) (counts-exact (Counted.Done s) (c .marks) cs rs′ .0 (counts-to s bs′ cs rs′ c)))
             (rw (e .1) (backdrop-call-exact paths (c .marks) Answer.Done bs′ .0 (sym (c .sums)))) h (rw (e .3) (e .2))

@@ -110,7 +110,7 @@ one-gp-frame nos coords paths bs ts ks rs sg r s at₁ at₂ i j l₁ l₂ m₁ 
       ap (λ (x : FrameSeen). x .told .lines) e,
       ap (λ (x : FrameSeen). x .told .made) e,
       ap (λ (x : FrameSeen). x .backs) e,
-      ap (λ (x : FrameSeen). x .tiles) e,
+      ap (λ (x : FrameSeen). x .stored) e,
       ap (λ (x : FrameSeen). x .tally) e,
       ap (λ (x : FrameSeen). x .refs) e,
       ap (λ (x : FrameSeen). x .segments) e,

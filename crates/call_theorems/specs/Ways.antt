@@ -58,12 +58,12 @@ use Rattle.list_theorems.specs.Refusing.{FirstLong, AllShort, NoRoom}
 -- ---- what a call checks first: a row of checks, then the paths over so many tiles
 
 -- refused with n: by the first check of the row that fails, or by the paths
-abbrev pub FirstWhy : List Check → (paths : List ℕ) (tiles n item : ℕ) → Type 0
-FirstWhy row paths tiles n item = (RowWhy n row × (item ≡ 0)) ⊎ ((firstNo row ≡ Fine) × PathsWhy paths tiles n item)
+abbrev pub FirstWhy : List Check → (paths : List ℕ) (stored n item : ℕ) → Type 0
+FirstWhy row paths stored n item = (RowWhy n row × (item ≡ 0)) ⊎ ((firstNo row ≡ Fine) × PathsWhy paths stored n item)
 
 -- or not refused
-abbrev pub Passes : List Check → (paths : List ℕ) (tiles : ℕ) → Type 0
-Passes row paths tiles = (firstNo row ≡ Fine) × (pathsAnswer paths tiles ≡ Done)
+abbrev pub Passes : List Check → (paths : List ℕ) (stored : ℕ) → Type 0
+Passes row paths stored = (firstNo row ≡ Fine) × (pathsAnswer paths stored ≡ Done)
 
 -- ---- counting
 
@@ -170,30 +170,30 @@ pub data ListsWay (s : Tables) (cols rows room : ℕ) (ws : List ℕ) (x : Answe
 
 -- ---- a frame, by its stages' ways
 
-abbrev pub frameRow : (nos : List ℕ) (coords : List Float) (backs : List ℤ) (tiles tally refs : List ℕ) (segs : List Float) → List Check
-frameRow nos coords backs tiles tally refs segs = Frame.lentChecks (length nos) (length coords) (length backs) (length tiles) (length tally) (length refs) (length segs)
+abbrev pub frameRow : (nos : List ℕ) (coords : List Float) (backs : List ℤ) (stored tally refs : List ℕ) (segs : List Float) → List Check
+frameRow nos coords backs stored tally refs segs = Frame.lentChecks (length nos) (length coords) (length backs) (length stored) (length tally) (length refs) (length segs)
 
 -- counting's way, of all lines into n cleared tiles
 abbrev pub FrameCounts : (nos : List ℕ) (coords : List Float) (paths : List ℕ) → ℕ → (refs : List ℕ) → Counted → (bs : List ℤ) (cs rs : List ℕ) → Type 0
 FrameCounts nos coords paths n refs x bs cs rs = CountWay (runningOf 0 0) (length nos) nos coords paths (replicate n (pos 0)) (zeros n) refs x bs cs rs
 
-pub data FrameWay (nos : List ℕ) (coords : List Float) (paths : List ℕ) (backs : List ℤ) (tiles tally refs : List ℕ) (segs : List Float)
+pub data FrameWay (nos : List ℕ) (coords : List Float) (paths : List ℕ) (backs : List ℤ) (stored tally refs : List ℕ) (segs : List Float)
     (x : Framed) (bs : List ℤ) (ts ks rs : List ℕ) (sg : List Float) : Type 0 where
   -- 1 to 4: nothing changes
-  frame-refused : (n item : ℕ) → x ≡ Framed.Refused Stage.Lent n item (runningOf 0 0) → FirstWhy (frameRow nos coords backs tiles tally refs segs) paths (length tiles) n item
-      → bs ≡ backs → ts ≡ tiles → ks ≡ tally → rs ≡ refs → sg ≡ segs → FrameWay nos coords paths backs tiles tally refs segs x bs ts ks rs sg
+  frame-refused : (n item : ℕ) → x ≡ Framed.Refused Stage.Lent n item (runningOf 0 0) → FirstWhy (frameRow nos coords backs stored tally refs segs) paths (length stored) n item
+      → bs ≡ backs → ts ≡ stored → ks ≡ tally → rs ≡ refs → sg ≡ segs → FrameWay nos coords paths backs stored tally refs segs x bs ts ks rs sg
   -- a line is refused: the lines before it are counted into cleared tiles
-  count-refused : (n : ℕ) (s : Running) → x ≡ Framed.Refused Stage.Count n (s .lines) s → Passes (frameRow nos coords backs tiles tally refs segs) paths (length tiles)
-      → FrameCounts nos coords paths (length tiles) refs (Counted.Refused n (s .lines) s) bs ts rs → ks ≡ tally → sg ≡ segs
-      → FrameWay nos coords paths backs tiles tally refs segs x bs ts ks rs sg
+  count-refused : (n : ℕ) (s : Running) → x ≡ Framed.Refused Stage.Count n (s .lines) s → Passes (frameRow nos coords backs stored tally refs segs) paths (length stored)
+      → FrameCounts nos coords paths (length stored) refs (Counted.Refused n (s .lines) s) bs ts rs → ks ≡ tally → sg ≡ segs
+      → FrameWay nos coords paths backs stored tally refs segs x bs ts ks rs sg
   -- 9: all lines are counted and summed, and there are more references than segments lent, or than may be
-  slots-refused : (s : Running) (marks : List ℤ) → x ≡ Framed.Refused Stage.HandOut noRoom 0 s → Passes (frameRow nos coords backs tiles tally refs segs) paths (length tiles)
-      → FrameCounts nos coords paths (length tiles) refs (Counted.Done s) marks ts rs → BackdropWay paths marks Done bs → slotsOf (length segs) < s .refs → ks ≡ tally → sg ≡ segs
-      → FrameWay nos coords paths backs tiles tally refs segs x bs ts ks rs sg
+  slots-refused : (s : Running) (marks : List ℤ) → x ≡ Framed.Refused Stage.HandOut noRoom 0 s → Passes (frameRow nos coords backs stored tally refs segs) paths (length stored)
+      → FrameCounts nos coords paths (length stored) refs (Counted.Done s) marks ts rs → BackdropWay paths marks Done bs → slotsOf (length segs) < s .refs → ks ≡ tally → sg ≡ segs
+      → FrameWay nos coords paths backs stored tally refs segs x bs ts ks rs sg
   -- all lines are counted and summed, the slots are handed out, and the references tiled: all, or those before the one refused
-  frame-tiled : (a : Answer) (s : Running) (marks : List ℤ) → x ≡ tiledAs a s → Passes (frameRow nos coords backs tiles tally refs segs) paths (length tiles)
-      → FrameCounts nos coords paths (length tiles) refs (Counted.Done s) marks ks rs → BackdropWay paths marks Done bs → s .refs ≤ slotsOf (length segs) → ts ≡ hand 0 ks
-      → TileWay 0 (s .refs) (lent nos coords paths ts rs) segs a sg → FrameWay nos coords paths backs tiles tally refs segs x bs ts ks rs sg
+  frame-tiled : (a : Answer) (s : Running) (marks : List ℤ) → x ≡ tiledAs a s → Passes (frameRow nos coords backs stored tally refs segs) paths (length stored)
+      → FrameCounts nos coords paths (length stored) refs (Counted.Done s) marks ks rs → BackdropWay paths marks Done bs → s .refs ≤ slotsOf (length segs) → ts ≡ hand 0 ks
+      → TileWay 0 (s .refs) (lent nos coords paths ts rs) segs a sg → FrameWay nos coords paths backs stored tally refs segs x bs ts ks rs sg
 
 -- ---- a picture, written and read
 

@@ -45,13 +45,13 @@ paperOf (Refused at n item s) = n ∷ stageNo at ∷ item ∷ s .lines ∷ s .re
 pub record Out : Type 0 where
   pub paper : List ℕ
   pub backs : List ℤ
-  pub tiles : List ℕ
+  pub stored : List ℕ
   pub tally : List ℕ
   pub refs : List ℕ
   pub segments : List Float
 
 abbrev pub outOf : Framed → List ℤ → List ℕ → List ℕ → List ℕ → List Float → Out
-outOf f bs ts ks rs sg = record { paper = paperOf f; backs = bs; tiles = ts; tally = ks; refs = rs; segments = sg }
+outOf f bs ts ks rs sg = record { paper = paperOf f; backs = bs; stored = ts; tally = ks; refs = rs; segments = sg }
 
 -- ---- a stage's answer, read off its paper
 
@@ -79,26 +79,26 @@ goOnCounted (Counted.Refused n item s) ends next = ends (Refused Stage.Count n i
 -- ---- the stages
 
 -- after counting, with so many lines and references: the sums, the slots as far as there is room for segments, and a segment for each reference
-unfoldable pub placedOf : Running → (nos : List ℕ) (coords : List Float) (paths : List ℕ) (backs : List ℤ) (tiles tally refs : List ℕ) (segs : List Float) → Out
-placedOf s nos coords paths backs tiles tally refs segs =
+unfoldable pub placedOf : Running → (nos : List ℕ) (coords : List Float) (paths : List ℕ) (backs : List ℤ) (stored tally refs : List ℕ) (segs : List Float) → Out
+placedOf s nos coords paths backs stored tally refs segs =
     let b = Backdrop.backdropOf paths backs in
-    let h = HandOut.handOutOf (slotsOf (length segs)) tiles tally in
-    let t = tiledOf 0 (s .refs) (lent nos coords paths (h .tiles) refs) segs in
-    goOn (answerOn (b .paper)) Stage.Backdrop s (λ f. outOf f (b .tiles) tiles tally refs segs)
-    (goOn (answerOn (h .paper)) Stage.HandOut s (λ f. outOf f (b .tiles) (h .tiles) (h .tally) refs segs)
-    (goOn (answerOn (t .paper)) Stage.Tile s (λ f. outOf f (b .tiles) (h .tiles) (h .tally) refs (t .segments))
-    (outOf (Done s) (b .tiles) (h .tiles) (h .tally) refs (t .segments))))
+    let h = HandOut.handOutOf (slotsOf (length segs)) stored tally in
+    let t = tiledOf 0 (s .refs) (lent nos coords paths (h .stored) refs) segs in
+    goOn (answerOn (b .paper)) Stage.Backdrop s (λ f. outOf f (b .backs) stored tally refs segs)
+    (goOn (answerOn (h .paper)) Stage.HandOut s (λ f. outOf f (b .backs) (h .stored) (h .tally) refs segs)
+    (goOn (answerOn (t .paper)) Stage.Tile s (λ f. outOf f (b .backs) (h .stored) (h .tally) refs (t .segments))
+    (outOf (Done s) (b .backs) (h .stored) (h .tally) refs (t .segments))))
 
 -- all lines, counted into cleared tiles; then the rest
-unfoldable pub drawnOf : (nos : List ℕ) (coords : List Float) (paths : List ℕ) (backs : List ℤ) (tiles tally refs : List ℕ) (segs : List Float) → Out
-drawnOf nos coords paths backs tiles tally refs segs =
-    let c = counted (runningOf 0 0) (length nos) nos coords paths (replicate (length backs) (pos 0)) (replicate (length tiles) 0) refs in
+unfoldable pub drawnOf : (nos : List ℕ) (coords : List Float) (paths : List ℕ) (backs : List ℤ) (stored tally refs : List ℕ) (segs : List Float) → Out
+drawnOf nos coords paths backs stored tally refs segs =
+    let c = counted (runningOf 0 0) (length nos) nos coords paths (replicate (length backs) (pos 0)) (replicate (length stored) 0) refs in
     goOnCounted (countedOn (c .paper)) (λ f. outOf f (c .backs) (c .counts) tally (c .refs) segs)
     (λ s. placedOf s nos coords paths (c .backs) (c .counts) tally (c .refs) segs)
 
 -- ---- the call
 
--- the lengths lent: path numbers, coordinates, backdrops, tiles, tally, references, segments
+-- the lengths lent: path numbers, coordinates, backdrops, stored words, tally, references, segments
 abbrev pub lentChecks : (nn nc nb nt nk nr ns : ℕ) → List Check
 lentChecks nn nc nb nt nk nr ns =
     check (eqb (nc % lineFloats) 0) notWhole
@@ -110,16 +110,16 @@ lentChecks nn nc nb nt nk nr ns =
     ∷ []
 
 -- 1 of all stages, then 1, 2, 3 and 4 of the paths
-unfoldable pub checksOf : (nos : List ℕ) (coords : List Float) (paths : List ℕ) (backs : List ℤ) (tiles tally refs : List ℕ) (segs : List Float) → Answer
-checksOf nos coords paths backs tiles tally refs segs =
-    unless (firstNo (lentChecks (length nos) (length coords) (length backs) (length tiles) (length tally) (length refs) (length segs))) 0
-    (pathsAnswer paths (length tiles))
+unfoldable pub checksOf : (nos : List ℕ) (coords : List Float) (paths : List ℕ) (backs : List ℤ) (stored tally refs : List ℕ) (segs : List Float) → Answer
+checksOf nos coords paths backs stored tally refs segs =
+    unless (firstNo (lentChecks (length nos) (length coords) (length backs) (length stored) (length tally) (length refs) (length segs))) 0
+    (pathsAnswer paths (length stored))
 
 -- a refusal there changes nothing
-unfoldable pub frameOf : (nos : List ℕ) (coords : List Float) (paths : List ℕ) (backs : List ℤ) (tiles tally refs : List ℕ) (segs : List Float) → Out
-frameOf nos coords paths backs tiles tally refs segs =
-    goOn (checksOf nos coords paths backs tiles tally refs segs) Stage.Lent (runningOf 0 0) (λ f. outOf f backs tiles tally refs segs)
-    (drawnOf nos coords paths backs tiles tally refs segs)
+unfoldable pub frameOf : (nos : List ℕ) (coords : List Float) (paths : List ℕ) (backs : List ℤ) (stored tally refs : List ℕ) (segs : List Float) → Out
+frameOf nos coords paths backs stored tally refs segs =
+    goOn (checksOf nos coords paths backs stored tally refs segs) Stage.Lent (runningOf 0 0) (λ f. outOf f backs stored tally refs segs)
+    (drawnOf nos coords paths backs stored tally refs segs)
 
 -- the call's promise: the answer r, and all that was lent to be changed as it is afterwards, are these
 abbrev pub FrameMet : (nos : List ℕ) (coords : List Float) (paths : List ℕ) (bs : List ℤ) (ts ks rs : List ℕ) (sg : List Float) → Framed

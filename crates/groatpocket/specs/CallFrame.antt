@@ -52,16 +52,16 @@ toldOn (n ∷ at ∷ i ∷ l ∷ m ∷ more) = toldOf n at i l m
 pub record FrameSeen : Type 0 where
   pub told : Told
   pub backs : List ℤ
-  pub tiles : List ℕ
+  pub stored : List ℕ
   pub tally : List ℕ
   pub refs : List ℕ
   pub segments : List Float
 
 abbrev pub frameLent : Told → List ℤ → List ℕ → List ℕ → List ℕ → List Float → FrameSeen
-frameLent t bs ts ks rs sg = record { told = t; backs = bs; tiles = ts; tally = ks; refs = rs; segments = sg }
+frameLent t bs ts ks rs sg = record { told = t; backs = bs; stored = ts; tally = ks; refs = rs; segments = sg }
 
 abbrev pub frameSeen : Frame.Out → FrameSeen
-frameSeen o = frameLent (toldOn (o .paper)) (o .backs) (o .tiles) (o .tally) (o .refs) (o .segments)
+frameSeen o = frameLent (toldOn (o .paper)) (o .backs) (o .stored) (o .tally) (o .refs) (o .segments)
 
 -- the call's promise: what a caller sees is what the frame's definition leaves
 abbrev pub GpFrameMet : (nos : List ℕ) (coords : List Float) (paths : List ℕ) (bs : List ℤ) (ts ks rs : List ℕ) (sg : List Float) → ℕ → ℕ → ℕ → ℕ → ℕ

@@ -26,14 +26,14 @@ fillSeen f = seen (no (f .answer)) (f .area)
 
 -- the backdrops
 abbrev pub backdropSeen : Backdrop.Out → SeenAt (List ℤ)
-backdropSeen o = seenAt (no (o .paper)) (item (o .paper)) (o .tiles)
+backdropSeen o = seenAt (no (o .paper)) (item (o .paper)) (o .backs)
 
--- the tiles' words and the tally
+-- the stored words and the tally
 abbrev pub handed : ℕ → List ℕ → List ℕ → Seen (List ℕ × List ℕ)
-handed n tiles tally = seen {L = List ℕ × List ℕ} n (tiles, tally)
+handed n stored tally = seen {L = List ℕ × List ℕ} n (stored, tally)
 
 abbrev pub handSeen : HandOut.Out → Seen (List ℕ × List ℕ)
-handSeen o = handed (no (o .paper)) (o .tiles) (o .tally)
+handSeen o = handed (no (o .paper)) (o .stored) (o .tally)
 
 -- the segments
 abbrev pub tileSeen : Tiling.Tiled → SeenAt (List Float)

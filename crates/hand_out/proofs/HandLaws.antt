@@ -20,9 +20,9 @@ use Rattle.panel.specs.declared.kinds.Answer.{Answer}
 use Rattle.panel.specs.declared.kinds.Answer.the-variants.{Done, Refused}
 use Rattle.panel.proofs.KindLaws.{paper-once}
 use Rattle.panel.proofs.CheckLaws.{all-ok}
-use Rattle.hand_out.specs.HandOut.{stored, hand, Out, outOf, handChecks, handOutOf}
+use Rattle.hand_out.specs.HandOut.{wordFor, hand, Out, outOf, handChecks, handOutOf}
 
-pub stored-some : (n f : ℕ) → n ≢ 0 → stored n f ≡ not32 f
+pub stored-some : (n f : ℕ) → n ≢ 0 → wordFor n f ≡ not32 f
 stored-some zero f h = absurd (h refl)
 stored-some (suc n) f h = refl
 
@@ -31,22 +31,22 @@ length-hand f [] = refl
 length-hand f (n ∷ ns) = ap suc (length-hand (f + n) ns)
 
 -- T3. Tile t's first slot is the sum of the counts before it
-pub hand-at : (f : ℕ) (ns : List ℕ) (t : ℕ) → t < length ns → getD (hand f ns) t 0 ≡ stored (getD ns t 0) (f + first ns t)
+pub hand-at : (f : ℕ) (ns : List ℕ) (t : ℕ) → t < length ns → getD (hand f ns) t 0 ≡ wordFor (getD ns t 0) (f + first ns t)
 hand-at f [] t h = absurd (not-suc-le-zero h)
-hand-at f (n ∷ ns) zero h = ap (stored n) (omega arith)
-hand-at f (n ∷ ns) (suc t) h = hand-at (f + n) ns t (le-of-suc-le-suc h) ∙ ap (stored (getD ns t 0)) (omega arith)
+hand-at f (n ∷ ns) zero h = ap (wordFor n) (omega arith)
+hand-at f (n ∷ ns) (suc t) h = hand-at (f + n) ns t (le-of-suc-le-suc h) ∙ ap (wordFor (getD ns t 0)) (omega arith)
 
 -- the tiles before and those from there on: a turn of a loop over the tiles
 pub hand-append : (f : ℕ) (ms ns : List ℕ) → hand f (ms ++ ns) ≡ hand f ms ++ hand (f + sum ms) ns
 hand-append f [] ns = ap (λ (k : ℕ). hand k ns) (omega arith)
 hand-append f (m ∷ ms) ns =
-    ap (λ (r : List ℕ). stored m f ∷ r) (hand-append (f + m) ms ns ∙ ap (λ (k : ℕ). hand (f + m) ms ++ hand k ns) (omega arith))
+    ap (λ (r : List ℕ). wordFor m f ∷ r) (hand-append (f + m) ms ns ∙ ap (λ (k : ℕ). hand (f + m) ms ++ hand k ns) (omega arith))
 
 -- the store that a loop over the tiles makes at tile t, in place
 pub hand-step : (ns : List ℕ) (t : ℕ) → t < length ns
-    → set (hand 0 (take t ns) ++ drop t ns) t (stored (getD ns t 0) (first ns t)) ≡ hand 0 (take (suc t) ns) ++ drop (suc t) ns
+    → set (hand 0 (take t ns) ++ drop t ns) t (wordFor (getD ns t 0) (first ns t)) ≡ hand 0 (take (suc t) ns) ++ drop (suc t) ns
 hand-step ns t h =
-    let w : ℕ = stored (getD ns t 0) (first ns t) in
+    let w : ℕ = wordFor (getD ns t 0) (first ns t) in
     let len : length (hand 0 (take t ns)) ≡ t = length-hand 0 (take t ns) ∙ length-take-le t ns (omega arith) in
     let grown : hand 0 (take (suc t) ns) ≡ hand 0 (take t ns) ++ (w ∷ []) =
     ap (hand 0) (take-suc ns t 0 h) ∙ hand-append 0 (take t ns) (getD ns t 0 ∷ []) ∙ rw (zero-add (first ns t)) in
@@ -72,12 +72,12 @@ hand-reads ns t h =
 
 -- a turn of the loop, in the loop's own terms: what the tiles and the tally hold, the next slot, and the word w that is stored
 pub hand-turn : (ns kept tiles tally : List ℕ) (next t w : ℕ) → t < length ns → length ns ≡ length kept → next ≡ first ns t
-    → tiles ≡ hand 0 (take t ns) ++ drop t ns → tally ≡ take t ns ++ drop t kept → w ≡ stored (getD tiles t 0) next
+    → tiles ≡ hand 0 (take t ns) ++ drop t ns → tally ≡ take t ns ++ drop t kept → w ≡ wordFor (getD tiles t 0) next
     → (next + getD tiles t 0 ≡ first ns (t + 1)) × (set tiles t w ≡ hand 0 (take (t + 1) ns) ++ drop (t + 1) ns)
     × (set tally t (getD tiles t 0) ≡ take (t + 1) ns ++ drop (t + 1) kept)
 hand-turn ns kept tiles tally next t w h e n a b q =
     let reads : getD tiles t 0 ≡ getD ns t 0 = rw a (hand-reads ns t h) in
-    let word : w ≡ stored (getD ns t 0) (first ns t) = cc in
+    let word : w ≡ wordFor (getD ns t 0) (first ns t) = cc in
     rw (reads, add-one) (omega (arith, first-suc ns t), rw (a, word) (hand-step ns t h), rw b (keep-step ns kept t e h))
 
 -- and the loop's end
@@ -90,15 +90,15 @@ keep-end ns kept t h k = rw (take-all t ns h, drop-of-length-le kept k) (append-
 -- ---- read back
 
 -- a tile that is not empty gives its first slot back
-pub stored-first : (n f : ℕ) → 0 < n → f < 2 ^ 32 → not32 (stored n f) ≡ f
+pub stored-first : (n f : ℕ) → 0 < n → f < 2 ^ 32 → not32 (wordFor n f) ≡ f
 stored-first zero f h k = absurd (not-suc-le-zero h)
 stored-first (suc n) f h k = omega arith
 
-pub stored-taken : (n f : ℕ) → 0 < n → f < 2 ^ 31 → skips (stored n f) ≡ false
+pub stored-taken : (n f : ℕ) → 0 < n → f < 2 ^ 31 → skips (wordFor n f) ≡ false
 stored-taken zero f h k = absurd (not-suc-le-zero h)
 stored-taken (suc n) f h k = le-ltb (not32 f) handedFrom (omega arith)
 
-pub stored-empty : (f : ℕ) → skips (stored 0 f) ≡ true
+pub stored-empty : (f : ℕ) → skips (wordFor 0 f) ≡ true
 stored-empty f = refl
 
 -- ---- a call that was done
@@ -108,8 +108,8 @@ module _ (ns : List ℕ) (few : sum ns ≤ mostSlots) where
   first-small t = omega (arith, first-within ns t, small .slots)
 
   -- tile t's first slot is the sum of the counts before it
-  pub word-at : (t : ℕ) → t < length ns → getD (hand 0 ns) t 0 ≡ stored (getD ns t 0) (first ns t)
-  word-at t h = hand-at 0 ns t h ∙ ap (stored (getD ns t 0)) (zero-add (first ns t))
+  pub word-at : (t : ℕ) → t < length ns → getD (hand 0 ns) t 0 ≡ wordFor (getD ns t 0) (first ns t)
+  word-at t h = hand-at 0 ns t h ∙ ap (wordFor (getD ns t 0)) (zero-add (first ns t))
 
   -- a stored word reads back as its tile's first slot
   pub reads-back : (t : ℕ) → t < length ns → 0 < getD ns t 0 → not32 (getD (hand 0 ns) t 0) ≡ first ns t
@@ -160,4 +160,4 @@ module _ (room : ℕ) (ns kept : List ℕ) where
 
 -- the promise admits one answer only, and one list each
 pub out-once : (a b : Answer) (ts us ks ls : List ℕ) → outOf a ts ks ≡ outOf b us ls → (a ≡ b) × (ts ≡ us) × (ks ≡ ls)
-out-once a b ts us ks ls e = (paper-once a b (ap (λ (o : Out). o .paper) e), ap (λ (o : Out). o .tiles) e, ap (λ (o : Out). o .tally) e)
+out-once a b ts us ks ls e = (paper-once a b (ap (λ (o : Out). o .paper) e), ap (λ (o : Out). o .stored) e, ap (λ (o : Out). o .tally) e)

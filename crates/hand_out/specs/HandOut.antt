@@ -17,23 +17,23 @@ use Rattle.panel.specs.declared.kinds.Answer.{Answer}
 use Rattle.panel.specs.declared.kinds.Answer.the-variants.{Done, Refused}
 
 -- what a tile with that count and that first slot holds
-abbrev pub stored : ℕ → ℕ → ℕ
-stored zero f = 0
-stored (suc n) f = not32 f
+abbrev pub wordFor : ℕ → ℕ → ℕ
+wordFor zero f = 0
+wordFor (suc n) f = not32 f
 
 -- what the tiles with these counts hold, when f is the next slot
 abbrev pub hand : ℕ → List ℕ → List ℕ
 hand f [] = []
-hand f (n ∷ ns) = stored n f ∷ hand (f + n) ns
+hand f (n ∷ ns) = wordFor n f ∷ hand (f + n) ns
 
--- what a call leaves: its answer on paper, the tiles' words and the tally
+-- what a call leaves: its answer on paper, the stored words and the tally
 pub record Out : Type 0 where
   pub paper : List ℕ
-  pub tiles : List ℕ
+  pub stored : List ℕ
   pub tally : List ℕ
 
 abbrev pub outOf : Answer → List ℕ → List ℕ → Out
-outOf a ts ks = record { paper = paperOf a; tiles = ts; tally = ks }
+outOf a ts ks = record { paper = paperOf a; stored = ts; tally = ks }
 
 -- counts ns with a tally of `kept` words: the slices are equally long and not too many, and the sum is within the room named and the limit
 abbrev pub handChecks : ℕ → List ℕ → ℕ → List Check
@@ -52,6 +52,6 @@ onFine (Against n) ns kept = outOf (Refused n 0) ns kept
 unfoldable pub handOutOf : ℕ → List ℕ → List ℕ → Out
 handOutOf room ns kept = onFine (firstNo (handChecks room ns (length kept))) ns kept
 
--- the call's promise: the answer r, the tiles' words and the tally afterwards are these
+-- the call's promise: the answer r, the stored words and the tally afterwards are these
 abbrev pub HandMet : ℕ → (ns kept : List ℕ) → Answer → (ns′ kept′ : List ℕ) → Type 0
 HandMet room ns kept r ns′ kept′ = outOf r ns′ kept′ ≡ handOutOf room ns kept

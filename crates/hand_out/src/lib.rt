@@ -7,7 +7,7 @@ ghost use Rattle.lists.specs.Sums.{sum};
 ghost use Rattle.panel.specs.Limits.{mostTiles, mostSlots};
 ghost use Rattle.panel.specs.Checks.{firstNo};
 ghost use Rattle.panel.specs.declared.kinds.Answer.the-variants.{Done};
-ghost use Rattle.hand_out.specs.HandOut.{stored, hand, handChecks, outOf, HandMet};
+ghost use Rattle.hand_out.specs.HandOut.{wordFor, hand, handChecks, outOf, HandMet};
 use panel::kinds::Answer;
 use panel::kinds::SlotNo;
 use panel::kinds::Verdict;
@@ -34,7 +34,7 @@ fn total_of(counts: &[u32]) -> u64
 
 // What a tile with that count and that first slot holds.
 fn word_of(count: u32, first: SlotNo) -> u32
-    ensures { λ r. ⌜ r ≡ stored count (first .0) ⌝ }
+    ensures { λ r. ⌜ r ≡ wordFor count (first .0) ⌝ }
 {
     if count == 0 { 0 } else { flipped(first.0) }
 }

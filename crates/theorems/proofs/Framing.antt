@@ -77,47 +77,47 @@ counts-long b nos coords paths n refs bs cs rs m all =
 
 -- ---- the ways
 
-module _ (nos : List ℕ) (coords : List Float) (paths : List ℕ) (backs : List ℤ) (tiles tally refs : List ℕ) (segs : List Float) where
+module _ (nos : List ℕ) (coords : List Float) (paths : List ℕ) (backs : List ℤ) (stored tally refs : List ℕ) (segs : List Float) where
   abbrev Ways : Out → Type 0
-  Ways o = Way nos coords paths backs tiles tally refs segs o
+  Ways o = Way nos coords paths backs stored tally refs segs o
 
-  module _ (ok : checksOf nos coords paths backs tiles tally refs segs ≡ Answer.Done) where
-    pub row : AllOk (lentChecks (length nos) (length coords) (length backs) (length tiles) (length tally) (length refs) (length segs)) × (pathsAnswer paths (length tiles) ≡ Answer.Done)
+  module _ (ok : checksOf nos coords paths backs stored tally refs segs ≡ Answer.Done) where
+    pub row : AllOk (lentChecks (length nos) (length coords) (length backs) (length stored) (length tally) (length refs) (length segs)) × (pathsAnswer paths (length stored) ≡ Answer.Done)
     unfolding checksOf
     row =
-        let cs = lentChecks (length nos) (length coords) (length backs) (length tiles) (length tally) (length refs) (length segs) in
-        let u = unless-done (firstNo cs) 0 (pathsAnswer paths (length tiles)) ok in
+        let cs = lentChecks (length nos) (length coords) (length backs) (length stored) (length tally) (length refs) (length segs) in
+        let u = unless-done (firstNo cs) 0 (pathsAnswer paths (length stored)) ok in
         (all-ok cs (u .0), u .1)
 
-    pub paired : length backs ≡ length tiles
-    paired = eqb-true (length backs) (length tiles) (row .0 .1 .1 .0)
+    pub paired : length backs ≡ length stored
+    paired = eqb-true (length backs) (length stored) (row .0 .1 .1 .0)
 
-    pub kept : length tiles ≡ length tally
-    kept = eqb-true (length tiles) (length tally) (row .0 .1 .1 .1 .0)
+    pub kept : length stored ≡ length tally
+    kept = eqb-true (length stored) (length tally) (row .0 .1 .1 .1 .0)
 
     -- so counting's own checks pass
-    pub call-ok : callAnswer nos coords paths 0 (length nos) (cleared (length tiles) refs) ≡ Answer.Done
+    pub call-ok : callAnswer nos coords paths 0 (length nos) (cleared (length stored) refs) ≡ Answer.Done
     unfolding callAnswer
     call-ok =
         let z : 0 ≤ length nos = omega arith in
         let e : length nos ≡ length coords / lineFloats = eqb-true (length nos) (length coords / lineFloats) (row .0 .1 .0) in
         let h : length nos ≤ length coords / lineFloats = omega arith in
-        rw (length-replicate (length tiles) (pos 0), length-replicate {A = ℕ} (length tiles) 0)
+        rw (length-replicate (length stored) (pos 0), length-replicate {A = ℕ} (length stored) 0)
         (unless-fine _ 0 _
-        (none-fails (countChecks (length nos) (length coords) (length tiles) (length tiles) (length refs) 0 (length nos))
-        (row .0 .0, (row .0 .1 .0, (eq-eqb (length tiles) (length tiles) refl, (row .0 .1 .1 .1 .1 .0, (le-leb 0 (length nos) z, (le-leb (length nos) (length coords / lineFloats) h, tt))))))))
+        (none-fails (countChecks (length nos) (length coords) (length stored) (length stored) (length refs) 0 (length nos))
+        (row .0 .0, (row .0 .1 .0, (eq-eqb (length stored) (length stored) refl, (row .0 .1 .1 .1 .1 .0, (le-leb 0 (length nos) z, (le-leb (length nos) (length coords / lineFloats) h, tt))))))))
         ∙ row .1
 
     -- and where it refused, it did so at a line
     count-halts : (m item : ℕ) (s : Running) (bs : List ℤ) (cs rs : List ℕ)
-        → fromZero (length nos) nos coords paths (length tiles) refs ≡ toldOf (paperOf (Counted.Refused m item s)) (stOf bs cs rs (s .refs))
-        → (item ≡ s .lines) × BatchWhy nos coords paths (length refs / refWords) 0 (length nos) (cleared (length tiles) refs) (stOf bs cs rs (s .refs)) (refusal m (s .lines))
+        → fromZero (length nos) nos coords paths (length stored) refs ≡ toldOf (paperOf (Counted.Refused m item s)) (stOf bs cs rs (s .refs))
+        → (item ≡ s .lines) × BatchWhy nos coords paths (length refs / refWords) 0 (length nos) (cleared (length stored) refs) (stOf bs cs rs (s .refs)) (refusal m (s .lines))
     unfolding counted
-    count-halts m item s bs cs rs e = go (batch nos coords paths (length refs / refWords) 0 (length nos) (cleared (length tiles) refs)) refl (rw call-ok at e)
+    count-halts m item s bs cs rs e = go (batch nos coords paths (length refs / refWords) 0 (length nos) (cleared (length stored) refs)) refl (rw call-ok at e)
       where
-        go : (o : Ran St Refusal) → batch nos coords paths (length refs / refWords) 0 (length nos) (cleared (length tiles) refs) ≡ o
+        go : (o : Ran St Refusal) → batch nos coords paths (length refs / refWords) 0 (length nos) (cleared (length stored) refs) ≡ o
             → batchTold (length nos) o ≡ toldOf (m ∷ item ∷ s .lines ∷ s .refs ∷ []) (stOf bs cs rs (s .refs))
-            → (item ≡ s .lines) × BatchWhy nos coords paths (length refs / refWords) 0 (length nos) (cleared (length tiles) refs) (stOf bs cs rs (s .refs)) (refusal m (s .lines))
+            → (item ≡ s .lines) × BatchWhy nos coords paths (length refs / refWords) 0 (length nos) (cleared (length stored) refs) (stOf bs cs rs (s .refs)) (refusal m (s .lines))
         go (done t) q h =
             let p : doneNo ∷ length nos ∷ t .made ∷ [] ≡ m ∷ item ∷ s .lines ∷ s .refs ∷ [] = ap (λ (x : Told). x .paper) h in
             no-clash cc
@@ -130,24 +130,24 @@ module _ (nos : List ℕ) (coords : List Float) (paths : List ℕ) (backs : List
             let same : t ≡ stOf bs cs rs (s .refs) = λ i. record { backs = h i .backs; counts = h i .counts; refs = h i .refs; made = d i } in
             let w : why ≡ refusal m (s .lines) = λ i. record { no = a i; line = b i } in (
               sym c ∙ b,
-              batch-exact nos coords paths (length refs / refWords) 0 (length nos) (cleared (length tiles) refs) (stOf bs cs rs (s .refs)) (refusal m (s .lines)) .0
+              batch-exact nos coords paths (length refs / refWords) 0 (length nos) (cleared (length stored) refs) (stOf bs cs rs (s .refs)) (refusal m (s .lines)) .0
                   (q ∙ rw (same, w)),
             )
 
     -- after counting
     module _ (s : Running) (marks : List ℤ) (cs rs : List ℕ) (lines : s .lines ≡ length nos)
-        (all : AllCounted (length nos) nos coords paths (length tiles) refs marks cs rs (s .refs)) where
-      long : length cs ≡ length tiles
-      long = counts-long (length nos) nos coords paths (length tiles) refs marks cs rs (s .refs) all
+        (all : AllCounted (length nos) nos coords paths (length stored) refs marks cs rs (s .refs)) where
+      long : length cs ≡ length stored
+      long = counts-long (length nos) nos coords paths (length stored) refs marks cs rs (s .refs) all
 
       placed-ways : Ways (placedOf s nos coords paths marks cs tally rs segs)
       unfolding placedOf
       placed-ways =
-          let d = sums-done (length nos) nos coords paths (length tiles) refs marks cs rs (s .refs) all in
+          let d = sums-done (length nos) nos coords paths (length stored) refs marks cs rs (s .refs) all in
           rw (d .1) (handed (d .0) (d .1) (hand-case (slotsOf (length segs)) cs tally))
         where
           total : sum cs ≡ s .refs
-          total = sums (length nos) nos coords paths (length tiles) refs marks cs rs (s .refs) all .total
+          total = sums (length nos) nos coords paths (length stored) refs marks cs rs (s .refs) all .total
 
           at-tiling : (bs : List ℤ) → Backdrop.backdropOf paths marks ≡ Backdrop.outOf Answer.Done bs → s .refs ≤ slotsOf (length segs) → (a : Answer) (sg : List Float)
               → tiledOf 0 (s .refs) (lent nos coords paths (hand 0 cs) rs) segs ≡ tiled a sg
@@ -157,11 +157,11 @@ module _ (nos : List ℕ) (coords : List Float) (paths : List ℕ) (backs : List
 
           handed : (bs : List ℤ) → Backdrop.backdropOf paths marks ≡ Backdrop.outOf Answer.Done bs → HandCase (slotsOf (length segs)) cs tally
               → Ways (let h = HandOut.handOutOf (slotsOf (length segs)) cs tally in
-              let t = tiledOf 0 (s .refs) (lent nos coords paths (h .tiles) rs) segs in
-              goOn (answerOn (h .paper)) Stage.HandOut s (λ f. outOf f bs (h .tiles) (h .tally) rs segs)
-              (goOn (answerOn (t .paper)) Stage.Tile s (λ f. outOf f bs (h .tiles) (h .tally) rs (t .segments)) (outOf (Done s) bs (h .tiles) (h .tally) rs (t .segments))))
+              let t = tiledOf 0 (s .refs) (lent nos coords paths (h .stored) rs) segs in
+              goOn (answerOn (h .paper)) Stage.HandOut s (λ f. outOf f bs (h .stored) (h .tally) rs segs)
+              (goOn (answerOn (t .paper)) Stage.Tile s (λ f. outOf f bs (h .stored) (h .tally) rs (t .segments)) (outOf (Done s) bs (h .stored) (h .tally) rs (t .segments))))
           handed bs q (unpaired a e) = absurd (a (long ∙ kept))
-          handed bs q (many a b e) = absurd (omega (arith, long, checked paths (length tiles) (row .1) .tiled))
+          handed bs q (many a b e) = absurd (omega (arith, long, checked paths (length stored) (row .1) .tiled))
           handed bs q (over a b c e) =
               rw e (slots-refused s bs cs rs ok (record { marks = marks; lines = lines; all = all; sums = q }) (omega (arith, total)) refl)
           handed bs q (fine a b c e) =
@@ -169,17 +169,17 @@ module _ (nos : List ℕ) (coords : List Float) (paths : List ℕ) (backs : List
               rw (e, answer-on (r .answer)) (at-tiling bs q (omega (arith, total)) (r .answer) (applied (r .writes) segs) refl)
 
     -- tiling's own checks pass too, so where it refused, it did so at a reference
-    module _ (s : Running) (bs : List ℤ) (cs rs : List ℕ) (c : Counts nos coords paths (length tiles) refs s bs cs rs) where
+    module _ (s : Running) (bs : List ℤ) (cs rs : List ℕ) (c : Counts nos coords paths (length stored) refs s bs cs rs) where
       whole-ok : Tiling.Whole 0 (s .refs) (lent nos coords paths (hand 0 cs) rs) segs ≡ true
       unfolding wholeOf
       whole-ok =
-          let p : length paths % pathWords ≡ 0 = omega (arith, checked paths (length tiles) (row .1) .whole) in
+          let p : length paths % pathWords ≡ 0 = omega (arith, checked paths (length stored) (row .1) .whole) in
           let r : length rs ≡ length refs =
-          same-lengths nos coords paths (length tiles) (row .1) (length refs / refWords) 0 (length nos) (startOf (length tiles) refs) (stOf (c .marks) cs rs (s .refs))
-          (went (length nos) nos coords paths (length tiles) refs (c .marks) cs rs (s .refs) (c .all) .ran) .refs in
+          same-lengths nos coords paths (length stored) (row .1) (length refs / refWords) 0 (length nos) (startOf (length stored) refs) (stOf (c .marks) cs rs (s .refs))
+          (went (length nos) nos coords paths (length stored) refs (c .marks) cs rs (s .refs) (c .all) .ran) .refs in
           let e : length refs % refWords ≡ 0 = eqb-true (length refs % refWords) 0 (row .0 .1 .1 .1 .1 .0) in
           let z : 0 ≤ s .refs = omega arith in
-          let m : s .refs ≤ length rs / refWords = omega (arith, sums (length nos) nos coords paths (length tiles) refs (c .marks) cs rs (s .refs) (c .all) .there) in
+          let m : s .refs ≤ length rs / refWords = omega (arith, sums (length nos) nos coords paths (length stored) refs (c .marks) cs rs (s .refs) (c .all) .there) in
           let q : length rs % refWords ≡ 0 = rw r e in
           rw (
             row .0 .0,
@@ -196,7 +196,7 @@ module _ (nos : List ℕ) (coords : List Float) (paths : List ℕ) (backs : List
           → RangeWhy (lent nos coords paths (hand 0 cs) rs) (slotsOf (length segs)) (s .refs) 0 why k
       tiling-why why k sg e =
           let L = lent nos coords paths (hand 0 cs) rs in
-          let long : length (hand 0 cs) ≡ length tiles = length-hand 0 cs ∙ counts-long (length nos) nos coords paths (length tiles) refs (c .marks) cs rs (s .refs) (c .all) in
+          let long : length (hand 0 cs) ≡ length stored = length-hand 0 cs ∙ counts-long (length nos) nos coords paths (length stored) refs (c .marks) cs rs (s .refs) (c .all) in
           let p : pathsAnswer paths (length (hand 0 cs)) ≡ Answer.Done = rw long (row .1) in
           let t = Tiling.called 0 (s .refs) L segs whole-ok p ∙ e in
           let z : s .refs - 0 ≡ s .refs = omega arith in
@@ -205,35 +205,35 @@ module _ (nos : List ℕ) (coords : List Float) (paths : List ℕ) (backs : List
           range-exact L (slotsOf (length segs)) (s .refs) 0 why k .0 (rw z at a)
 
     -- counting, whose answer x is on its paper
-    drawn-ways : Ways (drawnOf nos coords paths backs tiles tally refs segs)
+    drawn-ways : Ways (drawnOf nos coords paths backs stored tally refs segs)
     unfolding drawnOf
     drawn-ways =
-        let c = paper-said (runningOf 0 0) (length nos) nos coords paths (replicate (length backs) (pos 0)) (replicate (length tiles) 0) refs in
-        go (counted (runningOf 0 0) (length nos) nos coords paths (replicate (length backs) (pos 0)) (replicate (length tiles) 0) refs) refl (c .0) (c .1)
+        let c = paper-said (runningOf 0 0) (length nos) nos coords paths (replicate (length backs) (pos 0)) (replicate (length stored) 0) refs in
+        go (counted (runningOf 0 0) (length nos) nos coords paths (replicate (length backs) (pos 0)) (replicate (length stored) 0) refs) refl (c .0) (c .1)
       where
-        go : (t : Told) → counted (runningOf 0 0) (length nos) nos coords paths (replicate (length backs) (pos 0)) (replicate (length tiles) 0) refs ≡ t
+        go : (t : Told) → counted (runningOf 0 0) (length nos) nos coords paths (replicate (length backs) (pos 0)) (replicate (length stored) 0) refs ≡ t
             → (x : Counted) → t .paper ≡ paperOf x
             → Ways (goOnCounted (countedOn (t .paper)) (λ f. outOf f (t .backs) (t .counts) tally (t .refs) segs) (λ s. placedOf s nos coords paths (t .backs) (t .counts) tally (t .refs) segs))
         go t q (Counted.Refused m item s) e =
-            let zero : fromZero (length nos) nos coords paths (length tiles) refs ≡ t = rw paired at q in
+            let zero : fromZero (length nos) nos coords paths (length stored) refs ≡ t = rw paired at q in
             let told : t ≡ toldOf (paperOf (Counted.Refused m item s)) (stOf (t .backs) (t .counts) (t .refs) (s .refs)) = λ i. record
             { paper = e i; backs = t .backs; counts = t .counts; refs = t .refs } in
             let w = count-halts m item s (t .backs) (t .counts) (t .refs) (zero ∙ told) in
             rw (e, w .0) (line-refused m s (t .backs) (t .counts) (t .refs) ok (w .1) refl)
         go t q (Counted.Done s) e =
-            let zero : fromZero (length nos) nos coords paths (length tiles) refs ≡ t = rw paired at q in
+            let zero : fromZero (length nos) nos coords paths (length stored) refs ≡ t = rw paired at q in
             let told : t ≡ toldOf (paperOf (Counted.Done s)) (stOf (t .backs) (t .counts) (t .refs) (s .refs)) = λ i. record { paper = e i; backs = t .backs; counts = t .counts; refs = t .refs } in
-            let w = through 0 (length nos) (s .lines) nos coords paths (startOf (length tiles) refs) (stOf (t .backs) (t .counts) (t .refs) (s .refs)) (zero ∙ told) in
-            let all : AllCounted (length nos) nos coords paths (length tiles) refs (t .backs) (t .counts) (t .refs) (s .refs) = rw (w .1) at (zero ∙ told) in
+            let w = through 0 (length nos) (s .lines) nos coords paths (startOf (length stored) refs) (stOf (t .backs) (t .counts) (t .refs) (s .refs)) (zero ∙ told) in
+            let all : AllCounted (length nos) nos coords paths (length stored) refs (t .backs) (t .counts) (t .refs) (s .refs) = rw (w .1) at (zero ∙ told) in
             rw e (placed-ways s (t .backs) (t .counts) (t .refs) (w .1) all)
 
   -- a frame ends in one of these ways
-  pub ways : Ways (frameOf nos coords paths backs tiles tally refs segs)
+  pub ways : Ways (frameOf nos coords paths backs stored tally refs segs)
   unfolding frameOf
-  ways = go (checksOf nos coords paths backs tiles tally refs segs) refl
+  ways = go (checksOf nos coords paths backs stored tally refs segs) refl
     where
-      go : (v : Answer) → checksOf nos coords paths backs tiles tally refs segs ≡ v
-          → Ways (goOn v Stage.Lent (runningOf 0 0) (λ f. outOf f backs tiles tally refs segs) (drawnOf nos coords paths backs tiles tally refs segs))
+      go : (v : Answer) → checksOf nos coords paths backs stored tally refs segs ≡ v
+          → Ways (goOn v Stage.Lent (runningOf 0 0) (λ f. outOf f backs stored tally refs segs) (drawnOf nos coords paths backs stored tally refs segs))
       go Answer.Done q = drawn-ways q
       go (Answer.Refused m item) q = lent-refused m item q refl
 
@@ -244,7 +244,7 @@ out-once : (f g : Framed) (bs bs′ : List ℤ) (ts ts′ ks ks′ rs rs′ : Li
 out-once f g bs bs′ ts ts′ ks ks′ rs rs′ sg sg′ e = (
   Framed.framed-once f g (ap (λ (o : Out). o .paper) e),
   ap (λ (o : Out). o .backs) e,
-  ap (λ (o : Out). o .tiles) e,
+  ap (λ (o : Out). o .stored) e,
   ap (λ (o : Out). o .tally) e,
   ap (λ (o : Out). o .refs) e,
   ap (λ (o : Out). o .segments) e,
@@ -319,21 +319,21 @@ moved : {nos : List ℕ} {coords : List Float} {paths : List ℕ} {n : ℕ} {ref
     → Framing nos coords paths n refs segs s bs ts ks rs sg a → Framing nos coords paths n refs segs u bs′ ts′ ks′ rs′ sg′ b
 moved p q t k r g w f = rw (← p, ← q, ← t, ← k, ← r, ← g, ← w) f
 
-module _ (nos : List ℕ) (coords : List Float) (paths : List ℕ) (backs : List ℤ) (tiles tally refs : List ℕ) (segs : List Float)
+module _ (nos : List ℕ) (coords : List Float) (paths : List ℕ) (backs : List ℤ) (stored tally refs : List ℕ) (segs : List Float)
     (bs : List ℤ) (ts ks rs : List ℕ) (sg : List Float) where
   -- a frame has one end
-  is-one : (g : Framed) → frameOf nos coords paths backs tiles tally refs segs ≡ outOf g bs ts ks rs sg → (f : Framed) (bs′ : List ℤ) (ts′ ks′ rs′ : List ℕ) (sg′ : List Float)
-      → frameOf nos coords paths backs tiles tally refs segs ≡ outOf f bs′ ts′ ks′ rs′ sg′ → f ≡ g
+  is-one : (g : Framed) → frameOf nos coords paths backs stored tally refs segs ≡ outOf g bs ts ks rs sg → (f : Framed) (bs′ : List ℤ) (ts′ ks′ rs′ : List ℕ) (sg′ : List Float)
+      → frameOf nos coords paths backs stored tally refs segs ≡ outOf f bs′ ts′ ks′ rs′ sg′ → f ≡ g
   is-one g e f bs′ ts′ ks′ rs′ sg′ q = out-once f g bs′ bs ts′ ts ks′ ks rs′ rs sg′ sg (sym q ∙ e) .0
 
-  ended : (a : Answer) (s : Running) → frameOf nos coords paths backs tiles tally refs segs ≡ outOf (tiledAs a s) bs ts ks rs sg
-      → Framing nos coords paths (length tiles) refs segs s bs ts ks rs sg a
-  ended a s e = go (ways nos coords paths backs tiles tally refs segs)
+  ended : (a : Answer) (s : Running) → frameOf nos coords paths backs stored tally refs segs ≡ outOf (tiledAs a s) bs ts ks rs sg
+      → Framing nos coords paths (length stored) refs segs s bs ts ks rs sg a
+  ended a s e = go (ways nos coords paths backs stored tally refs segs)
     where
-      go : Way nos coords paths backs tiles tally refs segs (frameOf nos coords paths backs tiles tally refs segs)
-          → Framing nos coords paths (length tiles) refs segs s bs ts ks rs sg a
+      go : Way nos coords paths backs stored tally refs segs (frameOf nos coords paths backs stored tally refs segs)
+          → Framing nos coords paths (length stored) refs segs s bs ts ks rs sg a
       go (lent-refused m item q o) = not-tiled (Refused Stage.Lent m item (runningOf 0 0)) a s (omega arith) (omega arith)
-          (is-one (tiledAs a s) e (Refused Stage.Lent m item (runningOf 0 0)) backs tiles tally refs segs o)
+          (is-one (tiledAs a s) e (Refused Stage.Lent m item (runningOf 0 0)) backs stored tally refs segs o)
       go (line-refused m u bs′ cs rs′ q t o) = not-tiled (Refused Stage.Count m (u .lines) u) a s (omega arith) (omega arith)
           (is-one (tiledAs a s) e (Refused Stage.Count m (u .lines) u) bs′ cs tally rs′ segs o)
       go (slots-refused u bs′ cs rs′ q c h o) = not-tiled (Refused Stage.HandOut noRoom 0 u) a s (omega arith) (omega arith)
@@ -341,28 +341,28 @@ module _ (nos : List ℕ) (coords : List Float) (paths : List ℕ) (backs : List
       go (tiled-out a′ u bs′ cs rs′ sg′ q c h t o) =
           let w = out-once (tiledAs a′ u) (tiledAs a s) bs′ bs (hand 0 cs) ts cs ks rs′ rs sg′ sg (sym o ∙ e) in
           let v = tiled-once a′ a u s (w .0) in
-          let f : Framing nos coords paths (length tiles) refs segs u bs′ (hand 0 cs) cs rs′ sg′ a′ = framing nos coords paths (length tiles) refs segs a′ u bs′ cs rs′ sg′ c h t in
+          let f : Framing nos coords paths (length stored) refs segs u bs′ (hand 0 cs) cs rs′ sg′ a′ = framing nos coords paths (length stored) refs segs a′ u bs′ cs rs′ sg′ c h t in
           moved (v .1) (w .1) (w .2) (w .3) (w .4) (w .5) (v .0) f
 
   -- A frame is done: all lines are counted and summed, each reference has its slot, and no piece is stray
-  pub frame-done : (s : Running) → frameOf nos coords paths backs tiles tally refs segs ≡ outOf (Done s) bs ts ks rs sg
-      → Framing nos coords paths (length tiles) refs segs s bs ts ks rs sg Answer.Done
+  pub frame-done : (s : Running) → frameOf nos coords paths backs stored tally refs segs ≡ outOf (Done s) bs ts ks rs sg
+      → Framing nos coords paths (length stored) refs segs s bs ts ks rs sg Answer.Done
   frame-done s e = ended Answer.Done s e
 
   -- A frame is refused in tiling, at reference k: the same of all that came before it
-  pub frame-refused : (s : Running) (why k : ℕ) → frameOf nos coords paths backs tiles tally refs segs ≡ outOf (Refused Stage.Tile why k s) bs ts ks rs sg
-      → Framing nos coords paths (length tiles) refs segs s bs ts ks rs sg (Answer.Refused why k)
+  pub frame-refused : (s : Running) (why k : ℕ) → frameOf nos coords paths backs stored tally refs segs ≡ outOf (Refused Stage.Tile why k s) bs ts ks rs sg
+      → Framing nos coords paths (length stored) refs segs s bs ts ks rs sg (Answer.Refused why k)
   frame-refused s why k e = ended (Answer.Refused why k) s e
 
   -- and k is the first reference refused
-  pub frame-why : (s : Running) (why k : ℕ) → frameOf nos coords paths backs tiles tally refs segs ≡ outOf (Refused Stage.Tile why k s) bs ts ks rs sg
+  pub frame-why : (s : Running) (why k : ℕ) → frameOf nos coords paths backs stored tally refs segs ≡ outOf (Refused Stage.Tile why k s) bs ts ks rs sg
       → RangeWhy (lent nos coords paths ts rs) (slotsOf (length segs)) (s .refs) 0 why k
-  frame-why s why k e = go (ways nos coords paths backs tiles tally refs segs)
+  frame-why s why k e = go (ways nos coords paths backs stored tally refs segs)
     where
-      go : Way nos coords paths backs tiles tally refs segs (frameOf nos coords paths backs tiles tally refs segs)
+      go : Way nos coords paths backs stored tally refs segs (frameOf nos coords paths backs stored tally refs segs)
           → RangeWhy (lent nos coords paths ts rs) (slotsOf (length segs)) (s .refs) 0 why k
       go (lent-refused m item q o) = clash (Refused Stage.Lent m item (runningOf 0 0)) (Refused Stage.Tile why k s) (omega arith)
-          (is-one (Refused Stage.Tile why k s) e (Refused Stage.Lent m item (runningOf 0 0)) backs tiles tally refs segs o)
+          (is-one (Refused Stage.Tile why k s) e (Refused Stage.Lent m item (runningOf 0 0)) backs stored tally refs segs o)
       go (line-refused m u bs′ cs rs′ q t o) = clash (Refused Stage.Count m (u .lines) u) (Refused Stage.Tile why k s) (omega arith)
           (is-one (Refused Stage.Tile why k s) e (Refused Stage.Count m (u .lines) u) bs′ cs tally rs′ segs o)
       go (slots-refused u bs′ cs rs′ q c h o) = clash (Refused Stage.HandOut noRoom 0 u) (Refused Stage.Tile why k s) (omega arith)
@@ -370,17 +370,17 @@ module _ (nos : List ℕ) (coords : List Float) (paths : List ℕ) (backs : List
       go (tiled-out a u bs′ cs rs′ sg′ q c h t o) =
           let w = out-once (tiledAs a u) (Refused Stage.Tile why k s) bs′ bs (hand 0 cs) ts cs ks rs′ rs sg′ sg (sym o ∙ e) in
           let v = tiled-once a (Answer.Refused why k) u s (w .0) in
-          rw (v .1, w .2, w .4) at (tiling-why nos coords paths backs tiles tally refs segs q u bs′ cs rs′ c why k sg′ (rw (v .0) at t))
+          rw (v .1, w .2, w .4) at (tiling-why nos coords paths backs stored tally refs segs q u bs′ cs rs′ c why k sg′ (rw (v .0) at t))
 
   -- A frame is refused by the checks of what is lent: exactly by their ground, and nothing changes
-  pub frame-lent : (s : Running) (why item : ℕ) → frameOf nos coords paths backs tiles tally refs segs ≡ outOf (Refused Stage.Lent why item s) bs ts ks rs sg
-      → (checksOf nos coords paths backs tiles tally refs segs ≡ Answer.Refused why item) × (bs ≡ backs) × (ts ≡ tiles) × (ks ≡ tally) × (rs ≡ refs) × (sg ≡ segs)
-  frame-lent s why item e = go (ways nos coords paths backs tiles tally refs segs)
+  pub frame-lent : (s : Running) (why item : ℕ) → frameOf nos coords paths backs stored tally refs segs ≡ outOf (Refused Stage.Lent why item s) bs ts ks rs sg
+      → (checksOf nos coords paths backs stored tally refs segs ≡ Answer.Refused why item) × (bs ≡ backs) × (ts ≡ stored) × (ks ≡ tally) × (rs ≡ refs) × (sg ≡ segs)
+  frame-lent s why item e = go (ways nos coords paths backs stored tally refs segs)
     where
-      go : Way nos coords paths backs tiles tally refs segs (frameOf nos coords paths backs tiles tally refs segs)
-          → (checksOf nos coords paths backs tiles tally refs segs ≡ Answer.Refused why item) × (bs ≡ backs) × (ts ≡ tiles) × (ks ≡ tally) × (rs ≡ refs) × (sg ≡ segs)
+      go : Way nos coords paths backs stored tally refs segs (frameOf nos coords paths backs stored tally refs segs)
+          → (checksOf nos coords paths backs stored tally refs segs ≡ Answer.Refused why item) × (bs ≡ backs) × (ts ≡ stored) × (ks ≡ tally) × (rs ≡ refs) × (sg ≡ segs)
       go (lent-refused m i q o) =
-          let w = out-once (Refused Stage.Lent m i (runningOf 0 0)) (Refused Stage.Lent why item s) backs bs tiles ts tally ks refs rs segs sg (sym o ∙ e) in
+          let w = out-once (Refused Stage.Lent m i (runningOf 0 0)) (Refused Stage.Lent why item s) backs bs stored ts tally ks refs rs segs sg (sym o ∙ e) in
           let f = w .0 in
           let a : m ≡ why = cc in
           let b : i ≡ item = cc in
@@ -394,16 +394,16 @@ module _ (nos : List ℕ) (coords : List Float) (paths : List ℕ) (backs : List
 
   -- A frame is refused at a line: it is the first line refused, with that line's number and ground; the lines before it are counted, and the tally and the
   -- segments are as they were
-  pub frame-line : (s : Running) (why item : ℕ) → frameOf nos coords paths backs tiles tally refs segs ≡ outOf (Refused Stage.Count why item s) bs ts ks rs sg
-      → (item ≡ s .lines) × BatchWhy nos coords paths (length refs / refWords) 0 (length nos) (cleared (length tiles) refs) (stOf bs ts rs (s .refs)) (refusal why (s .lines))
+  pub frame-line : (s : Running) (why item : ℕ) → frameOf nos coords paths backs stored tally refs segs ≡ outOf (Refused Stage.Count why item s) bs ts ks rs sg
+      → (item ≡ s .lines) × BatchWhy nos coords paths (length refs / refWords) 0 (length nos) (cleared (length stored) refs) (stOf bs ts rs (s .refs)) (refusal why (s .lines))
       × (ks ≡ tally) × (sg ≡ segs)
-  frame-line s why item e = go (ways nos coords paths backs tiles tally refs segs)
+  frame-line s why item e = go (ways nos coords paths backs stored tally refs segs)
     where
-      go : Way nos coords paths backs tiles tally refs segs (frameOf nos coords paths backs tiles tally refs segs)
-          → (item ≡ s .lines) × BatchWhy nos coords paths (length refs / refWords) 0 (length nos) (cleared (length tiles) refs) (stOf bs ts rs (s .refs)) (refusal why (s .lines))
+      go : Way nos coords paths backs stored tally refs segs (frameOf nos coords paths backs stored tally refs segs)
+          → (item ≡ s .lines) × BatchWhy nos coords paths (length refs / refWords) 0 (length nos) (cleared (length stored) refs) (stOf bs ts rs (s .refs)) (refusal why (s .lines))
           × (ks ≡ tally) × (sg ≡ segs)
       go (lent-refused m i q o) = clash (Refused Stage.Lent m i (runningOf 0 0)) (Refused Stage.Count why item s) (omega arith)
-          (is-one (Refused Stage.Count why item s) e (Refused Stage.Lent m i (runningOf 0 0)) backs tiles tally refs segs o)
+          (is-one (Refused Stage.Count why item s) e (Refused Stage.Lent m i (runningOf 0 0)) backs stored tally refs segs o)
       go (line-refused m u bs′ cs rs′ q t o) =
           let w = out-once (Refused Stage.Count m (u .lines) u) (Refused Stage.Count why item s) bs′ bs cs ts tally ks rs′ rs segs sg (sym o ∙ e) in
           let f = w .0 in
@@ -418,12 +418,12 @@ module _ (nos : List ℕ) (coords : List Float) (paths : List ℕ) (backs : List
           (sym (is-one (Refused Stage.Count why item s) e (tiledAs a u) bs′ (hand 0 cs) cs rs′ sg′ o))
 
   -- The sums of a frame are never refused
-  pub frame-no-sums : (s : Running) (why item : ℕ) → frameOf nos coords paths backs tiles tally refs segs ≡ outOf (Refused Stage.Backdrop why item s) bs ts ks rs sg → ⊥
-  frame-no-sums s why item e = go (ways nos coords paths backs tiles tally refs segs)
+  pub frame-no-sums : (s : Running) (why item : ℕ) → frameOf nos coords paths backs stored tally refs segs ≡ outOf (Refused Stage.Backdrop why item s) bs ts ks rs sg → ⊥
+  frame-no-sums s why item e = go (ways nos coords paths backs stored tally refs segs)
     where
-      go : Way nos coords paths backs tiles tally refs segs (frameOf nos coords paths backs tiles tally refs segs) → ⊥
+      go : Way nos coords paths backs stored tally refs segs (frameOf nos coords paths backs stored tally refs segs) → ⊥
       go (lent-refused m i q o) = clash (Refused Stage.Lent m i (runningOf 0 0)) (Refused Stage.Backdrop why item s) (omega arith)
-          (is-one (Refused Stage.Backdrop why item s) e (Refused Stage.Lent m i (runningOf 0 0)) backs tiles tally refs segs o)
+          (is-one (Refused Stage.Backdrop why item s) e (Refused Stage.Lent m i (runningOf 0 0)) backs stored tally refs segs o)
       go (line-refused m u bs′ cs rs′ q t o) = clash (Refused Stage.Count m (u .lines) u) (Refused Stage.Backdrop why item s) (omega arith)
           (is-one (Refused Stage.Backdrop why item s) e (Refused Stage.Count m (u .lines) u) bs′ cs tally rs′ segs o)
       go (slots-refused u bs′ cs rs′ q c h o) = clash (Refused Stage.HandOut noRoom 0 u) (Refused Stage.Backdrop why item s) (omega arith)
@@ -433,14 +433,14 @@ module _ (nos : List ℕ) (coords : List Float) (paths : List ℕ) (backs : List
 
   -- A frame is refused by hand-out: with 9, where more references are counted than there are segments; the counts stand where the slots would, and the
   -- tally and the segments are as they were
-  pub frame-slots : (s : Running) (why item : ℕ) → frameOf nos coords paths backs tiles tally refs segs ≡ outOf (Refused Stage.HandOut why item s) bs ts ks rs sg
-      → (why ≡ noRoom) × (item ≡ 0) × (slotsOf (length segs) < s .refs) × Counts nos coords paths (length tiles) refs s bs ts rs × (ks ≡ tally) × (sg ≡ segs)
-  frame-slots s why item e = go (ways nos coords paths backs tiles tally refs segs)
+  pub frame-slots : (s : Running) (why item : ℕ) → frameOf nos coords paths backs stored tally refs segs ≡ outOf (Refused Stage.HandOut why item s) bs ts ks rs sg
+      → (why ≡ noRoom) × (item ≡ 0) × (slotsOf (length segs) < s .refs) × Counts nos coords paths (length stored) refs s bs ts rs × (ks ≡ tally) × (sg ≡ segs)
+  frame-slots s why item e = go (ways nos coords paths backs stored tally refs segs)
     where
-      go : Way nos coords paths backs tiles tally refs segs (frameOf nos coords paths backs tiles tally refs segs)
-          → (why ≡ noRoom) × (item ≡ 0) × (slotsOf (length segs) < s .refs) × Counts nos coords paths (length tiles) refs s bs ts rs × (ks ≡ tally) × (sg ≡ segs)
+      go : Way nos coords paths backs stored tally refs segs (frameOf nos coords paths backs stored tally refs segs)
+          → (why ≡ noRoom) × (item ≡ 0) × (slotsOf (length segs) < s .refs) × Counts nos coords paths (length stored) refs s bs ts rs × (ks ≡ tally) × (sg ≡ segs)
       go (lent-refused m i q o) = clash (Refused Stage.Lent m i (runningOf 0 0)) (Refused Stage.HandOut why item s) (omega arith)
-          (is-one (Refused Stage.HandOut why item s) e (Refused Stage.Lent m i (runningOf 0 0)) backs tiles tally refs segs o)
+          (is-one (Refused Stage.HandOut why item s) e (Refused Stage.Lent m i (runningOf 0 0)) backs stored tally refs segs o)
       go (line-refused m u bs′ cs rs′ q t o) = clash (Refused Stage.Count m (u .lines) u) (Refused Stage.HandOut why item s) (omega arith)
           (is-one (Refused Stage.HandOut why item s) e (Refused Stage.Count m (u .lines) u) bs′ cs tally rs′ segs o)
       go (slots-refused u bs′ cs rs′ q c h o) =
@@ -458,18 +458,18 @@ module _ (nos : List ℕ) (coords : List Float) (paths : List ℕ) (backs : List
 -- Beam isolation between frames: over the same paths and as many tiles, with path p's lines the same in order, whatever the other paths' lines: path p's
 -- counts, which the tally keeps, and its summed backdrops are alike
 pub frames-isolated : (paths : List ℕ)
-    (nos : List ℕ) (coords : List Float) (backs : List ℤ) (tiles tally refs : List ℕ) (segs : List Float) (s : Running) (bs : List ℤ) (ts ks rs : List ℕ) (sg : List Float)
+    (nos : List ℕ) (coords : List Float) (backs : List ℤ) (stored tally refs : List ℕ) (segs : List Float) (s : Running) (bs : List ℤ) (ts ks rs : List ℕ) (sg : List Float)
     (nos′ : List ℕ) (coords′ : List Float) (backs′ : List ℤ) (tiles′ tally′ refs′ : List ℕ) (segs′ : List Float) (s′ : Running) (bs′ : List ℤ) (ts′ ks′ rs′ : List ℕ) (sg′ : List Float)
-    → frameOf nos coords paths backs tiles tally refs segs ≡ outOf (Done s) bs ts ks rs sg
+    → frameOf nos coords paths backs stored tally refs segs ≡ outOf (Done s) bs ts ks rs sg
     → frameOf nos′ coords′ paths backs′ tiles′ tally′ refs′ segs′ ≡ outOf (Done s′) bs′ ts′ ks′ rs′ sg′
-    → length tiles ≡ length tiles′ → (p : ℕ) → ofPath p (drawn nos coords (length nos)) ≡ ofPath p (drawn nos′ coords′ (length nos′)) → p < pathCount paths
+    → length stored ≡ length tiles′ → (p : ℕ) → ofPath p (drawn nos coords (length nos)) ≡ ofPath p (drawn nos′ coords′ (length nos′)) → p < pathCount paths
     → ((t : ℕ) → InPath paths p t → getD ks t 0 ≡ getD ks′ t 0)
     × ((x y : ℕ) → InBox (pathAt paths p) x y → Backdrop.backdropAt bs (tileOf (pathAt paths p) x y) ≡ Backdrop.backdropAt bs′ (tileOf (pathAt paths p) x y))
-frames-isolated paths nos coords backs tiles tally refs segs s bs ts ks rs sg nos′ coords′ backs′ tiles′ tally′ refs′ segs′ s′ bs′ ts′ ks′ rs′ sg′ e e′ l p q k =
-    let c = frame-done nos coords paths backs tiles tally refs segs bs ts ks rs sg s e .counts in
-    let c′ : Counts nos′ coords′ paths (length tiles) refs′ s′ bs′ ks′ rs′ = rw (← l) at (frame-done nos′ coords′ paths backs′ tiles′ tally′ refs′ segs′ bs′ ts′ ks′ rs′ sg′ s′ e′ .counts) in (
-      (λ t i. isolated paths (length tiles) (length nos) nos coords refs (c .marks) ks rs (s .refs) (length nos′) nos′ coords′ refs′ (c′ .marks) ks′ rs′ (s′ .refs) (c .all) (c′ .all) p q t i .0),
-      (λ x y i. isolated-sums paths (length tiles) (length nos) nos coords refs (c .marks) ks rs (s .refs) (length nos′) nos′ coords′ refs′ (c′ .marks) ks′ rs′
+frames-isolated paths nos coords backs stored tally refs segs s bs ts ks rs sg nos′ coords′ backs′ tiles′ tally′ refs′ segs′ s′ bs′ ts′ ks′ rs′ sg′ e e′ l p q k =
+    let c = frame-done nos coords paths backs stored tally refs segs bs ts ks rs sg s e .counts in
+    let c′ : Counts nos′ coords′ paths (length stored) refs′ s′ bs′ ks′ rs′ = rw (← l) at (frame-done nos′ coords′ paths backs′ tiles′ tally′ refs′ segs′ bs′ ts′ ks′ rs′ sg′ s′ e′ .counts) in (
+      (λ t i. isolated paths (length stored) (length nos) nos coords refs (c .marks) ks rs (s .refs) (length nos′) nos′ coords′ refs′ (c′ .marks) ks′ rs′ (s′ .refs) (c .all) (c′ .all) p q t i .0),
+      (λ x y i. isolated-sums paths (length stored) (length nos) nos coords refs (c .marks) ks rs (s .refs) (length nos′) nos′ coords′ refs′ (c′ .marks) ks′ rs′
           (s′ .refs) (c .all) (c′ .all) p q k bs bs′ (c .sums) (c′ .sums) x y i),
     )
 
@@ -481,17 +481,17 @@ pub one-frame : (nos : List ℕ) (coords : List Float) (paths : List ℕ) (bs : 
 one-frame nos coords paths bs ts ks rs sg a b bs₁ bs₂ ts₁ ts₂ ks₁ ks₂ rs₁ rs₂ sg₁ sg₂ p q = out-once a b bs₁ bs₂ ts₁ ts₂ ks₁ ks₂ rs₁ rs₂ sg₁ sg₂ (p ∙ sym q)
 
 -- What an older frame left in the tiles is of no account
-module _ (nos : List ℕ) (coords : List Float) (paths : List ℕ) (backs backs′ : List ℤ) (tiles tiles′ tally refs : List ℕ) (segs : List Float)
-    (e : length backs ≡ length backs′) (f : length tiles ≡ length tiles′) where
-  same-checks : checksOf nos coords paths backs tiles tally refs segs ≡ checksOf nos coords paths backs′ tiles′ tally refs segs
+module _ (nos : List ℕ) (coords : List Float) (paths : List ℕ) (backs backs′ : List ℤ) (stored tiles′ tally refs : List ℕ) (segs : List Float)
+    (e : length backs ≡ length backs′) (f : length stored ≡ length tiles′) where
+  same-checks : checksOf nos coords paths backs stored tally refs segs ≡ checksOf nos coords paths backs′ tiles′ tally refs segs
   unfolding checksOf
   same-checks = rw (e, f)
 
-  same-drawn : drawnOf nos coords paths backs tiles tally refs segs ≡ drawnOf nos coords paths backs′ tiles′ tally refs segs
+  same-drawn : drawnOf nos coords paths backs stored tally refs segs ≡ drawnOf nos coords paths backs′ tiles′ tally refs segs
   unfolding drawnOf
   same-drawn = rw (e, f)
 
-  pub frame-fresh : checksOf nos coords paths backs tiles tally refs segs ≡ Answer.Done
-      → frameOf nos coords paths backs tiles tally refs segs ≡ frameOf nos coords paths backs′ tiles′ tally refs segs
+  pub frame-fresh : checksOf nos coords paths backs stored tally refs segs ≡ Answer.Done
+      → frameOf nos coords paths backs stored tally refs segs ≡ frameOf nos coords paths backs′ tiles′ tally refs segs
   unfolding frameOf
   frame-fresh ok = rw (ok, sym same-checks ∙ ok) same-drawn

@@ -166,8 +166,8 @@ path-of-the-line f =
 
 abbrev RoomTheOtherWay : Type 0
 RoomTheOtherWay =
-    (nos : List ℕ) (coords : List Float) (paths : List ℕ) (backs : List ℤ) (tiles tally refs : List ℕ) (segs : List Float) (s : Running) (bs : List ℤ) (ts ks rs : List ℕ) (sg : List Float)
-    → frameOf nos coords paths backs tiles tally refs segs ≡ outOf (Refused Stage.HandOut noRoom 0 s) bs ts ks rs sg → s .refs < slotsOf (length segs)
+    (nos : List ℕ) (coords : List Float) (paths : List ℕ) (backs : List ℤ) (stored tally refs : List ℕ) (segs : List Float) (s : Running) (bs : List ℤ) (ts ks rs : List ℕ) (sg : List Float)
+    → frameOf nos coords paths backs stored tally refs segs ≡ outOf (Refused Stage.HandOut noRoom 0 s) bs ts ks rs sg → s .refs < slotsOf (length segs)
 
 pub room-this-way : RoomTheOtherWay → ⊥
 room-this-way f = let h : 2 < 1 = f _ _ _ _ _ _ _ _ _ _ _ _ _ _ no-slot in omega arith

@@ -59,14 +59,14 @@ pub isolated-after : (paths : List ℕ) (n : ℕ)
     → AllCounted b nos coords paths n refs bs cs rs m → AllCounted b′ nos′ coords′ paths n refs′ bs′ cs′ rs′ m′
     → (p : ℕ) → ofPath p (drawn nos coords b) ≡ ofPath p (drawn nos′ coords′ b′) → p < pathCount paths
     → (x y : ℕ) → InBox (pathAt paths p) x y
-    → backdropAt (backdropOf paths bs .tiles) (tileOf (pathAt paths p) x y) ≡ backdropAt (backdropOf paths bs′ .tiles) (tileOf (pathAt paths p) x y)
+    → backdropAt (backdropOf paths bs .backs) (tileOf (pathAt paths p) x y) ≡ backdropAt (backdropOf paths bs′ .backs) (tileOf (pathAt paths p) x y)
 isolated-after paths n b nos coords refs bs cs rs m b′ nos′ coords′ refs′ bs′ cs′ rs′ m′ all all′ p e k x y i =
     let d = sums-done b nos coords paths n refs bs cs rs m all in
     let d′ = sums-done b′ nos′ coords′ paths n refs′ bs′ cs′ rs′ m′ all′ in
     let t : ℕ = tileOf (pathAt paths p) x y in
-    ap (λ (o : Out). backdropAt (o .tiles) t) (d .1)
+    ap (λ (o : Out). backdropAt (o .backs) t) (d .1)
     ∙ isolated-sums paths n b nos coords refs bs cs rs m b′ nos′ coords′ refs′ bs′ cs′ rs′ m′ all all′ p e k (d .0) (d′ .0) (d .1) (d′ .1) x y i
-    ∙ sym (ap (λ (o : Out). backdropAt (o .tiles) t) (d′ .1))
+    ∙ sym (ap (λ (o : Out). backdropAt (o .backs) t) (d′ .1))
 
 -- the premise is no empty one: (8,8)-(8,24) over the box 0,0,2,2
 pub an-instance : AllCounted 1 (0 ∷ []) (floatsOf (8 ∷ 8 ∷ 8 ∷ 24 ∷ [])) (boxed 0 0 2 2 0) 4 (0 ∷ 0 ∷ 0 ∷ 0 ∷ [])

@@ -47,19 +47,19 @@ refusal n l = record { no = n; line = l }
 
 -- the ways in which a frame ends, with its ground and what is left: what is lent is refused; a line is; there are more references than segments; or
 -- all of them are tiled, or those before the one refused. The sums of backdrop have no way of their own: they are never refused
-pub data Way (nos : List ℕ) (coords : List Float) (paths : List ℕ) (backs : List ℤ) (tiles tally refs : List ℕ) (segs : List Float) (o : Out) : Type 0 where
-  lent-refused : (n item : ℕ) → checksOf nos coords paths backs tiles tally refs segs ≡ Answer.Refused n item
-      → o ≡ outOf (Refused Stage.Lent n item (runningOf 0 0)) backs tiles tally refs segs → Way nos coords paths backs tiles tally refs segs o
-  line-refused : (n : ℕ) (s : Running) (bs : List ℤ) (cs rs : List ℕ) → checksOf nos coords paths backs tiles tally refs segs ≡ Answer.Done
-      → BatchWhy nos coords paths (length refs / refWords) 0 (length nos) (cleared (length tiles) refs) (stOf bs cs rs (s .refs)) (refusal n (s .lines))
-      → o ≡ outOf (Refused Stage.Count n (s .lines) s) bs cs tally rs segs → Way nos coords paths backs tiles tally refs segs o
-  slots-refused : (s : Running) (bs : List ℤ) (cs rs : List ℕ) → checksOf nos coords paths backs tiles tally refs segs ≡ Answer.Done
-      → Counts nos coords paths (length tiles) refs s bs cs rs → slotsOf (length segs) < s .refs
-      → o ≡ outOf (Refused Stage.HandOut noRoom 0 s) bs cs tally rs segs → Way nos coords paths backs tiles tally refs segs o
-  tiled-out : (a : Answer) (s : Running) (bs : List ℤ) (cs rs : List ℕ) (sg : List Float) → checksOf nos coords paths backs tiles tally refs segs ≡ Answer.Done
-      → Counts nos coords paths (length tiles) refs s bs cs rs → s .refs ≤ slotsOf (length segs)
+pub data Way (nos : List ℕ) (coords : List Float) (paths : List ℕ) (backs : List ℤ) (stored tally refs : List ℕ) (segs : List Float) (o : Out) : Type 0 where
+  lent-refused : (n item : ℕ) → checksOf nos coords paths backs stored tally refs segs ≡ Answer.Refused n item
+      → o ≡ outOf (Refused Stage.Lent n item (runningOf 0 0)) backs stored tally refs segs → Way nos coords paths backs stored tally refs segs o
+  line-refused : (n : ℕ) (s : Running) (bs : List ℤ) (cs rs : List ℕ) → checksOf nos coords paths backs stored tally refs segs ≡ Answer.Done
+      → BatchWhy nos coords paths (length refs / refWords) 0 (length nos) (cleared (length stored) refs) (stOf bs cs rs (s .refs)) (refusal n (s .lines))
+      → o ≡ outOf (Refused Stage.Count n (s .lines) s) bs cs tally rs segs → Way nos coords paths backs stored tally refs segs o
+  slots-refused : (s : Running) (bs : List ℤ) (cs rs : List ℕ) → checksOf nos coords paths backs stored tally refs segs ≡ Answer.Done
+      → Counts nos coords paths (length stored) refs s bs cs rs → slotsOf (length segs) < s .refs
+      → o ≡ outOf (Refused Stage.HandOut noRoom 0 s) bs cs tally rs segs → Way nos coords paths backs stored tally refs segs o
+  tiled-out : (a : Answer) (s : Running) (bs : List ℤ) (cs rs : List ℕ) (sg : List Float) → checksOf nos coords paths backs stored tally refs segs ≡ Answer.Done
+      → Counts nos coords paths (length stored) refs s bs cs rs → s .refs ≤ slotsOf (length segs)
       → tiledOf 0 (s .refs) (lent nos coords paths (hand 0 cs) rs) segs ≡ tiled a sg
-      → o ≡ outOf (tiledAs a s) bs (hand 0 cs) cs rs sg → Way nos coords paths backs tiles tally refs segs o
+      → o ≡ outOf (tiledAs a s) bs (hand 0 cs) cs rs sg → Way nos coords paths backs stored tally refs segs o
 
 -- what stands after a frame over n tiles whose tiling answered a: backdrops bs, words ts, tally ks, references rs, segments sg
 pub record Framing (nos : List ℕ) (coords : List Float) (paths : List ℕ) (n : ℕ) (refs : List ℕ) (segs : List Float) (s : Running) (bs : List ℤ)

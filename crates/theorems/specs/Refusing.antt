@@ -66,7 +66,7 @@ pub record HandExact (room : ℕ) (ns kept : List ℕ) (o : Out) : Type 0 where
   -- 0: none of these
   pub none : (o .paper ≡ doneNo ∷ []) ↔ ((length ns ≡ length kept) × (length ns ≤ mostTiles) × (sum ns ≤ min room mostSlots))
   -- a refusal changes nothing
-  pub kept-all : o .paper ≢ doneNo ∷ [] → (o .tiles ≡ ns) × (o .tally ≡ kept)
+  pub kept-all : o .paper ≢ doneNo ∷ [] → (o .stored ≡ ns) × (o .tally ≡ kept)
 
 -- ---- 6: a coordinate not finite, or of magnitude over the limit. `reach-exact` of proofs/Grounds.antt says that the panel's test is this
 

@@ -21,7 +21,7 @@ same-length c = search needs
 returns : tie.Need-returns
 returns c =
     let e = c .before .before .before .backdrop .ensures in
-    told-at (c .before .before .before .backdrop .result) _ _ _ _ _ (c .number .ensures) (c .before .item .ensures) (ap (λ (o : Out). o .paper) e) (ap (λ (o : Out). o .tiles) e)
+    told-at (c .before .before .before .backdrop .result) _ _ _ _ _ (c .number .ensures) (c .before .item .ensures) (ap (λ (o : Out). o .paper) e) (ap (λ (o : Out). o .backs) e)
 
 pub gp-backdrop-spec : {M : Type 1} → statement M
 gp-backdrop-spec = tie.close (tie.spec backdrop-requires item-requires number-requires same-length returns)

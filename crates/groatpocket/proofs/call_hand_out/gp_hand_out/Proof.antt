@@ -22,7 +22,7 @@ same-length-2 c = search needs
 
 -- both slices at once
 both : Out → List ℕ × List ℕ
-both o = (o .tiles, o .tally)
+both o = (o .stored, o .tally)
 
 returns : tie.Need-returns
 unfolding both
