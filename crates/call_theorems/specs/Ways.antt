@@ -37,8 +37,18 @@ use Rattle.frame.specs.declared.kinds.Framed.{Framed}
 use Rattle.frame.specs.declared.kinds.Framed.the-variants as Framed
 use Rattle.coverage.specs.Fill.{fillChecks}
 use Rattle.coverage.specs.Coverage.{coverageOf}
+use Rattle.coverage.specs.Coverage.{pixelOf}
+use Rattle.coverage.specs.Tile.{tileSize}
+use Rattle.colours.specs.Colour.{packOf}
 use Rattle.commands.specs.Numbers.{startOf}
+use Rattle.fine.specs.Screen.{endsAt, colourAt}
 use Rattle.fine.specs.Fine.{fineChecks, tilesOf}
+use Rattle.pixel.specs.Place.{placeAt, placeChecks}
+use Rattle.pixel.specs.Colour.{wholeChecks}
+use Rattle.pixel.specs.declared.kinds.Covered.{Covered}
+use Rattle.pixel.specs.declared.kinds.Covered.the-variants as Covered
+use Rattle.pixel.specs.declared.kinds.Coloured.{Coloured}
+use Rattle.pixel.specs.declared.kinds.Coloured.the-variants as Coloured
 use Rattle.write_lists.specs.Pairs.{Tables}
 use Rattle.write_lists.specs.Layout.{written}
 use Rattle.write_lists.specs.Lists as Lists
@@ -150,6 +160,28 @@ pub data FineWay (words : List ℕ) (segs : List Float) (width cols rows from to
   -- all are shown
   all-shown : x ≡ Done → firstNo (fineRow segs width cols rows from to pixels) ≡ Fine → tilesOf words segs width cols from to pixels ≡ done pixels′
       → FineWay words segs width cols rows from to pixels x pixels′
+
+-- ---- one pixel
+
+pub data PixelAreaWay (segs : List Float) (first n : ℕ) (evenOdd : Bool) (backdrop : ℤ) (x y : Float) (column row : ℕ) (a : Covered) : Type 0 where
+  -- 19
+  area-off : (k : ℕ) → a ≡ Covered.Refused k → RowWhy k (placeChecks column row) → PixelAreaWay segs first n evenOdd backdrop x y column row a
+  -- 1, 13, 20, as fill has them
+  area-refused : (k : ℕ) → a ≡ Covered.Refused k → firstNo (placeChecks column row) ≡ Fine → RowWhy k (fillChecks segs tileSize first n)
+      → PixelAreaWay segs first n evenOdd backdrop x y column row a
+  covered : a ≡ Covered.Done (pixelOf segs first n evenOdd backdrop x y (placeAt column row)) → firstNo (placeChecks column row) ≡ Fine
+      → firstNo (fillChecks segs tileSize first n) ≡ Fine → PixelAreaWay segs first n evenOdd backdrop x y column row a
+
+pub data PixelWay (words : List ℕ) (segs : List Float) (t column row : ℕ) (a : Coloured) : Type 0 where
+  -- 19
+  pixel-off : (k : ℕ) → a ≡ Coloured.Refused k → RowWhy k (placeChecks column row) → PixelWay words segs t column row a
+  -- 1
+  pixel-unwhole : (k : ℕ) → a ≡ Coloured.Refused k → firstNo (placeChecks column row) ≡ Fine → RowWhy k (wholeChecks (length segs)) → PixelWay words segs t column row a
+  -- 13, 14, 15, 20: by the tile's commands
+  list-refused : (k : ℕ) → a ≡ Coloured.Refused k → firstNo (placeChecks column row) ≡ Fine → firstNo (wholeChecks (length segs)) ≡ Fine
+      → TraceWhy mostCommands words segs (startOf t) k → PixelWay words segs t column row a
+  coloured : a ≡ Coloured.Done (packOf (colourAt words segs t (placeAt column row))) → firstNo (placeChecks column row) ≡ Fine
+      → firstNo (wholeChecks (length segs)) ≡ Fine → endsAt words segs t ≡ Fine → PixelWay words segs t column row a
 
 -- ---- the lists
 
