@@ -15,7 +15,7 @@ use Rattle.lists.specs.Sums.{sum}
 use Rattle.panel.specs.Refusals.{doneNo, noRoom}
 use Rattle.panel.specs.Widths.{pathWords, lineFloats, refWords}
 use Rattle.panel.specs.Kinds.{runningOf}
-use Rattle.panel.specs.Checks.{firstNo}
+use Rattle.panel.specs.Checks.{Check, firstNo}
 use Rattle.panel.specs.Paths.{pathAt, pathCount, tileOf, pathsAnswer}
 use Rattle.panel.specs.declared.kinds.Running.{Running}
 use Rattle.panel.specs.declared.kinds.Answer.{Answer}

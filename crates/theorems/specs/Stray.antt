@@ -16,6 +16,7 @@ use Rattle.path_tiling.specs.Look.{lineAt}
 use Rattle.panel.specs.Segments.{segmentAt, Straight}
 use Rattle.path_tiling.specs.Tiling.{Write, Range, applied}
 use Rattle.theorems.specs.Refs.{refTile}
+use Rattle.theorems.specs.Drawn.{InPath}
 
 -- the tag at a slot
 abbrev pub tagAt : Pieces → ℕ → ℕ
@@ -59,3 +60,15 @@ pub record NoStray (nos : List ℕ) (coords : List Float) (paths : List ℕ) (cs
   pub tagged : All (λ w. tagAt (applied (r .writes) p) (w .slot) ≡ w .tag) (r .writes)
   pub others : (k : ℕ) → All (λ w. k ≢ w .slot) (r .writes) → segmentAt (applied (r .writes) p .segments) k ≡ segmentAt (p .segments) k
   pub other-tags : (k : ℕ) → All (λ w. k ≢ w .slot) (r .writes) → tagAt (applied (r .writes) p) k ≡ tagAt p k
+
+-- ---- the tags
+
+-- where slot k's tag comes from: one of the m references that counting made, and the beam number of the path of the line that it names
+pub record SlotTag (nos paths rs : List ℕ) (m : ℕ) (p : Pieces) (k : ℕ) : Type 0 where
+  pub ref : ℕ
+  pub counted : ref < m
+  pub tag : tagAt p k ≡ beamAt paths (getD nos (lineAt rs ref) 0)
+
+-- every slot of a tile in a path's range carries that path's beam number, where the tiles' counts are cs
+abbrev pub Carries : (paths cs : List ℕ) → Pieces → Type 0
+Carries paths cs p = (q t j : ℕ) → InPath paths q t → j < getD cs t 0 → tagAt p (first cs t + j) ≡ beamAt paths q
