@@ -313,10 +313,10 @@ module _ (nos : List ℕ) (coords : List Float) (paths : List ℕ) (n : ℕ) (re
         writes = r .writes;
         stray = subst (λ (x : Range). NoStray nos coords paths cs rs (s .refs) pieces x) same
             (no-stray (length nos) nos coords paths n refs (c .marks) cs rs (s .refs) (slotsOf (length (pieces .segments))) cs (hand 0 cs) cs pieces (c .all) (handed-fine s bs cs rs c h));
-        segments = sym (ap (λ (t : Tiled). t .segments) e);
+        pieces = sym (ap (λ (t : Tiled). t .pieces) e);
       }
 
-moved : {nos : List ℕ} {coords : List Float} {paths : List ℕ} {n : ℕ} {refs : List ℕ} {pieces : List Float} {s u : Running} {bs bs′ : List ℤ} {ts ts′ ks ks′ rs rs′ : List ℕ}
+moved : {nos : List ℕ} {coords : List Float} {paths : List ℕ} {n : ℕ} {refs : List ℕ} {pieces : Pieces} {s u : Running} {bs bs′ : List ℤ} {ts ts′ ks ks′ rs rs′ : List ℕ}
     {sg sg′ : Pieces} {a b : Answer} → s ≡ u → bs ≡ bs′ → ts ≡ ts′ → ks ≡ ks′ → rs ≡ rs′ → sg ≡ sg′ → a ≡ b
     → Framing nos coords paths n refs pieces s bs ts ks rs sg a → Framing nos coords paths n refs pieces u bs′ ts′ ks′ rs′ sg′ b
 moved p q t k r g w f = rw (← p, ← q, ← t, ← k, ← r, ← g, ← w) f

@@ -13,7 +13,7 @@ use lib.Ieee.{Float}
 use Rattle.lists.specs.Run.{All}
 use Rattle.lists.specs.Sums.{sum, first, first-within, placed-once}
 use Rattle.lists.specs.Occ.{is, occ, is-other}
-use Rattle.panel.specs.Paths.{pathAt, pathCount, beamAt, pathsAnswer}
+use Rattle.panel.specs.Paths.{pathAt, pathCount, endOf, beamAt, pathsAnswer}
 use Rattle.panel.specs.Pieces.{Pieces}
 use Rattle.panel.specs.declared.kinds.Running.{Running}
 use Rattle.panel.specs.declared.kinds.Answer.the-variants.{Done}
@@ -72,10 +72,11 @@ module _ (nos : List ℕ) (coords : List Float) (paths cs rs : List ℕ) (m : �
         let u = refTile nos coords paths rs (w .write .ref) in
         let at = w .slot in
         let same : u ≡ t = placed-once cs k u t (omega (arith, o .slot-low, at)) (omega (arith, o .slot-high, at)) (omega arith) (omega arith) in
-        let held : (pathAt paths (w .write .path) .first ≤ t) × (t < Rattle.panel.specs.Paths.endOf (pathAt paths (w .write .path))) =
-        subst (λ (v : ℕ). (pathAt paths (w .write .path) .first ≤ v) × (v < Rattle.panel.specs.Paths.endOf (pathAt paths (w .write .path)))) same
+        let held : (pathAt paths (w .write .path) .first ≤ t) × (t < endOf (pathAt paths (w .write .path))) =
+        subst (λ (v : ℕ). (pathAt paths (w .write .path) .first ≤ v) × (v < endOf (pathAt paths (w .write .path)))) same
         (o .tile-low, o .tile-high) in
-        let mine : w .write .path ≡ q = one-path paths n (checked paths n ok) (w .write .path) q t (o .path-there) (in-path .0) held (in-path .1) in
+        let mine-held : (pathAt paths q .first ≤ t) × (t < endOf (pathAt paths q)) = (in-path .1, in-path .2) in
+        let mine : w .write .path ≡ q = one-path paths n (checked paths n ok) (w .write .path) q t (o .path-there) (in-path .0) held mine-held in
         w .tag ∙ o .tag ∙ ap (beamAt paths) mine
 
 -- the calls one by one: lines are counted into n zeroed tiles with no refusal, their slots are handed out, and all m references are tiled with no refusal
