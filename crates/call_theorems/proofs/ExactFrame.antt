@@ -165,7 +165,7 @@ module _ (nos : List ℕ) (coords : List Float) (paths : List ℕ) (backs : List
       placed-tiled a bs sg e h t = rw (e, hand-fine h) (at-tiling a bs sg (tiledOf 0 (s .refs) (lent nos coords paths (hand 0 cs) rs) pieces) t)
 
   module _ (x : Framed) (bs : List ℤ) (ts ks rs : List ℕ) (sg : Pieces) where
-    abbrev Met : Framed → List ℤ → List ℕ → List ℕ → List ℕ → List Float → Type 0
+    abbrev Met : Framed → List ℤ → List ℕ → List ℕ → List ℕ → Pieces → Type 0
     Met f a b c d e = FrameMet nos coords paths backs stored tally refs pieces f a b c d e
 
     abbrev Ended : Type 0

@@ -64,7 +64,10 @@ module _ (paths paints : List ℕ) (backdrops : List ℤ) (cs : List ℕ) (few :
         where
           at : Dec (t < length cs) → t < length cs
           at (yes l) = l
-          at (no l) = absurd (omega (arith, n, List·getD-eq-default cs t 0 (omega arith)))
+          at (no l) =
+              let far : length cs ≤ t = omega arith in
+              let none : getD cs t 0 ≡ 0 = List·getD-eq-default cs 0 far in
+              absurd (omega (arith, n, none))
 
       carried : 0 < getD cs t 0 → (j : ℕ) → j < getD cs t 0 → tagAt q (not32 (getD (hand 0 cs) t 0) + j) ≡ beamAt paths p
       carried n j k = ap (λ (f : ℕ). tagAt q (f + j)) (reads-back cs few t (inside n) n) ∙ c p t j h k
@@ -86,7 +89,9 @@ module _ (paths paints : List ℕ) (backdrops : List ℤ) (cs : List ℕ) (few :
       go : (b : Bool) → inBox (pathAt paths p) x y ≡ b
           → All (Tagged paths q p)
           (cond b (onTile (colourAt paints p) (ruleAt paints p) (getD cs t 0) (getD (hand 0 cs) t 0) (getD backdrops t (pos 0))) [])
-      go true e = on-tile p t (colourAt paints p) (ruleAt paints p) (getD backdrops t (pos 0)) (h, own-tile (pathAt paths p) x y (in-box (pathAt paths p) x y e))
+      go true e =
+          let o = own-tile (pathAt paths p) x y (in-box (pathAt paths p) x y e) in
+          on-tile p t (colourAt paints p) (ruleAt paints p) (getD backdrops t (pos 0)) (h, o .0, o .1)
       go false e = tt
 
 -- after the calls one by one
