@@ -110,18 +110,32 @@ uint32_t gp_version(void);
     (GP_PREMULTIPLIED(red, alpha) << 24 | GP_PREMULTIPLIED(green, alpha) << 16 |             \
      GP_PREMULTIPLIED(blue, alpha) << 8 | (uint32_t)(alpha))
 
-/* The widths of the records, and the commands. */
+/* The widths of the records, the places of their words, and the commands. */
 #define GP_PATH_WORDS 5u     /* box x0, y0, x1, y1 in tiles, then the first tile */
 #define GP_LINE_FLOATS 4u    /* p0.x, p0.y, p1.x, p1.y in pixels */
-#define GP_REF_WORDS 2u      /* line number; slice number * 65,536 + step number */
+#define GP_REF_WORDS 2u      /* line number; slice number * GP_STEP_RANGE + step number */
 #define GP_SEGMENT_FLOATS 5u /* point0.x, point0.y, point1.x, point1.y, y_edge */
 #define GP_PAINT_WORDS 2u    /* colour, red in the high byte; rule, its lowest bit set for even-odd */
+#define GP_PATH_X0 0u        /* where a path's words stand */
+#define GP_PATH_Y0 1u
+#define GP_PATH_X1 2u
+#define GP_PATH_Y1 3u
+#define GP_PATH_FIRST 4u
+#define GP_REF_LINE 0u       /* a reference's */
+#define GP_REF_PACKED 1u
+#define GP_STEP_RANGE 65536u /* its second word: slice number * GP_STEP_RANGE + step number */
+#define GP_SEGMENT_Y_EDGE 4u /* the last of a segment's floats */
+#define GP_PAINT_COLOUR 0u   /* a paint's */
+#define GP_PAINT_RULE 1u
 #define GP_CMD_END 0u
 #define GP_CMD_FILL 1u  /* then segments * 2 + (1 for even-odd), first segment, backdrop */
 #define GP_CMD_SOLID 2u /* one word: the next command follows at once */
 #define GP_CMD_COLOR 3u /* then the colour, red in the high byte, alpha in the low one */
 #define GP_CMD_JUMP 4u  /* then the word to go on at */
 #define GP_TILE_WORDS 64u /* tile t's list starts at word 64 t + 1 */
+
+/* A path's words in their order, for the list in braces of an array: {GP_PATH(0, 0, 2, 2, 0), GP_PATH(2, 0, 4, 2, 4)}. */
+#define GP_PATH(x0, y0, x1, y1, first) (x0), (y0), (x1), (y1), (first)
 
 /* What a 1 was for: each call says in which order it looks. "Whole" is a length that is so many times the
  * record's width. After 1 comes 2, then 16, then each path's 3 and 4 in order; after that what the call says.

@@ -20,7 +20,7 @@ static const char *const texts[] = {
     "M14,8 q0-2 2-2 2,0 2,2 0,2 -2,2 -2,0 -2-2 M46 40 q0-2 2-2 2,0 2,2 0,2 -2,2 -2,0 -2-2",
 };
 /* The beam may draw on the whole screen: its box, then its first tile. White, even-odd. */
-static const uint32_t paths[GP_PATH_WORDS] = {0, 0, COLS, ROWS, 0};
+static const uint32_t paths[GP_PATH_WORDS] = {GP_PATH(0, 0, COLS, ROWS, 0)};
 static const uint32_t paints[GP_PAINT_WORDS] = {0xffffffff, 1};
 
 static uint32_t path_nos[LINES];

@@ -11,7 +11,7 @@
 #include <stdio.h>
 #include <string.h>
 
-enum { COLS = 3, ROWS = 2, CHANNELS = 3, LINES = 9, TILES = 18, ROOM = 64, WORDS = 2 * COLS * ROWS * GP_TILE_WORDS };
+enum { COLS = 3, ROWS = 2, CHANNELS = 3, LINES = 9, TILES = CHANNELS * COLS * ROWS, ROOM = 64, WORDS = 2 * COLS * ROWS * GP_TILE_WORDS };
 
 /* Channel 0 is a triangle, 1 a bar; a gauge of channel 2 sends something that is no number. */
 static uint32_t path_nos[LINES] = {0, 0, 0, 1, 1, 1, 1, 2, 2};
@@ -22,7 +22,7 @@ static float coords[LINES * GP_LINE_FLOATS] = {
 };
 /* Each channel may draw on the whole screen: its box, then its first tile. */
 static const uint32_t paths[CHANNELS * GP_PATH_WORDS] = {
-    0, 0, COLS, ROWS, 0,  0, 0, COLS, ROWS, 6,  0, 0, COLS, ROWS, 12,
+    GP_PATH(0, 0, COLS, ROWS, 0), GP_PATH(0, 0, COLS, ROWS, COLS * ROWS), GP_PATH(0, 0, COLS, ROWS, 2 * COLS * ROWS),
 };
 static const uint32_t paints[CHANNELS * GP_PAINT_WORDS] = {0xff0000ff, 0, 0x0000ffff, 1, 0x00ff00ff, 0};
 
@@ -52,7 +52,7 @@ int main(void) {
                       backdrops, TILES, stored, TILES, tally, TILES, refs, ROOM * GP_REF_WORDS,
                       segments, ROOM * GP_SEGMENT_FLOATS, &stage, &item, &lines, &made);
         if (no == GP_DONE || (stage != GP_STAGE_COUNT && stage != GP_STAGE_TILE)) break;
-        uint32_t line = stage == GP_STAGE_TILE ? refs[GP_REF_WORDS * item] : item;
+        uint32_t line = stage == GP_STAGE_TILE ? refs[GP_REF_WORDS * item + GP_REF_LINE] : item;
         if (line >= n || path_nos[line] >= CHANNELS) break;
         printf("channel %u is faulty: refusal %u at line %u\n", path_nos[line], no, line);
         n = without(path_nos[line], n);

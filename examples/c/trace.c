@@ -19,7 +19,7 @@ int main(void) {
     const float coords[LINES * GP_LINE_FLOATS] = {
         4, 4, 28, 4, 28, 4, 16, 28, 16, 28, 4, 4,
     };
-    const uint32_t paths[GP_PATH_WORDS] = {0, 0, 2, 2, 0};
+    const uint32_t paths[GP_PATH_WORDS] = {GP_PATH(0, 0, 2, 2, 0)};
     int32_t backdrops[TILES] = {0};
     uint32_t counts[TILES] = {0}, tally[TILES] = {0};
     uint32_t refs[REFS * GP_REF_WORDS] = {0};

@@ -136,11 +136,11 @@ static struct ours ours_of(const struct scene *s) {
         const struct polygon *one = &s->polygons[p];
         uint32_t box[4];
         box_of(one, box);
-        memcpy(o.boxes + GP_PATH_WORDS * p, box, sizeof box);
-        o.boxes[GP_PATH_WORDS * p + 4] = (uint32_t)o.tiles;
+        const uint32_t path[GP_PATH_WORDS] = {GP_PATH(box[0], box[1], box[2], box[3], (uint32_t)o.tiles)};
+        memcpy(o.boxes + GP_PATH_WORDS * p, path, sizeof path);
         o.tiles += (size_t)(box[2] - box[0]) * (box[3] - box[1]);
         uint32_t r = times(one->red, one->alpha), g = times(one->green, one->alpha), b = times(one->blue, one->alpha);
-        o.paints[GP_PAINT_WORDS * p] = r << 24 | g << 16 | b << 8 | one->alpha;
+        o.paints[GP_PAINT_WORDS * p + GP_PAINT_COLOUR] = r << 24 | g << 16 | b << 8 | one->alpha;
         for (size_t k = 0; k < one->corners; k++, line++) {
             size_t next = (k + 1) % one->corners;
             o.path_nos[line] = (uint32_t)p;

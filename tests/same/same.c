@@ -58,11 +58,11 @@ static void frame(void) {
     for (uint32_t k = 0; k < LINES * GP_LINE_FLOATS; k++) coords[k] = any_coord();
     for (uint32_t k = 0; k < PATHS; k++) {
         uint32_t *path = paths + GP_PATH_WORDS * k;
-        path[2] = COLS;
-        path[3] = ROWS;
-        path[4] = SCREEN * k;
-        paints[GP_PAINT_WORDS * k] = GP_PAINT(any() % 256, any() % 256, any() % 256, any() % 256);
-        paints[GP_PAINT_WORDS * k + 1] = any() % 2;
+        path[GP_PATH_X1] = COLS;
+        path[GP_PATH_Y1] = ROWS;
+        path[GP_PATH_FIRST] = SCREEN * k;
+        paints[GP_PAINT_WORDS * k + GP_PAINT_COLOUR] = GP_PAINT(any() % 256, any() % 256, any() % 256, any() % 256);
+        paints[GP_PAINT_WORDS * k + GP_PAINT_RULE] = any() % 2;
     }
     no = gp_frame(path_nos, LINES, coords, LINES * GP_LINE_FLOATS, paths, PATHS * GP_PATH_WORDS, backdrops, TILES, stored, TILES, tally, TILES,
                   refs, ROOM * GP_REF_WORDS, segments, ROOM * GP_SEGMENT_FLOATS, &stage, &item, &lines, &made);

@@ -1,12 +1,14 @@
 //! A panel of three channels drawn in three calls: frame, command lists, pixels. examples/c/panel.c does the same in C,
 //! and both print examples/panel.out. Once `rt staticlib groatpocket` has written the archive: `cargo run`.
 use groatpocket::{
-    fine, frame, words_needed, write_lists, Screen, Stage, LINE_FLOATS, REF_WORDS, SEGMENT_FLOATS,
+    fine, frame, words_needed, write_lists, Paint, Path, Screen, LINE_FLOATS, REF_WORDS, SEGMENT_FLOATS,
+    TILE_PIXELS,
 };
 use std::error::Error;
 
 const SCREEN: Screen = Screen { width: 48, cols: 3, rows: 2 };
 const CHANNELS: usize = 3;
+const TILES: usize = (SCREEN.cols * SCREEN.rows) as usize;
 const ROOM: usize = 64;
 
 fn main() -> Result<(), Box<dyn Error>> {
@@ -19,9 +21,12 @@ fn main() -> Result<(), Box<dyn Error>> {
         4.0, 4.0, 40.0, f32::NAN,  40.0, 8.0, 4.0, 4.0,
     ];
     // Each channel may draw on the whole screen: its box, then its first tile.
-    let paths = [0, 0, 3, 2, 0, 0, 0, 3, 2, 6, 0, 0, 3, 2, 12];
-    let paints = [0xff0000ff, 0, 0x0000ffff, 1, 0x00ff00ff, 0];
-    let (mut backdrops, mut stored, mut tally) = ([0; 18], [0; 18], [0; 18]);
+    let whole = |first| Path { x0: 0, y0: 0, x1: SCREEN.cols, y1: SCREEN.rows, first }.words();
+    let paths = [0, TILES, 2 * TILES].map(|first| whole(first as u32)).concat();
+    let painted = |(colour, even_odd)| Paint { colour, even_odd }.words();
+    let paints = [(0xff0000ff, false), (0x0000ffff, true), (0x00ff00ff, false)].map(painted).concat();
+    let (mut backdrops, mut stored, mut tally) =
+        ([0; CHANNELS * TILES], [0; CHANNELS * TILES], [0; CHANNELS * TILES]);
     let (mut refs, mut segments) = ([0; REF_WORDS * ROOM], [0.0; SEGMENT_FLOATS * ROOM]);
 
     // A channel with a refused line is shown as faulty, and the frame is drawn without it.
@@ -39,12 +44,7 @@ fn main() -> Result<(), Box<dyn Error>> {
             Ok(done) => break done,
             Err(stopped) => stopped,
         };
-        let item = stopped.refused.item as usize;
-        let line = match stopped.stage {
-            Stage::Count => item,
-            Stage::Tile => refs[REF_WORDS * item] as usize,
-            _ => return Err(stopped.into()),
-        };
+        let Some(line) = stopped.line(&refs) else { return Err(stopped.into()) };
         let channel = path_nos[line];
         if channel as usize >= CHANNELS {
             return Err(stopped.into());
@@ -71,7 +71,7 @@ fn main() -> Result<(), Box<dyn Error>> {
     )?;
     println!("lists: 0");
 
-    let mut pixels = [0u32; 48 * 32];
+    let mut pixels = [0u32; TILE_PIXELS * TILES];
     fine(&words, &segments, SCREEN, 0, SCREEN.cols * SCREEN.rows, &mut pixels)?;
     println!("fine: 0");
 

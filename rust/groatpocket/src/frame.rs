@@ -2,6 +2,7 @@
 use crate::raw;
 use crate::refusal::{answered, Refused, UNTOLD};
 use crate::stages::Running;
+use crate::{Reference, REF_WORDS};
 use core::fmt;
 
 /// The part of a frame that refused.
@@ -55,7 +56,9 @@ impl FrameStopped {
         let item = self.refused.item as usize;
         match self.stage {
             Stage::Count => Some(item),
-            Stage::Tile => refs.get(crate::REF_WORDS * item).map(|line| *line as usize),
+            Stage::Tile => {
+                refs.chunks_exact(REF_WORDS).nth(item).map(|words| Reference::of(words).line as usize)
+            }
             _ => None,
         }
     }
@@ -69,20 +72,22 @@ impl core::error::Error for FrameStopped {}
 /// segments below `references` are written.
 ///
 /// ```
-/// use groatpocket::{frame, Refusal, Stage};
-/// let (path_nos, coords, paths) = ([0], [8.0, 8.0, 8.0, 24.0], [0, 0, 2, 2, 0]);
+/// use groatpocket::{frame, Path, Refusal, Segment, Stage, REF_WORDS, SEGMENT_FLOATS};
+/// let (path_nos, coords) = ([0], [8.0, 8.0, 8.0, 24.0]);
+/// let paths = Path { x0: 0, y0: 0, x1: 2, y1: 2, first: 0 }.words();
 /// let (mut backdrops, mut stored, mut tally) = ([7; 4], [7; 4], [7; 4]);
-/// let (mut refs, mut segments) = ([0; 8], [0.0; 10]);
+/// let (mut refs, mut segments) = ([0; 4 * REF_WORDS], [0.0; 2 * SEGMENT_FLOATS]);
 /// let done = frame(
 ///     &path_nos, &coords, &paths, &mut backdrops, &mut stored, &mut tally, &mut refs, &mut segments,
 /// ).unwrap();
 /// assert_eq!((done.lines, done.references), (1, 2));
 /// assert_eq!((backdrops, tally), ([0, 0, 0, -1], [1, 0, 1, 0]));
-/// assert_eq!(segments[5..10], [7.999999, 0.0, 7.999999, 8.0, 1e9]);
+/// let second = Segment::of(&segments[SEGMENT_FLOATS..]);
+/// assert_eq!((second.point0, second.point1), ([7.999999, 0.0], [7.999999, 8.0]));
 ///
 /// // Room for one segment only: hand-out refuses, and what was counted stands.
 /// let stopped = frame(
-///     &path_nos, &coords, &paths, &mut backdrops, &mut stored, &mut tally, &mut refs, &mut segments[..5],
+///     &path_nos, &coords, &paths, &mut backdrops, &mut stored, &mut tally, &mut refs, &mut segments[..SEGMENT_FLOATS],
 /// ).unwrap_err();
 /// assert_eq!((stopped.stage, stopped.refused.refusal), (Stage::HandOut, Refusal::NoRoom));
 ///

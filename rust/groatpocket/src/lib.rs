@@ -10,19 +10,18 @@
 //!
 #![cfg_attr(all(feature = "frame", feature = "lists"), doc = "```")]
 #![cfg_attr(not(all(feature = "frame", feature = "lists")), doc = "```ignore")]
-//! use groatpocket::{fine, frame, words_needed, write_lists, Screen, PATH_WORDS};
+//! use groatpocket::{fine, frame, words_needed, write_lists, Paint, Path, Screen, REF_WORDS, SEGMENT_FLOATS};
 //!
 //! // One beam's trace, a triangle, as path 0, whose box is the whole screen: two by two tiles from tile 0 on.
 //! let screen = Screen { width: 32, cols: 2, rows: 2 };
 //! let path_nos = [0, 0, 0];
 //! let coords = [4.0, 28.0, 16.0, 4.0, 16.0, 4.0, 28.0, 28.0, 28.0, 28.0, 4.0, 28.0];
-//! let mut paths = [0; PATH_WORDS];
-//! paths[..4].copy_from_slice(&[0, 0, 2, 2]);
+//! let paths = Path { x0: 0, y0: 0, x1: 2, y1: 2, first: 0 }.words();
 //! // Opaque orange, red in the high byte and multiplied by alpha; the rule non-zero.
-//! let paints = [0xff8000ff, 0];
+//! let paints = Paint { colour: 0xff8000ff, even_odd: false }.words();
 //!
 //! let (mut backdrops, mut stored, mut tally) = ([0; 4], [0; 4], [0; 4]);
-//! let (mut refs, mut segments) = ([0; 2 * 16], [0.0; 5 * 16]);
+//! let (mut refs, mut segments) = ([0; 16 * REF_WORDS], [0.0; 16 * SEGMENT_FLOATS]);
 //! let done = frame(
 //!     &path_nos, &coords, &paths, &mut backdrops, &mut stored, &mut tally, &mut refs, &mut segments,
 //! ).unwrap();
@@ -44,12 +43,12 @@
 //! their alpha, and nothing refuses one that isn't; a paint has red in its highest byte and a pixel in its lowest.
 //!
 //! ```
-//! use groatpocket::{count, hand_out, Running};
+//! use groatpocket::{count, hand_out, Path, Running, REF_WORDS};
 //!
 //! // One line, (8,8) to (8,24), of path 0, whose box is two by two tiles from tile 0 on.
 //! let (path_nos, coords) = ([0], [8.0, 8.0, 8.0, 24.0]);
-//! let paths = [0, 0, 2, 2, 0];
-//! let (mut backdrops, mut counts, mut refs) = ([0; 4], [0; 4], [0; 8]);
+//! let paths = Path { x0: 0, y0: 0, x1: 2, y1: 2, first: 0 }.words();
+//! let (mut backdrops, mut counts, mut refs) = ([0; 4], [0; 4], [0; 4 * REF_WORDS]);
 //! let running = count(
 //!     Running::default(), 1, &path_nos, &coords, &paths, &mut backdrops, &mut counts, &mut refs,
 //! ).unwrap();
@@ -73,6 +72,7 @@ mod picture;
 #[cfg(feature = "pixel")]
 mod pixel;
 pub mod raw;
+mod records;
 #[cfg(feature = "recount")]
 mod recount;
 mod refusal;
@@ -89,6 +89,7 @@ pub use lists::{words_needed, write_lists};
 pub use picture::{ppm_read, ppm_write};
 #[cfg(feature = "pixel")]
 pub use pixel::{pixel, pixel_area};
+pub use records::{Paint, Path, Reference, Segment, STEP_RANGE};
 #[cfg(feature = "recount")]
 pub use recount::{recount, RecountStopped};
 pub use refusal::{Refusal, Refused};

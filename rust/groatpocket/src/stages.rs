@@ -37,11 +37,12 @@ impl core::error::Error for Stopped {}
 /// references. It stops before the first line refused.
 ///
 /// ```
-/// use groatpocket::{count, Refusal, Running};
+/// use groatpocket::{count, Path, Refusal, Running, REF_WORDS};
+/// let paths = Path { x0: 0, y0: 0, x1: 2, y1: 2, first: 0 }.words();
 /// // x is no number: the line is refused with 6, and nothing changes.
 /// let stopped = count(
-///     Running::default(), 1, &[0], &[f32::NAN, 0.0, 8.0, 24.0], &[0, 0, 2, 2, 0],
-///     &mut [0; 4], &mut [0; 4], &mut [0; 8],
+///     Running::default(), 1, &[0], &[f32::NAN, 0.0, 8.0, 24.0], &paths,
+///     &mut [0; 4], &mut [0; 4], &mut [0; 4 * REF_WORDS],
 /// ).unwrap_err();
 /// assert_eq!(stopped.refused.refusal, Refusal::Coordinate);
 /// assert_eq!(stopped.running, Running::default());
@@ -79,8 +80,10 @@ pub fn count(
 /// leave an `i32`.
 ///
 /// ```
+/// use groatpocket::{backdrop, Path};
+/// let paths = Path { x0: 0, y0: 0, x1: 2, y1: 2, first: 0 }.words();
 /// let mut backdrops = [1, 2, -5, 4];
-/// groatpocket::backdrop(&[0, 0, 2, 2, 0], &mut backdrops).unwrap();
+/// backdrop(&paths, &mut backdrops).unwrap();
 /// assert_eq!(backdrops, [1, 3, -5, -1]);
 /// ```
 pub fn backdrop(paths: &[u32], backdrops: &mut [i32]) -> Result<(), Refused> {

@@ -6,8 +6,8 @@ use crate::table::Table;
 use cases::memory::{as_f32, Lent};
 use cases::{boxes, lines, Rng};
 use rules::frame::{COUNTING, HAND_OUT, LENT, TILING};
-use rules::limits::{EDGE_MOST, PATHS_MOST, SEGMENT};
-use rules::records::{box_at, no_tiles, path, paths_in};
+use rules::limits::{EDGE_MOST, LINE, PATHS_MOST, REF, SEGMENT};
+use rules::records::{box_at, line_floats, no_tiles, path, paths_in, segments_in};
 
 #[derive(Clone, Debug)]
 pub struct Case {
@@ -46,7 +46,7 @@ fn lines_of(rng: &mut Rng, families: &[usize], paths: &[u32], n: usize) -> (Vec<
 pub fn over(rng: &mut Rng, paths: Vec<u32>, tiles: usize, n: usize, families: &[usize]) -> Case {
     let (path_nos, coords) = if families.is_empty() { some_lines(rng, &paths, n) } else { lines_of(rng, families, &paths, n) };
     let reach = (0..paths_in(&paths)).map(|k| box_at(&paths, k)).map(|[x0, y0, x1, y1]| (x1 - x0 + y1 - y0) as usize).max().unwrap_or(0);
-    let (mut b, mut c, mut r) = (vec![0; tiles], vec![0; tiles], vec![0; 2 * n * (120 + reach)]);
+    let (mut b, mut c, mut r) = (vec![0; tiles], vec![0; tiles], vec![0; REF * n * (120 + reach)]);
     let (mut lines, mut made) = (0, 0);
     rules::count(&path_nos, as_f32(&coords), &paths, &mut b, &mut c, &mut r, n as u32, &mut lines, &mut made, &mut 0);
     let room = |rng: &mut Rng| match rng.below(10) {
@@ -56,7 +56,7 @@ pub fn over(rng: &mut Rng, paths: Vec<u32>, tiles: usize, n: usize, families: &[
     };
     let (refs, slots) = (room(rng), room(rng));
     let mut any = |n: usize| (0..n).map(|_| rng.u32()).collect::<Vec<u32>>();
-    let (backdrops, counts, tally, refs) = (any(tiles), any(tiles), any(tiles), any(2 * refs));
+    let (backdrops, counts, tally, refs) = (any(tiles), any(tiles), any(tiles), any(REF * refs));
     // NaNs with payloads, so that a word left alone is seen to be
     let segments = (0..SEGMENT * slots).map(|k| 0x7fb0_0000 + k as u32).collect();
     Case { path_nos, coords, paths, backdrops, tiles: counts, tally, refs, segments }
@@ -96,7 +96,7 @@ impl Stage for Frame {
         if rng.one_in(40) {
             case = over(rng, path([0, 0, 6, 1], 0).to_vec(), 6, n + 1, &CALM);
             let k = rng.below(n as u64 + 1) as usize;
-            case.coords[4 * k..4 * k + 4].copy_from_slice(&SHORT);
+            case.coords[line_floats(k)].copy_from_slice(&SHORT);
         }
         if rng.one_in(5) {
             spoil(rng, &mut case);
@@ -143,14 +143,14 @@ impl Stage for Frame {
 
     fn smaller(&self, case: &Case) -> Vec<Case> {
         let n = case.path_nos.len();
-        if case.coords.len() != 4 * n {
+        if case.coords.len() != LINE * n {
             return vec![];
         }
         (0..n)
             .map(|k| {
                 let mut c = case.clone();
                 c.path_nos.remove(k);
-                c.coords.drain(4 * k..4 * k + 4);
+                c.coords.drain(line_floats(k));
                 c
             })
             .collect()
@@ -213,7 +213,7 @@ fn by_the_rust(case: &Case, told: [u32; 4], wanted: &Memory) -> Result<(), Strin
         if stage == HAND_OUT {
             return Ok(made);
         }
-        rules::hand_out(t, tally, (s.len() / SEGMENT) as u32);
+        rules::hand_out(t, tally, segments_in(s) as u32);
         let to = if stage == TILING { item } else { made };
         oracle::tile(&case.path_nos, coords, &case.paths, t, r, 0, to as usize, s)?;
         Ok(made)

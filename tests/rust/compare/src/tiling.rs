@@ -5,8 +5,8 @@ use crate::stage::{hex, same, same_words, Sides, Stage};
 use crate::table::Table;
 use cases::memory::{as_f32, Lent};
 use cases::{boxes, Rng};
-use rules::limits::{EDGE_MOST, PATHS_MOST, ROOM_MOST, SEGMENT, STEP_RANGE};
-use rules::records::{no_tiles, paths_in};
+use rules::limits::{EDGE_MOST, PATHS_MOST, REF, ROOM_MOST, SEGMENT, STEP_RANGE};
+use rules::records::{is_packed, no_tiles, paths_in, ref_words, reference, refs_in};
 
 #[derive(Clone, Debug)]
 pub struct Case {
@@ -32,14 +32,14 @@ pub fn counted(rng: &mut Rng, most: i64, n: usize) -> (Case, u32) {
     let (path_nos, coords) = some_lines(rng, &paths, n);
     let mut backdrops = vec![0; tiles];
     let mut counts = vec![0; tiles];
-    let mut refs = vec![0; 2 * (n * (2 * most as usize + 12))];
+    let mut refs = vec![0; REF * (n * (2 * most as usize + 12))];
     let (mut lines, mut made, mut item) = (0, 0, 0);
     while (lines as usize) < n {
         // past the lines refused
         rules::count(&path_nos, as_f32(&coords), &paths, &mut backdrops, &mut counts, &mut refs, n as u32, &mut lines, &mut made, &mut item);
         lines += 1;
     }
-    refs.truncate(2 * made as usize);
+    refs.truncate(REF * made as usize);
     let mut tally = vec![0; tiles];
     rules::hand_out(&mut counts, &mut tally, u32::MAX);
     (Case { path_nos, coords, paths, stored: counts, refs, segments: vec![], ranges: vec![], counted: true }, made)
@@ -51,22 +51,22 @@ fn invent(rng: &mut Rng, case: &mut Case) {
     let kind = rng.below(4);
     if kind == 0 || case.refs.is_empty() {
         let n = rng.range(1, 12) as usize;
-        case.refs = (0..2 * n).map(|_| 0).collect();
-        for k in 0..n {
-            case.refs[2 * k] = rng.below(lines + 1) as u32;
+        case.refs.clear();
+        for _ in 0..n {
+            let line = rng.below(lines + 1) as u32;
             let step = if rng.coin() { rng.below(8) } else { rng.below(40) } as u32;
-            case.refs[2 * k + 1] = (rng.below(3) as u32) << 16 | step;
+            case.refs.extend(reference(line, rng.below(3) as u32, step));
         }
     }
     for _ in 0..rng.range(1, 4) {
         let k = rng.below(case.refs.len() as u64) as usize;
-        let odd = k % 2 == 1;
+        let packed = is_packed(k);
         case.refs[k] = match rng.below(6) {
             0 => rng.u32(),
             1 => case.refs[k].wrapping_add(1),
             2 => case.refs[k].wrapping_sub(1),
-            3 if odd => case.refs[k].wrapping_add(rng.below(30) as u32 + 1),
-            4 if odd => case.refs[k].wrapping_add(rng.below(4) as u32 * STEP_RANGE),
+            3 if packed => case.refs[k].wrapping_add(rng.below(30) as u32 + 1),
+            4 if packed => case.refs[k].wrapping_add(rng.below(4) as u32 * STEP_RANGE),
             5 => lines as u32,
             _ => rng.below(lines.max(1)) as u32,
         };
@@ -86,7 +86,7 @@ fn spoil(rng: &mut Rng, case: &mut Case) {
         2 => _ = case.paths.pop(),
         3 => _ = case.refs.pop(),
         4 => _ = case.segments.pop(),
-        5 => case.ranges.push((case.refs.len() as u32 / 2, case.refs.len() as u32 / 2 + 1)),
+        5 => case.ranges.push((refs_in(&case.refs) as u32, refs_in(&case.refs) as u32 + 1)),
         6 => case.ranges.push((2, 1)),
         7..=9 => spoil_line(rng, &mut case.path_nos, &mut case.coords, &case.paths),
         _ => boxes::spoil(rng, &mut case.paths, case.stored.len()),
@@ -114,7 +114,7 @@ impl Stage for Tile {
             case.counted = false;
             invent(rng, &mut case);
         }
-        let all = case.refs.len() as u32 / 2;
+        let all = refs_in(&case.refs) as u32;
         let mut from = 0;
         while rng.one_in(3) {
             let to = rng.range(from as i64, all as i64) as u32;
@@ -187,15 +187,15 @@ impl Stage for Tile {
 
     fn smaller(&self, case: &Case) -> Vec<Case> {
         let mut out = vec![];
-        let all = case.refs.len() as u32 / 2;
+        let all = refs_in(&case.refs) as u32;
         if case.ranges.len() > 1 {
             let mut c = case.clone();
             c.ranges = vec![(0, all)];
             out.push(c);
-        } else if case.refs.len() % 2 == 0 {
+        } else if case.refs.len() % REF == 0 {
             for k in 0..all as usize {
                 let mut c = case.clone();
-                c.refs.drain(2 * k..2 * k + 2);
+                c.refs.drain(ref_words(k));
                 c.ranges = vec![(0, all - 1)];
                 out.push(c);
             }

@@ -7,9 +7,9 @@ use crate::table::Table;
 use cases::commands::{color, Command, Lists};
 use cases::memory::{as_f32, Lent};
 use cases::{boxes, segments, Rng};
-use rules::limits::{BAD_SEGMENT, EDGE_MOST, LINE, PATH, PATHS_MOST, ROOM_MOST, SEGMENT};
+use rules::limits::{BAD_SEGMENT, EDGE_MOST, LINE, PAINT, PATH, PATHS_MOST, REGION, ROOM_MOST, SEGMENT};
 use rules::lists::{Pair, Tables};
-use rules::records::{box_at, first_at, no_tiles, path, paths_in, words_of};
+use rules::records::{box_at, colour, even_odd, first_at, no_tiles, paint, paint_words, path, paths_in, segments_in, words_of};
 
 #[derive(Clone, Debug)]
 pub struct Case {
@@ -49,7 +49,7 @@ fn near_boxes(rng: &mut Rng, n: usize, most: i64) -> (Vec<u32>, usize) {
 
 fn paints(rng: &mut Rng, n: usize) -> Vec<u32> {
     let rule = |rng: &mut Rng| if rng.one_in(12) { rng.u32() } else { rng.below(2) as u32 };
-    (0..n).flat_map(|_| [color(rng), rule(rng)]).collect()
+    (0..n).flat_map(|_| paint(color(rng), rule(rng))).collect()
 }
 
 /// A frame that is drawn whole, and the tables that it leaves.
@@ -74,7 +74,7 @@ fn left_by(f: frame::Case, paints: Vec<u32>) -> Option<Case> {
         tally,
         cols: 0,
         rows: 0,
-        room: (segments.len() / SEGMENT) as u32,
+        room: segments_in(&segments) as u32,
         words: 0,
         segments,
         frame: Some(f),
@@ -120,7 +120,7 @@ fn long(rng: &mut Rng) -> Case {
     let n = (last + rng.range(-1, 2)) as usize;
     let fills = n.min(most_fills);
     let regions = fills.div_ceil(10) + (n - fills).div_ceil(20);
-    let tile = |k: usize| [0, 0, 1, 1, k as u32];
+    let tile = |k: usize| path([0, 0, 1, 1], k as u32);
     Case {
         frame: None,
         paths: (0..n).flat_map(tile).collect(),
@@ -131,7 +131,7 @@ fn long(rng: &mut Rng) -> Case {
         cols: rng.pick(&[1, 2]),
         rows: 1,
         room: 1,
-        words: 64 * (regions + 1 - rng.below(3) as usize),
+        words: REGION * (regions + 1 - rng.below(3) as usize),
         segments: vec![],
     }
 }
@@ -158,7 +158,7 @@ fn spoil(rng: &mut Rng, case: &mut Case) {
     case.frame = None;
     match rng.below(16) {
         0 => _ = case.paints.pop(),
-        1 => case.paints.extend([1, 1]),
+        1 => case.paints.extend(paint(1, 1)),
         2 => _ = case.paths.pop(),
         3 => _ = case.backdrops.pop(),
         4 => case.stored.push(3),
@@ -167,7 +167,7 @@ fn spoil(rng: &mut Rng, case: &mut Case) {
         8 => {
             let n = PATHS_MOST as usize + rng.below(3) as usize;
             case.paths = no_tiles(n);
-            case.paints = vec![1; 2 * n];
+            case.paints = vec![1; PAINT * n];
         }
         _ => boxes::spoil(rng, &mut case.paths, case.stored.len()),
     }
@@ -240,17 +240,17 @@ impl Case {
         let mut regions = 0;
         for (x, y) in (0..self.rows as i64).flat_map(|y| (0..self.cols as i64).map(move |x| (x, y))) {
             regions += 1;
-            let mut left: i64 = 63;
+            let mut left = REGION as i64 - 1;
             for pair in tables.pairs(x, y) {
                 let size = if matches!(pair, Pair::Fill { .. }) { 6 } else { 4 };
                 if left < size + 2 {
                     regions += 1;
-                    left = 64;
+                    left = REGION as i64;
                 }
                 left -= size;
             }
         }
-        64 * regions
+        REGION * regions
     }
 }
 
@@ -287,7 +287,7 @@ impl Stage for WriteLists {
                 invented(rng, n, 2)
             }
         };
-        let many = case.paints.len() > 16;
+        let many = case.paints.len() > PAINT * 8;
         (case.cols, case.rows) = if many { (rng.range(1, 3) as u32, 2) } else { (rng.range(0, 5) as u32, rng.range(0, 4) as u32) };
         if rng.one_in(12) {
             move_slots(rng, &mut case);
@@ -334,11 +334,11 @@ impl Stage for WriteLists {
             low.rows -= 1;
             out.extend([narrow, low]);
         }
-        if case.paths.len() % PATH == 0 && case.paints.len() == 2 * (paths_in(&case.paths)) {
+        if case.paths.len() % PATH == 0 && case.paints.len() == PAINT * paths_in(&case.paths) {
             for k in (0..paths_in(&case.paths)).take(100) {
                 let mut c = case.clone();
                 c.paths.drain(words_of(k));
-                c.paints.drain(2 * k..2 * k + 2);
+                c.paints.drain(paint_words(k));
                 out.extend(match &case.frame {
                     Some(f) => case.framed(without_path(f, k), c.paints),
                     None => Some(c),
@@ -413,7 +413,7 @@ fn draw(case: &Case, lists: &Memory, by_rules: &Memory, sides: Sides, table: &mu
 fn fills_alone(tables: &Tables, x: i64, y: i64) -> Lists {
     let mut lists = Lists::new(6 * paths_in(&tables.paths) + 2, 0);
     let mut at = 1;
-    for (path, paint) in tables.paths.chunks_exact(PATH).zip(tables.paints.chunks_exact(2)) {
+    for (path, paint) in tables.paths.chunks_exact(PATH).zip(tables.paints.chunks_exact(PAINT)) {
         let ([x0, y0, x1, y1], first) = (box_at(path, 0).map(i64::from), i64::from(first_at(path, 0)));
         if !(x0..x1).contains(&x) || !(y0..y1).contains(&y) {
             continue;
@@ -425,8 +425,7 @@ fn fills_alone(tables: &Tables, x: i64, y: i64) -> Lists {
         if number == 0 && backdrop.unsigned_abs() > 1 << 24 {
             backdrop = 2 + (backdrop & 1);
         }
-        let even_odd = paint[1] & 1 == 1;
-        for command in [Command::Fill { number, even_odd, first: slots, backdrop }, Command::Color(paint[0])] {
+        for command in [Command::Fill { number, even_odd: even_odd(paint), first: slots, backdrop }, Command::Color(colour(paint))] {
             at = lists.put(at, command, 0);
         }
     }

@@ -2,6 +2,7 @@
 
 use crate::checks::*;
 use crate::limits::*;
+use crate::records::segments_in;
 use crate::{backdrop, count, hand_out, tile};
 
 /// The parts of a frame that may refuse.
@@ -43,7 +44,7 @@ pub fn frame(
     }
     if number == DONE {
         *stage = HAND_OUT;
-        let room = (segments.len() / SEGMENT).min(ROOM_MOST as usize) as u32;
+        let room = segments_in(segments).min(ROOM_MOST as usize) as u32;
         number = hand_out(tiles, tally, room);
     }
     if number == DONE {

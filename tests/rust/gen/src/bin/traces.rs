@@ -2,7 +2,8 @@
 //! writes it to standard output, and crates/traces/stdout holds it; with the word `check` it ends with status 1 where that file
 //! differs. Hand-out isn't in the Rust: it is the rules'.
 
-use rules::records::path;
+use rules::limits::{REF, SEGMENT};
+use rules::records::{path, segment_floats, Line};
 use std::fmt::Write;
 
 fn words<T: std::fmt::Display>(words: &[T]) -> String {
@@ -13,9 +14,9 @@ fn bits(segment: &[f32]) -> String {
     segment.iter().map(|x| format!(" {:x}", x.to_bits())).collect()
 }
 
-fn trace(out: &mut String, name: &str, coords: [f32; 4], x0: u32) -> std::fmt::Result {
+fn trace(out: &mut String, name: &str, coords: Line, x0: u32) -> std::fmt::Result {
     let (path_nos, paths) = ([0], path([x0, 0, x0 + 2, 2], 0));
-    let (mut backdrops, mut counts, mut refs) = ([0i32; 4], [0u32; 4], [0u32; 8]);
+    let (mut backdrops, mut counts, mut refs) = ([0i32; 4], [0u32; 4], [0u32; 4 * REF]);
     let made = oracle::count(&path_nos, &coords, &paths, &mut backdrops, &mut counts, &mut refs, 0, 1, 0).unwrap();
     writeln!(out, "{name}: count 0, references {made}")?;
     writeln!(out, "  counts{}", words(&counts))?;
@@ -29,11 +30,11 @@ fn trace(out: &mut String, name: &str, coords: [f32; 4], x0: u32) -> std::fmt::R
         next += n;
     }
     writeln!(out, "  hand-out 0:{}", words(&counts))?;
-    let mut segments = [0.0f32; 10];
+    let mut segments = [0.0f32; 2 * SEGMENT];
     oracle::tile(&path_nos, &coords, &paths, &counts, &refs, 0, made as usize, &mut segments).unwrap();
     writeln!(out, "  tile 0")?;
-    writeln!(out, "  slot 0:{}", bits(&segments[..5]))?;
-    writeln!(out, "  slot 1:{}", bits(&segments[5..]))
+    writeln!(out, "  slot 0:{}", bits(&segments[segment_floats(0)]))?;
+    writeln!(out, "  slot 1:{}", bits(&segments[segment_floats(1)]))
 }
 
 fn all() -> Result<String, std::fmt::Error> {
