@@ -12,7 +12,7 @@ use crate::TILE_WORDS;
 /// ```
 /// use groatpocket::{fine, write_lists, words_needed, Paint, Path, Screen};
 /// // A path over one tile that its backdrop covers whole, in the colour 0x204060ff.
-/// let paths = Path { x0: 0, y0: 0, x1: 1, y1: 1, first: 0 }.words();
+/// let paths = Path { x0: 0, y0: 0, x1: 1, y1: 1, first: 0, beam: 7 }.words();
 /// let paints = Paint { colour: 0x204060ff, even_odd: false }.words();
 /// let mut words = vec![0; words_needed(1, 1, 1)];
 /// write_lists(&paths, &paints, &[1], &[0], &[0], 1, 1, 0, &mut words).unwrap();

@@ -7,6 +7,7 @@ const Y0: usize = 1;
 const X1: usize = 2;
 const Y1: usize = 3;
 const FIRST: usize = 4;
+const BEAM: usize = 5;
 const LINE: usize = 0;
 const PACKED: usize = 1;
 const POINT0: usize = 0;
@@ -18,13 +19,13 @@ const RULE: usize = 1;
 /// A reference's second word is its slice number times this, plus its step number.
 pub const STEP_RANGE: u32 = 65536;
 
-/// A path: its box in tiles, and its first tile.
+/// A path: its box in tiles, its first tile, and the number of its beam.
 ///
 /// ```
 /// use groatpocket::{Path, PATH_WORDS};
 /// // Two paths over two by two tiles each, one after the other.
-/// let first = Path { x0: 0, y0: 0, x1: 2, y1: 2, first: 0 };
-/// let second = Path { first: 4, ..first };
+/// let first = Path { x0: 0, y0: 0, x1: 2, y1: 2, first: 0, beam: 7 };
+/// let second = Path { first: 4, beam: 8, ..first };
 /// let paths = [first.words(), second.words()].concat();
 /// assert_eq!((paths.len(), Path::of(&paths[PATH_WORDS..])), (2 * PATH_WORDS, second));
 /// ```
@@ -40,6 +41,9 @@ pub struct Path {
     pub y1: u32,
     /// The path's first tile: its tiles follow it, row by row.
     pub first: u32,
+    /// The beam number stamped on the steel: any word, and two paths may carry one. [`tile`](crate::tile) and `frame` write it
+    /// into the tag of every slot that they fill for a line of this path.
+    pub beam: u32,
 }
 
 impl Path {
@@ -51,12 +55,20 @@ impl Path {
         words[X1] = self.x1;
         words[Y1] = self.y1;
         words[FIRST] = self.first;
+        words[BEAM] = self.beam;
         words
     }
 
     /// The path whose words these begin with. There must be [`PATH_WORDS`] at least.
     pub const fn of(words: &[u32]) -> Path {
-        Path { x0: words[X0], y0: words[Y0], x1: words[X1], y1: words[Y1], first: words[FIRST] }
+        Path {
+            x0: words[X0],
+            y0: words[Y0],
+            x1: words[X1],
+            y1: words[Y1],
+            first: words[FIRST],
+            beam: words[BEAM],
+        }
     }
 }
 

@@ -29,7 +29,7 @@ impl core::error::Error for RecountStopped {}
 /// ```
 /// use groatpocket::{count, recount, Path, Refusal, Running, REF_WORDS};
 /// // Path 0: a box of two by two tiles, from tile 0 on.
-/// let paths = Path { x0: 0, y0: 0, x1: 2, y1: 2, first: 0 }.words();
+/// let paths = Path { x0: 0, y0: 0, x1: 2, y1: 2, first: 0, beam: 7 }.words();
 /// let (mut backdrops, mut counts, mut refs) = ([0; 4], [0; 4], [0; 4 * REF_WORDS]);
 /// count(
 ///     Running::default(), 1, &[0], &[8.0, 8.0, 8.0, 24.0], &paths, &mut backdrops, &mut counts, &mut refs,

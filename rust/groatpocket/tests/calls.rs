@@ -1,9 +1,12 @@
 //! The safe calls: a trace through all stages, batches, and the refusals as a caller meets them.
 use groatpocket::*;
 
+/// The number on the beam.
+const BEAM: u32 = 0xbea3;
+
 /// A path of so many columns and rows from the upper left on.
 const fn boxed(x1: u32, y1: u32, first: u32) -> [u32; PATH_WORDS] {
-    Path { x0: 0, y0: 0, x1, y1, first }.words()
+    Path { x0: 0, y0: 0, x1, y1, first, beam: BEAM }.words()
 }
 
 const PATHS: [u32; PATH_WORDS] = boxed(2, 2, 0);
@@ -104,13 +107,45 @@ fn sums_slots_and_segments() {
     hand_out(&mut counts, &mut tally, 2).unwrap();
 
     let (path_nos, coords) = ([0], [8.0, 8.0, 8.0, 24.0]);
-    let mut segments = [0.0; 2 * SEGMENT_FLOATS];
+    let (mut segments, mut tags) = ([0.0; 2 * SEGMENT_FLOATS], [5, 5]);
     let refs = [0, 1, 9].map(|step| Reference { line: 0, slice: 0, step }.words()).concat();
-    tile(0, 2, &path_nos, &coords, &PATHS, &counts, &refs, &mut segments).unwrap();
+    tile(0, 1, &path_nos, &coords, &PATHS, &counts, &refs, &mut segments, &mut tags).unwrap();
+    assert_eq!(tags, [BEAM, 5]);
+    tile(1, 2, &path_nos, &coords, &PATHS, &counts, &refs, &mut segments, &mut tags).unwrap();
+    assert_eq!(tags, [BEAM, BEAM]);
     let first = Segment { point0: [7.999999, 8.0], point1: [7.999999, 16.0], y_edge: Segment::NO_EDGE };
     assert_eq!(Segment::of(&segments), first);
-    let refused = tile(2, 3, &path_nos, &coords, &PATHS, &counts, &refs, &mut segments);
+    let refused = tile(2, 3, &path_nos, &coords, &PATHS, &counts, &refs, &mut segments, &mut tags);
     assert_eq!(refused.unwrap_err().refusal, Refusal::Outside);
+}
+
+/// Paths 0 and 2 carry one number, path 1 another; line 0 is of path 1, 1 of path 2, 2 of path 0, and each has a tile of its own.
+#[test]
+fn a_tag_is_the_number_of_its_lines_path() {
+    let path = |first, beam| Path { x0: 0, y0: 0, x1: 1, y1: 1, first, beam };
+    let paths = [path(0, 7), path(1, u32::MAX), path(2, 7)].map(Path::words).concat();
+    let (path_nos, coords) = ([1, 2, 0], [8.5, 2.0, 8.5, 6.0].repeat(3));
+    let refs = [0, 1, 2].map(|line| Reference { line, slice: 0, step: 0 }.words()).concat();
+    let asked = |stored: [u32; 3], from: u32, to: u32, slots: usize, tags: usize| {
+        let (mut segments, mut tags) = (vec![0.5; SEGMENT_FLOATS * slots], vec![5; tags]);
+        let answer = tile(from, to, &path_nos, &coords, &paths, &stored, &refs, &mut segments, &mut tags);
+        let written: Vec<bool> =
+            segments.chunks(SEGMENT_FLOATS).map(|s| s != [0.5; SEGMENT_FLOATS]).collect();
+        assert!(answer.is_err_and(|no| no.refusal == Refusal::NotWhole) || written.len() == tags.len());
+        assert!(
+            written.iter().zip(&tags).all(|(written, tag)| *written == (*tag != 5)),
+            "{written:?}, {tags:?}"
+        );
+        (answer.map_or_else(|no| (no.refusal.number(), no.item), |()| (0, 0)), tags)
+    };
+    assert_eq!(asked([!2, !0, !1], 0, 3, 4, 4), ((0, 0), vec![u32::MAX, 7, 7, 5]));
+    assert_eq!(asked([!2, !0, !1], 1, 2, 4, 4), ((0, 0), vec![5, 7, 5, 5]));
+    // a tile with no slot is skipped, one past the room refused: neither slot is touched
+    assert_eq!(asked([!2, 0, !1], 0, 3, 4, 4), ((0, 0), vec![5, 7, 7, 5]));
+    assert_eq!(asked([!2, !0, !4], 0, 3, 4, 4), ((9, 1), vec![u32::MAX, 5, 5, 5]));
+    for tags in [0, 3, 5] {
+        assert_eq!(asked([!2, !0, !1], 0, 3, 4, tags), ((1, 0), vec![5; tags]));
+    }
 }
 
 #[test]
@@ -135,9 +170,9 @@ fn a_screen_and_its_commands() {
 fn a_frame_is_drawn() {
     let coords = [4.0, 0.0, 4.0, 16.0, 12.0, 16.0, 12.0, 0.0];
     let (mut b, mut t, mut y) = ([9; 4], [9; 4], [9; 4]);
-    let (mut refs, mut segments) = ([0; 4 * REF_WORDS], [0.0; 4 * SEGMENT_FLOATS]);
-    let done = frame(&[0, 0], &coords, &PATHS, &mut b, &mut t, &mut y, &mut refs, &mut segments);
-    assert_eq!(done.unwrap().references, 2);
+    let (mut refs, mut segments, mut tags) = ([0; 4 * REF_WORDS], [0.0; 4 * SEGMENT_FLOATS], [5; 4]);
+    let done = frame(&[0, 0], &coords, &PATHS, &mut b, &mut t, &mut y, &mut refs, &mut segments, &mut tags);
+    assert_eq!((done.unwrap().references, tags), (2, [BEAM, BEAM, 5, 5]));
     let mut words = vec![7; words_needed(2, 2, 1)];
     write_lists(
         &PATHS,
@@ -163,12 +198,17 @@ fn a_frame_is_drawn() {
 #[test]
 fn a_frame_says_which_part_refused() {
     let line = [8.0, 8.0, 8.0, 24.0];
-    let stage = |coords: &[f32], tally: usize, refs: usize, slots: usize| {
+    let tagged = |coords: &[f32], tally: usize, refs: usize, slots: usize, tags: usize| {
         let (mut b, mut t, mut y) = ([9; 4], [9; 4], vec![9; tally]);
         let (mut refs, mut segments) = (vec![0; REF_WORDS * refs], vec![0.0; SEGMENT_FLOATS * slots]);
-        frame(&[0], coords, &PATHS, &mut b, &mut t, &mut y, &mut refs, &mut segments)
+        let mut tags = vec![5; tags];
+        frame(&[0], coords, &PATHS, &mut b, &mut t, &mut y, &mut refs, &mut segments, &mut tags)
             .map_err(|s| (s.stage, s.refused.refusal, b[0]))
     };
+    let stage =
+        |coords: &[f32], tally: usize, refs: usize, slots: usize| tagged(coords, tally, refs, slots, slots);
+    assert_eq!(tagged(&line, 4, 2, 2, 3).unwrap_err(), (Stage::Lent, Refusal::NotWhole, 9));
+    assert_eq!(tagged(&line, 4, 2, 2, 1).unwrap_err(), (Stage::Lent, Refusal::NotWhole, 9));
     assert_eq!(stage(&line, 3, 2, 2).unwrap_err(), (Stage::Lent, Refusal::NotWhole, 9));
     assert_eq!(stage(&line, 4, 1, 2).unwrap_err(), (Stage::Count, Refusal::NoRoom, 0));
     assert_eq!(stage(&line, 4, 2, 1).unwrap_err(), (Stage::HandOut, Refusal::NoRoom, 0));

@@ -18,7 +18,7 @@ fn rows(head: &str) -> Vec<Vec<String>> {
 #[test]
 fn example() {
     let (path_nos, coords) = ([0, 0], [8.0, 8.0, 8.0, 24.0, 4.0, 28.0, 28.0, 8.0]);
-    let paths = Path { x0: 0, y0: 0, x1: 2, y1: 2, first: 0 }.words();
+    let paths = Path { x0: 0, y0: 0, x1: 2, y1: 2, first: 0, beam: 7 }.words();
     let said = text().split_once("its path record is ").unwrap().1.split_once('.').unwrap().0.to_string();
     assert_eq!(said, paths.map(|w| w.to_string()).join(", "));
     let (mut backdrops, mut counts, mut refs) = ([0; 4], [0; 4], [0; 5 * REF_WORDS]);
@@ -26,8 +26,9 @@ fn example() {
         count(Running::default(), 2, &path_nos, &coords, &paths, &mut backdrops, &mut counts, &mut refs);
     assert_eq!(made.unwrap().references, 5);
     let (mut sums, mut tiles, mut tally) = ([9; 4], [9; 4], [9; 4]);
-    let mut segments = [0.0; 5 * SEGMENT_FLOATS];
-    frame(&path_nos, &coords, &paths, &mut sums, &mut tiles, &mut tally, &mut refs, &mut segments).unwrap();
+    let (mut segments, mut tags) = ([0.0; 5 * SEGMENT_FLOATS], [9; 5]);
+    frame(&path_nos, &coords, &paths, &mut sums, &mut tiles, &mut tally, &mut refs, &mut segments, &mut tags)
+        .unwrap();
 
     let references = rows("| Reference | Words | Line | Step | Tile | Slice number | Slot |");
     for (n, words) in refs.chunks(REF_WORDS).enumerate() {
@@ -50,7 +51,7 @@ fn example() {
             "tile {t}"
         );
     }
-    let slot_rows = rows("| Slot | Segment: point0, point1 (relative to its tile), y_edge |");
+    let slot_rows = rows("| Slot | Segment: point0, point1 (relative to its tile), y_edge | Tag |");
     for (k, s) in segments.chunks(SEGMENT_FLOATS).enumerate() {
         let Segment { point0: p, point1: q, y_edge } = Segment::of(s);
         let edge = if y_edge == Segment::NO_EDGE { "none".into() } else { y_edge.to_string() };
@@ -59,6 +60,7 @@ fn example() {
             format!("({}, {}), ({}, {}), {edge}", p[0], p[1], q[0], q[1]),
             "slot {k}"
         );
+        assert_eq!(slot_rows[k][2], tags[k].to_string(), "slot {k}");
     }
     assert_eq!((references.len(), tile_rows.len(), slot_rows.len()), (5, 4, 5));
 }

@@ -132,7 +132,7 @@ fn widths_and_commands() {
 #[test]
 fn places() {
     let (header, code) = (header(), numbers(&text("crates/panel/src/widths.rt"), "pub const ", ": usize = "));
-    let path = Path { x0: 10, y0: 11, x1: 12, y1: 13, first: 14 }.words().to_vec();
+    let path = Path { x0: 10, y0: 11, x1: 12, y1: 13, first: 14, beam: 15 }.words().to_vec();
     let reference = Reference { line: 20, slice: 0, step: 21 }.words().to_vec();
     let paint = Paint { colour: 30, even_odd: true }.words().to_vec();
     let places = [
@@ -141,6 +141,7 @@ fn places() {
         ("PATH_X1", &path, 12),
         ("PATH_Y1", &path, 13),
         ("PATH_FIRST", &path, 14),
+        ("PATH_BEAM", &path, 15),
         ("REF_LINE", &reference, 20),
         ("REF_PACKED", &reference, 21),
         ("PAINT_COLOUR", &paint, 30),

@@ -7,7 +7,7 @@ use cases::memory::one_zero;
 use cases::Rng;
 use oracle::{BumpAllocators, PathSegment, SegmentCount, Tile};
 use rules::limits::{REF, REGION, SEGMENT};
-use rules::records::{box_at, paint, path, segments_in};
+use rules::records::{beam_at, box_at, paint, path, segments_in};
 use std::hint::black_box;
 
 /// The sizes that show the growth.
@@ -134,7 +134,7 @@ fn tile_scene(kind: Kind, n: usize, rounds: usize) -> Times {
     let paths = oracle::paths_of(&scene.paths);
     let tiles: Vec<Tile> = counted.stored.iter().map(|&i| Tile { backdrop: 0, segment_count_or_ix: i }).collect();
     let mut records = vec![PathSegment::default(); scene.room];
-    let mut mine = vec![0.0f32; SEGMENT * scene.room];
+    let (mut mine, mut tags) = (vec![0.0f32; SEGMENT * scene.room], vec![0; scene.room]);
     let all = scene.room as u32;
     let times = measured(
         scene.room,
@@ -146,13 +146,15 @@ fn tile_scene(kind: Kind, n: usize, rounds: usize) -> Times {
         },
         || {
             mine.fill(0.0);
+            tags.fill(0);
+            let (s, c) = (&scene, &counted);
             timed(|| {
-                let no = ours::tile(&scene.path_nos, &scene.coords, &scene.paths, &counted.stored, &counted.refs, 0, all, &mut mine, &mut 0);
+                let no = ours::tile(&s.path_nos, &s.coords, &s.paths, &c.stored, &c.refs, 0, all, &mut mine, &mut tags, &mut 0);
                 assert_eq!(no, 0);
             })
         },
     );
-    assert!(same_segments(&records, &mine));
+    assert!(same_segments(&records, &mine) && tags.iter().all(|&tag| tag == beam_at(&scene.paths, 0)));
     times
 }
 
@@ -253,7 +255,7 @@ fn frame_scene(kind: Kind, n: usize, rounds: usize) -> Times {
     let mut refs = vec![SegmentCount::default(); scene.room];
     let mut records = vec![PathSegment::default(); scene.room];
     let (mut backs, mut stored, mut tally) = (vec![0; scene.tiles], vec![0; scene.tiles], vec![0; scene.tiles]);
-    let (mut mine_refs, mut mine) = (vec![0; REF * scene.room], vec![0.0f32; SEGMENT * scene.room]);
+    let (mut mine_refs, mut mine, mut tags) = (vec![0; REF * scene.room], vec![0.0f32; SEGMENT * scene.room], vec![0; scene.room]);
     let times = measured(
         n,
         rounds,
@@ -272,12 +274,13 @@ fn frame_scene(kind: Kind, n: usize, rounds: usize) -> Times {
         || {
             mine_refs.fill(0);
             mine.fill(0.0);
+            tags.fill(0);
             let s = &scene;
             let [mut stage, mut item, mut lines, mut made] = [0; 4];
             timed(|| {
                 let (told, counted) = ((&mut stage, &mut item), (&mut lines, &mut made));
-                let (b, y, r) = (&mut backs, &mut tally, &mut mine_refs);
-                let no = ours::frame(&s.path_nos, &s.coords, &s.paths, b, &mut stored, y, r, &mut mine, told.0, told.1, counted.0, counted.1);
+                let (b, y, r, g) = (&mut backs, &mut tally, &mut mine_refs, &mut tags);
+                let no = ours::frame(&s.path_nos, &s.coords, &s.paths, b, &mut stored, y, r, &mut mine, g, told.0, told.1, counted.0, counted.1);
                 assert_eq!(no, 0);
             })
         },

@@ -56,9 +56,25 @@ fn off_its_tile(rng: &mut Rng) -> Line {
 
 fn tile(rng: &mut Rng) -> Call {
     let slices = match rng.below(3) {
-        0 => vec![vec![0], bits([8.0, 8.0, 8.0, 24.0]), many_paths(rng), vec![u32::MAX; 4], reference(0, 0, 0).to_vec(), vec![0; 2 * SEGMENT]],
+        0 => vec![
+            vec![0],
+            bits([8.0, 8.0, 8.0, 24.0]),
+            many_paths(rng),
+            vec![u32::MAX; 4],
+            reference(0, 0, 0).to_vec(),
+            vec![0; 2 * SEGMENT],
+            vec![5; 2],
+        ],
         1 => {
-            vec![vec![0], bits(off_its_tile(rng)), path([0, 0, 1, 1], 0).to_vec(), vec![u32::MAX], reference(0, 0, 0).to_vec(), vec![0; SEGMENT]]
+            vec![
+                vec![0],
+                bits(off_its_tile(rng)),
+                path([0, 0, 1, 1], 0).to_vec(),
+                vec![u32::MAX],
+                reference(0, 0, 0).to_vec(),
+                vec![0; SEGMENT],
+                vec![5],
+            ]
         }
         _ => vec![
             vec![0],
@@ -67,6 +83,7 @@ fn tile(rng: &mut Rng) -> Call {
             vec![!rng.range(0, 2) as u32; 4],
             reference(0, 0, 0).to_vec(),
             vec![0; SEGMENT],
+            vec![5],
         ],
     };
     Call { kind: 4, numbers: vec![0, 1], slices }
@@ -82,7 +99,7 @@ fn frame(rng: &mut Rng) -> Call {
         }
         _ => (vec![0], bits([80.0, 0.0, 80.0, f32::from_bits(rng.range(1, 2_000) as u32)]), path([0, 0, 6, 1], 0).to_vec(), 6),
     };
-    let slices = vec![path_nos, coords, paths, vec![7; tiles], vec![7; tiles], vec![7; tiles], vec![9; 4 * REF], vec![0; 4 * SEGMENT]];
+    let slices = vec![path_nos, coords, paths, vec![7; tiles], vec![7; tiles], vec![7; tiles], vec![9; 4 * REF], vec![0; 4 * SEGMENT], vec![5; 4]];
     Call { kind: 7, numbers: vec![], slices }
 }
 

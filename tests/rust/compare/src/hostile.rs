@@ -100,16 +100,17 @@ fn good(rng: &mut Rng, kind: u32) -> Call {
             let made = rng.below(6) as usize;
             let refs = (0..made).flat_map(|_| reference(rng.below(n.max(1) as u64) as u32, rng.below(3) as u32, rng.below(4) as u32)).collect();
             let stored = (0..tiles).map(|_| if rng.one_in(4) { 0 } else { !(rng.below(20) as u32) }).collect();
-            let room = SEGMENT * rng.below(30) as usize;
-            (vec![0, made as u32], vec![path_nos, coords, paths, stored, refs, words(rng, room)])
+            let room = rng.below(30) as usize;
+            (vec![0, made as u32], vec![path_nos, coords, paths, stored, refs, words(rng, SEGMENT * room), words(rng, room)])
         }
         5 => {
             let numbers = vec![0, n as u32, rng.below(3) as u32, rng.range(-2, 2) as u32, 0, 0];
             (numbers, vec![list, words(rng, 256)])
         }
         7 => {
-            let (refs, room) = (REF * rng.below(60) as usize, SEGMENT * rng.below(60) as usize);
-            let tables = [words(rng, tiles), words(rng, tiles), words(rng, tiles), words(rng, refs), words(rng, room)];
+            let (refs, room) = (REF * rng.below(60) as usize, rng.below(60) as usize);
+            let pieces = [words(rng, SEGMENT * room), words(rng, room)];
+            let tables = [words(rng, tiles), words(rng, tiles), words(rng, tiles), words(rng, refs)].into_iter().chain(pieces);
             (vec![], [path_nos, coords, paths].into_iter().chain(tables).collect())
         }
         8 => {

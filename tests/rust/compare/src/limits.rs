@@ -23,7 +23,7 @@ fn calls(long: bool) -> Vec<(&'static str, Call, u32)> {
         out.push(("tiles", Call { kind: 1, numbers: vec![1, 0, 0], slices: count }, number));
         out.push(("tiles", Call { kind: 2, numbers: vec![], slices: vec![paths.clone(), vec![1; tiles]] }, number));
         out.push(("tiles", Call { kind: 3, numbers: vec![u32::MAX], slices: vec![vec![1; tiles], vec![5; tiles]] }, number));
-        let tile = vec![path_nos, coords, paths, vec![u32::MAX; tiles], reference(0, 0, 0).to_vec(), vec![0; SEGMENT]];
+        let tile = vec![path_nos, coords, paths, vec![u32::MAX; tiles], reference(0, 0, 0).to_vec(), vec![0; SEGMENT], vec![5]];
         out.push(("tiles", Call { kind: 4, numbers: vec![0, 1], slices: tile }, number));
     }
     // a box as wide or as high as may be, one wider, and one that takes all tiles
@@ -46,7 +46,7 @@ fn calls(long: bool) -> Vec<(&'static str, Call, u32)> {
         let paths = path([0, 0, EDGE, rows], 0).to_vec();
         let slices = vec![vec![0], bits(line), paths.clone(), vec![0; TILES], vec![0; TILES], vec![9; REF * 8 * EDGE as usize]];
         out.push(("coordinate", Call { kind: 1, numbers: vec![1, 0, 0], slices }, number));
-        let slices = vec![vec![0], bits(line), paths, vec![u32::MAX; TILES], reference(0, 0, 0).to_vec(), vec![0; SEGMENT]];
+        let slices = vec![vec![0], bits(line), paths, vec![u32::MAX; TILES], reference(0, 0, 0).to_vec(), vec![0; SEGMENT], vec![5]];
         out.push(("coordinate", Call { kind: 4, numbers: vec![0, 1], slices }, if over { 6 } else { 10 }));
     }
     for (first, number) in [(0, 0), (1, 4)] {
@@ -64,7 +64,8 @@ fn calls(long: bool) -> Vec<(&'static str, Call, u32)> {
     // a line too many in a frame: all are of no length, so the walk skips them
     for (n, number) in [(LINES_MOST as usize, 0), (LINES_MOST as usize + 1, 5)] {
         let (tiles, refs, segments) = (vec![1; 4], vec![7; 2 * REF], vec![9; SEGMENT]);
-        let slices = vec![vec![0; n], vec![0; LINE * n], path([0, 0, 2, 2], 0).to_vec(), tiles.clone(), tiles.clone(), tiles, refs, segments];
+        let slices =
+            vec![vec![0; n], vec![0; LINE * n], path([0, 0, 2, 2], 0).to_vec(), tiles.clone(), tiles.clone(), tiles, refs, segments, vec![5]];
         out.push(("lines", Call { kind: 7, numbers: vec![], slices }, number));
     }
     for (cols, rows, number) in [(EDGE, rows, 9), (EDGE, rows + 1, 2)] {

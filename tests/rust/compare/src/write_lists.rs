@@ -7,9 +7,10 @@ use crate::table::Table;
 use cases::commands::{color, Command, Lists};
 use cases::memory::{as_f32, Lent};
 use cases::{boxes, segments, Rng};
+use rules::fine::{END, JUMP};
 use rules::limits::{BAD_SEGMENT, EDGE_MOST, LINE, PAINT, PATH, PATHS_MOST, REGION, ROOM_MOST, SEGMENT};
 use rules::lists::{Pair, Tables};
-use rules::records::{box_at, colour, even_odd, first_at, no_tiles, paint, paint_words, path, paths_in, segments_in, words_of};
+use rules::records::{beam_at, box_at, colour, even_odd, first_at, no_tiles, paint, paint_words, path, paths_in, segments_in, words_of};
 
 #[derive(Clone, Debug)]
 pub struct Case {
@@ -27,9 +28,14 @@ pub struct Case {
     pub words: usize,
     /// As many as the room, where the lists are to be drawn.
     pub segments: Vec<u32>,
+    /// A tag for each of them, where a frame left them.
+    pub tags: Vec<u32>,
 }
 
 pub struct WriteLists;
+
+/// Slots of FILLs over a frame, each held against the beam number of the FILL's path.
+const OWN_BEAM: &str = "slots of FILLs with their path's beam";
 
 /// Paths in painting order whose boxes lie on or near a small screen, many of them over one another; now and then one over all the wall.
 fn near_boxes(rng: &mut Rng, n: usize, most: i64) -> (Vec<u32>, usize) {
@@ -64,8 +70,9 @@ fn drawn(rng: &mut Rng) -> Option<Case> {
 /// The tables as the rules' stages leave them, where those draw the frame whole.
 fn left_by(f: frame::Case, paints: Vec<u32>) -> Option<Case> {
     let mut memory = frame::Memory::of(&f);
-    let number = memory.lend(|b, t, y, r, s| rules::frame(&f.path_nos, as_f32(&f.coords), &f.paths, b, t, y, r, s, &mut 0, &mut 0, &mut 0, &mut 0));
-    let [backdrops, stored, tally, _, segments] = memory.0.map(|l| l.u32s().to_vec());
+    let number =
+        memory.lend(|b, t, y, r, s, g| rules::frame(&f.path_nos, as_f32(&f.coords), &f.paths, b, t, y, r, s, g, &mut 0, &mut 0, &mut 0, &mut 0));
+    let [backdrops, stored, tally, _, segments, tags] = memory.0.map(|l| l.u32s().to_vec());
     (number == 0).then(|| Case {
         paints,
         paths: f.paths.clone(),
@@ -77,6 +84,7 @@ fn left_by(f: frame::Case, paints: Vec<u32>) -> Option<Case> {
         room: segments_in(&segments) as u32,
         words: 0,
         segments,
+        tags,
         frame: Some(f),
     })
 }
@@ -98,6 +106,7 @@ fn invented(rng: &mut Rng, n_paths: usize, most: i64) -> Case {
         room,
         words: 0,
         segments: segments::list(rng, room as usize).into_iter().map(f32::to_bits).collect(),
+        tags: vec![],
     };
     for _ in 0..tiles {
         let number = if rng.below(4) < fills { rng.below(room as u64 + 1) as u32 } else { 0 };
@@ -133,6 +142,7 @@ fn long(rng: &mut Rng) -> Case {
         room: 1,
         words: REGION * (regions + 1 - rng.below(3) as usize),
         segments: vec![],
+        tags: vec![],
     }
 }
 
@@ -175,10 +185,11 @@ fn spoil(rng: &mut Rng, case: &mut Case) {
 
 type Call = fn(&[u32], &[u32], &[i32], &[u32], &[u32], u32, u32, u32, &mut [u32], &mut u32) -> u32;
 
-/// What is lent: the tables, the segments for fine, and the words.
+/// What is lent: the tables, the segments for fine with their tags, and the words.
 struct Memory {
     tables: [Lent; 5],
     segments: Lent,
+    tags: Lent,
     words: Lent,
 }
 
@@ -186,7 +197,7 @@ impl Memory {
     fn of(case: &Case) -> Memory {
         let words: Vec<u32> = (0..case.words).map(|k| 0xc0de_0000 + k as u32).collect();
         let tables = [&case.paths, &case.paints, &case.backdrops, &case.stored, &case.tally];
-        Memory { tables: tables.map(|w| Lent::new(w)), segments: Lent::new(&case.segments), words: Lent::new(&words) }
+        Memory { tables: tables.map(|w| Lent::new(w)), segments: Lent::new(&case.segments), tags: Lent::new(&case.tags), words: Lent::new(&words) }
     }
 
     fn read(&self) -> Tables<'_> {
@@ -206,11 +217,13 @@ impl Memory {
     /// Our stages over the frame's lines, and what they leave in the tables' place.
     fn make_anew(&mut self, f: &frame::Case) -> Result<(), String> {
         let mut left = frame::Memory::of(f);
-        let number = left.lend(|b, t, y, r, s| ours::frame(&f.path_nos, as_f32(&f.coords), &f.paths, b, t, y, r, s, &mut 0, &mut 0, &mut 0, &mut 0));
+        let number =
+            left.lend(|b, t, y, r, s, g| ours::frame(&f.path_nos, as_f32(&f.coords), &f.paths, b, t, y, r, s, g, &mut 0, &mut 0, &mut 0, &mut 0));
         same("our stages' answer", number, 0)?;
-        let [backdrops, stored, tally, _, segments] = left.0;
+        let [backdrops, stored, tally, _, segments, tags] = left.0;
         [self.tables[2], self.tables[3], self.tables[4]] = [backdrops, stored, tally];
         self.segments = segments;
+        self.tags = tags;
         Ok(())
     }
 
@@ -222,6 +235,7 @@ impl Memory {
             same(name, got.guards_stand(), true)?;
         }
         same_words("segments", self.segments.u32s(), wanted.segments.u32s())?;
+        same_words("tags", self.tags.u32s(), wanted.tags.u32s())?;
         same_words("words", self.words.u32s(), wanted.words.u32s())?;
         same("guards", self.words.guards_stand() && self.segments.guards_stand(), true)
     }
@@ -319,11 +333,18 @@ impl Stage for WriteLists {
             same("answer and item", told, (number, item))?;
             by_ours.same_as(&by_rules)?;
         }
+        if number == 0 && case.frame.is_some() {
+            own_beams(case, if sides.ours { &by_ours } else { &by_rules }, table)?;
+        }
         if number == 0 && case.segments.len() == SEGMENT * case.room as usize {
             let lists = if sides.ours { &by_ours } else { &by_rules };
             draw(case, lists, &by_rules, sides, table)?;
         }
         Ok(())
+    }
+
+    fn rows_wanted(&self) -> Vec<(String, u64)> {
+        vec![(OWN_BEAM.into(), if ours::BRIDGED { 50 } else { 1_000 })]
     }
 
     fn smaller(&self, case: &Case) -> Vec<Case> {
@@ -369,6 +390,33 @@ impl Stage for WriteLists {
             case.words
         )
     }
+}
+
+/// Over a frame that is drawn whole, the slots of every FILL written carry the beam number of the path that it was written for: the lists are read
+/// command by command, and the pairs of a tile are its paths' in order.
+fn own_beams(case: &Case, lists: &Memory, table: &mut Table) -> Result<(), String> {
+    let (words, tags, tables) = (lists.words.u32s(), lists.tags.u32s(), lists.read());
+    for t in 0..case.cols * case.rows {
+        let (x, y) = ((t % case.cols) as i64, (t / case.cols) as i64);
+        let mut at = REGION * t as usize + 1;
+        for (p, pair) in tables.pairs_of_paths(x, y) {
+            if words[at] == JUMP {
+                at = words[at + 1] as usize;
+            }
+            if let Pair::Solid { .. } = pair {
+                at += 3; // SOLID, COLOR, its colour
+                continue;
+            }
+            let (number, first) = (words[at + 1] / 2, words[at + 2]);
+            for slot in first..first + number {
+                same("tags of a FILL: the number at its slot", tags[slot as usize], beam_at(&case.paths, p))?;
+            }
+            table.add(OWN_BEAM, number as u64);
+            at += 6; // FILL and its three words, COLOR, its colour
+        }
+        same("the list ends after its pairs", words[at], END)?;
+    }
+    Ok(())
 }
 
 /// Fine over the lists, and each tile painted without a list from the rules' tables: by the rules, and by the Rust. It stops at the first tile

@@ -7,7 +7,7 @@ use cases::commands::{color, fill, Command, Lists};
 use cases::memory::{as_f32, one_nan};
 use cases::{boxes, floats, lines, segments, Rng};
 use rules::limits::{COMMANDS_MOST, COORD_MOST, COUNT_MOST, EDGE_MOST, LINE, PATH, REF, REGION, ROOM_MOST, SEGMENT, TILES_MOST, WALK_MOST};
-use rules::records::{box_at, line_floats, path, paths_in, ref_words, refs_in, Line, FIRST, PACKED, X0, X1, Y0, Y1};
+use rules::records::{box_at, line_floats, path, paths_in, ref_words, refs_in, stamped, Line, FIRST, PACKED, X0, X1, Y0, Y1};
 
 fn bits(line: Line) -> [u32; 4] {
     line.map(|v| one_nan(v.to_bits()))
@@ -433,6 +433,8 @@ struct Tiling {
     stored: Vec<u32>,
     refs: Vec<u32>,
     room: usize,
+    /// As many as the room, but where they are to be refused.
+    tags: Option<usize>,
     from: u32,
     to: u32,
 }
@@ -453,6 +455,7 @@ impl Tiling {
             stored,
             refs,
             room: made,
+            tags: None,
             from: 0,
             to: made as u32,
         }
@@ -460,10 +463,11 @@ impl Tiling {
 
     fn written(&self) -> Written {
         let before = vec![0x447a_0000u32; SEGMENT * self.room];
-        let mut after: Vec<f32> = as_f32(&before).to_vec();
+        let tags_before = vec![0x5555_5555; self.tags.unwrap_or(self.room)];
+        let (mut after, mut tags): (Vec<f32>, _) = (as_f32(&before).to_vec(), tags_before.clone());
         let mut item = 0;
-        let number =
-            rules::tile(&self.path_nos, as_f32(&self.coords), &self.paths, &self.stored, &self.refs, self.from, self.to, &mut after, &mut item);
+        let (coords, refs) = (as_f32(&self.coords), &self.refs);
+        let number = rules::tile(&self.path_nos, coords, &self.paths, &self.stored, refs, self.from, self.to, &mut after, &mut tags, &mut item);
         if number == 0 {
             let mut by_rust: Vec<f32> = as_f32(&before).to_vec();
             let ran = oracle::tile(
@@ -482,9 +486,9 @@ impl Tiling {
         Written {
             kind: 4,
             numbers: vec![self.from, self.to],
-            before: vec![self.path_nos.clone(), self.coords.clone(), self.paths.clone(), self.stored.clone(), self.refs.clone(), before],
+            before: vec![self.path_nos.clone(), self.coords.clone(), self.paths.clone(), self.stored.clone(), self.refs.clone(), before, tags_before],
             answer: vec![number, item],
-            after: vec![(5, float_bits(&after))],
+            after: vec![(5, float_bits(&after)), (6, tags)],
         }
     }
 }
@@ -511,6 +515,14 @@ pub fn tiling() -> String {
     let half =
         Counting::new(&path([0, 0, 20, 11], 0), 220).with(0, [0x417f_ffff, 0x42c0_0000, 0x431f_ffff, 0x42bf_ffffu32].map(f32::from_bits)).room(40);
     list.case(&Tiling::of(&half).written());
+    list.say("Tags that aren't as many as the slots; two paths of one beam number, and one of another");
+    for tags in [0, 1, 3] {
+        let two = Tiling::of(&square().with(0, [8.0, 8.0, 8.0, 24.0]).room(8));
+        list.case(&Tiling { tags: Some(tags), ..two }.written());
+    }
+    let three = [stamped([0, 0, 1, 1], 0, 7), stamped([0, 0, 1, 1], 1, u32::MAX), stamped([0, 0, 1, 1], 2, 7)].concat();
+    let one_each = (0..3).fold(Counting::new(&three, 3), |case, p| case.with(2 - p, [8.5, 2.0, 8.5, 6.0]));
+    list.case(&Tiling::of(&one_each.room(3)).written());
     let mut references = 0;
     for (family, name) in lines::FAMILIES.iter().enumerate() {
         list.say(&format!("Family: {name}"));
@@ -542,7 +554,8 @@ fn invented(list: &mut List, rng: &mut Rng, mut tiling: Tiling) {
     if all == 0 || tiling.stored.is_empty() {
         return;
     }
-    match rng.below(8) {
+    match rng.below(9) {
+        8 => tiling.tags = Some(rng.pick(&[0, tiling.room.saturating_sub(1), tiling.room + 1, SEGMENT * tiling.room])),
         0 => tiling.refs[rng.below(all) as usize] = rng.u32(),
         1 => tiling.refs[ref_words(rng.below(all) as usize / REF).start + PACKED] += 1 + rng.below(4) as u32,
         2 => tiling.stored[0] = rng.pick(&[0, 5, 0x7fff_ffff, u32::MAX, 0x8000_0000]),

@@ -13,7 +13,7 @@ pub const COMMANDS_MOST: u32 = 4_096;
 pub const SIDE_MOST: u32 = 16_384;
 
 /// Words of a record.
-pub const PATH: usize = 5;
+pub const PATH: usize = 6;
 pub const LINE: usize = 4;
 pub const REF: usize = 2;
 pub const SEGMENT: usize = 5;

@@ -54,10 +54,14 @@ impl Tables<'_> {
         }
     }
 
-    /// The pairs of the screen tile at x, y, paths in painting order.
+    /// The pairs of the screen tile at x, y, paths in painting order, each with its path's number.
+    pub fn pairs_of_paths(&self, x: i64, y: i64) -> Vec<(usize, Pair)> {
+        let each = self.paths.chunks_exact(PATH).zip(self.paints.chunks_exact(PAINT)).enumerate();
+        each.filter_map(|(p, (path, paint))| self.pair(path, paint, x, y).map(|pair| (p, pair))).collect()
+    }
+
     pub fn pairs(&self, x: i64, y: i64) -> Vec<Pair> {
-        let each = self.paths.chunks_exact(PATH).zip(self.paints.chunks_exact(PAINT));
-        each.filter_map(|(path, paint)| self.pair(path, paint, x, y)).collect()
+        self.pairs_of_paths(x, y).into_iter().map(|(_, pair)| pair).collect()
     }
 }
 

@@ -3,12 +3,13 @@
 use crate::limits::{LINE, PAINT, PATH, REF, SEGMENT, STEP_RANGE};
 use std::ops::Range;
 
-/// The places of a path's words: its box in tiles, then its first tile.
+/// The places of a path's words: its box in tiles, then its first tile, then its beam number.
 pub const X0: usize = 0;
 pub const Y0: usize = 1;
 pub const X1: usize = 2;
 pub const Y1: usize = 3;
 pub const FIRST: usize = 4;
+pub const BEAM: usize = 5;
 
 /// The places of a reference's words: its line, then its slice and step numbers in one.
 const NAMED: usize = 0;
@@ -21,12 +22,17 @@ pub const Y_EDGE: usize = 4;
 const COLOUR: usize = 0;
 const RULE: usize = 1;
 
-/// A path's words: its box x0, y0, x1, y1 in tiles, then its first tile.
-pub const fn path(b: [u32; 4], first: u32) -> [u32; PATH] {
+/// A path's words: its box x0, y0, x1, y1 in tiles, its first tile, and its beam number.
+pub const fn stamped(b: [u32; 4], first: u32, beam: u32) -> [u32; PATH] {
     let mut words = [0; PATH];
     (words[X0], words[Y0], words[X1], words[Y1]) = (b[0], b[1], b[2], b[3]);
-    words[FIRST] = first;
+    (words[FIRST], words[BEAM]) = (first, beam);
     words
+}
+
+/// The same where the beam number is of no account: it has one all the same, another for each first tile.
+pub const fn path(b: [u32; 4], first: u32) -> [u32; PATH] {
+    stamped(b, first, first.wrapping_mul(0x9e37_79b1) ^ 0xbea3_0000)
 }
 
 /// Paths of no tiles, `n` of them.
@@ -56,6 +62,11 @@ pub fn first_at(paths: &[u32], n: usize) -> u32 {
 
 /// A line's floats: p0.x, p0.y, p1.x, p1.y.
 pub type Line = [f32; LINE];
+
+/// The beam number of path `n`.
+pub fn beam_at(paths: &[u32], n: usize) -> u32 {
+    paths[PATH * n + BEAM]
+}
 
 /// The floats of line `n`.
 pub fn line_floats(n: usize) -> Range<usize> {

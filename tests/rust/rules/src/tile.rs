@@ -1,8 +1,8 @@
-//! Tiling: a segment for each reference, relative to its tile. The clips stand beside path_tiling.rs.
+//! Tiling: a segment for each reference, relative to its tile, and beside it the beam number of its line's path. The clips stand beside path_tiling.rs.
 
 use crate::checks::*;
 use crate::limits::*;
-use crate::records::{self, end_floats, line_floats, named, ref_words, refs_in, segment_floats, segments_in, slice_and_step};
+use crate::records::{self, beam_at, end_floats, line_floats, named, ref_words, refs_in, segment_floats, segments_in, slice_and_step};
 use crate::walk::*;
 
 const SIDE: f32 = 16.0;
@@ -96,8 +96,15 @@ pub struct Lent<'a> {
     pub stored: &'a [u32],
 }
 
-/// The slot and the segment of a reference, nothing where its tile is empty, or its refusal.
-pub fn piece(lent: &Lent, reference: &[u32], room: i64) -> Result<Option<(usize, [f32; SEGMENT])>, u32> {
+/// What a reference writes: its slot, the segment there, and the slot's tag.
+pub struct Piece {
+    pub slot: usize,
+    pub segment: [f32; SEGMENT],
+    pub tag: u32,
+}
+
+/// What a reference writes, nothing where its tile is empty, or its refusal.
+pub fn piece(lent: &Lent, reference: &[u32], room: i64) -> Result<Option<Piece>, u32> {
     let n = named(reference) as usize;
     let (slice, i) = slice_and_step(reference);
     let (slice, i) = (slice as i64, i as i64);
@@ -108,7 +115,8 @@ pub fn piece(lent: &Lent, reference: &[u32], room: i64) -> Result<Option<(usize,
     if !good_coords(line) {
         return Err(BAD_COORD);
     }
-    let path = lent.paths.chunks_exact(PATH).nth(lent.path_nos[n] as usize).ok_or(NO_SUCH)?;
+    let path_no = lent.path_nos[n] as usize;
+    let path = lent.paths.chunks_exact(PATH).nth(path_no).ok_or(NO_SUCH)?;
     let at = Place::of(path);
     let w = Walk::of(line);
     if w.skipped(&at) {
@@ -127,7 +135,7 @@ pub fn piece(lent: &Lent, reference: &[u32], room: i64) -> Result<Option<(usize,
     if !end_floats(&segment).iter().all(|v| (0.0..=SIDE).contains(v)) {
         return Err(OFF_TILE);
     }
-    Ok(Some((slot as usize, segment)))
+    Ok(Some(Piece { slot: slot as usize, segment, tag: beam_at(lent.paths, path_no) }))
 }
 
 pub fn tile(
@@ -139,6 +147,7 @@ pub fn tile(
     from: u32,
     to: u32,
     segments: &mut [f32],
+    tags: &mut [u32],
     item: &mut u32,
 ) -> u32 {
     let got = (|| {
@@ -147,6 +156,7 @@ pub fn tile(
             && whole(paths.len(), PATH)
             && whole(refs.len(), REF)
             && whole(segments.len(), SEGMENT)
+            && tags.len() == segments_in(segments)
             && from <= to
             && to as usize <= refs_in(refs);
         if !shape {
@@ -159,8 +169,9 @@ pub fn tile(
         let lent = Lent { path_nos, coords, paths, stored };
         let room = segments_in(segments) as i64;
         for r in from..to {
-            if let Some((slot, segment)) = piece(&lent, &refs[ref_words(r as usize)], room).map_err(|no| (no, r))? {
-                segments[segment_floats(slot)].copy_from_slice(&segment);
+            if let Some(piece) = piece(&lent, &refs[ref_words(r as usize)], room).map_err(|no| (no, r))? {
+                segments[segment_floats(piece.slot)].copy_from_slice(&piece.segment);
+                tags[piece.slot] = piece.tag;
             }
         }
         Ok(())

@@ -1,7 +1,7 @@
 //! The traces of docs/RULES.md, so that the rules as restated here are seen to be the rules.
 
 use rules::limits::{COMMANDS_MOST, COORD_MOST, COUNT_MOST, EDGE_MOST, REF, REGION, SEGMENT};
-use rules::records::{named, paint, path, reference, slice_and_step, Line, Y_EDGE};
+use rules::records::{named, paint, path, reference, slice_and_step, stamped, Line, Y_EDGE};
 use rules::{backdrop, count, fill, fine, frame, hand_out, tile, write_lists};
 
 struct Counted {
@@ -28,9 +28,11 @@ fn segments(line: Line) -> Vec<Vec<u32>> {
     let (mut stored, mut tally) = (c.counts.clone(), vec![0; 4]);
     assert_eq!(hand_out(&mut stored, &mut tally, 16), 0);
     let refs = c.refs.concat();
-    let mut out = vec![0.0; SEGMENT * c.refs.len()];
+    let (mut out, mut tags) = (vec![0.0; SEGMENT * c.refs.len()], vec![0; c.refs.len()]);
     let mut item = 0;
-    assert_eq!(tile(&[0], &line, &path([0, 0, 2, 2], 0), &stored, &refs, 0, c.refs.len() as u32, &mut out, &mut item), 0);
+    let paths = stamped([0, 0, 2, 2], 0, 7);
+    assert_eq!(tile(&[0], &line, &paths, &stored, &refs, 0, c.refs.len() as u32, &mut out, &mut tags, &mut item), 0);
+    assert_eq!(tags, vec![7; c.refs.len()]);
     out.chunks(SEGMENT).map(|s| s.iter().map(|v| v.to_bits()).collect()).collect()
 }
 
@@ -92,6 +94,28 @@ fn slots_and_segments() {
     assert_eq!(segments([0.0, 4.0, 8.0, 8.0])[0][Y_EDGE], 4f32.to_bits());
 }
 
+/// Two paths of one number and one of another, over a tile each; references of the three lines in another order.
+#[test]
+fn tags() {
+    let paths = [stamped([0, 0, 1, 1], 0, 7), stamped([0, 0, 1, 1], 1, 9), stamped([0, 0, 1, 1], 2, 7)].concat();
+    let (path_nos, coords) = ([2, 1, 0], [8.5, 2.0, 8.5, 6.0].repeat(3));
+    let refs = [1, 0, 2, 1].map(|line| reference(line, 0, 0)).concat();
+    let tiled = |stored: [u32; 3], from: u32, tags: usize| {
+        let (mut segments, mut tags, mut item) = (vec![0.5; 4 * SEGMENT], vec![5; tags], 8);
+        let number = tile(&path_nos, &coords, &paths, &stored, &refs, from, 4, &mut segments, &mut tags, &mut item);
+        assert!(number == 1 || segments.chunks(SEGMENT).zip(&tags).all(|(s, &tag)| (s == [0.5; SEGMENT]) == (tag == 5)));
+        (number, item, tags)
+    };
+    assert_eq!(tiled([!3, !0, !2], 0, 4), (0, 0, vec![9, 5, 7, 7]));
+    // one tile is skipped; one has a slot past the room, and the references after it are not tiled
+    assert_eq!(tiled([!3, 0, !2], 0, 4), (0, 0, vec![5, 5, 7, 7]));
+    assert_eq!(tiled([!3, !0, !4], 0, 4), (9, 1, vec![9, 5, 5, 5]));
+    assert_eq!(tiled([!3, !0, !2], 3, 4), (0, 0, vec![9, 5, 5, 5]));
+    for n in [0, 3, 5] {
+        assert_eq!(tiled([!3, !0, !2], 0, n), (1, 0, vec![5; n]));
+    }
+}
+
 #[test]
 fn sums() {
     let mut backdrops = vec![1, 2, -5, i32::MAX, 9];
@@ -141,12 +165,13 @@ fn commands() {
 
 #[test]
 fn frames() {
-    let (line, paths) = ([8.0, 8.0, 8.0, 24.0], path([0, 0, 2, 2], 0));
+    let (line, paths) = ([8.0, 8.0, 8.0, 24.0], stamped([0, 0, 2, 2], 0, 3));
     let framed = |tally: usize, slots: usize| {
         let (mut b, mut t, mut y) = (vec![9; 4], vec![9; 4], vec![9; tally]);
-        let (mut refs, mut segments, mut told) = (vec![0; 2 * REF], vec![0.0; SEGMENT * slots], [7; 4]);
+        let (mut refs, mut segments, mut tags, mut told) = (vec![0; 2 * REF], vec![0.0; SEGMENT * slots], vec![5; slots], [7; 4]);
         let [stage, item, lines, made] = &mut told;
-        let number = frame(&[0], &line, &paths, &mut b, &mut t, &mut y, &mut refs, &mut segments, stage, item, lines, made);
+        let number = frame(&[0], &line, &paths, &mut b, &mut t, &mut y, &mut refs, &mut segments, &mut tags, stage, item, lines, made);
+        assert_eq!(tags, vec![if number == 0 { 3 } else { 5 }; slots]);
         (number, told, b, t, y)
     };
     let stored = vec![4_294_967_295, 0, 4_294_967_294, 0];
