@@ -1,0 +1,5 @@
+-- Whole calls over lines in boxes with a margin. Assumes nothing.
+--     Few      after b lines a tile's count is b at most, and there are no more references than steps
+--     Counts   all lines are counted, or the room for references ends
+pub mod Few
+pub mod Counts
