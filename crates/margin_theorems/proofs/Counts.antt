@@ -154,7 +154,7 @@ module _ (nos : List ℕ) (coords : List Float) (paths : List ℕ) (n : ℕ) (ok
 -- ---- a call
 
 module _ (b : ℕ) (nos : List ℕ) (coords : List Float) (paths : List ℕ) (n : ℕ) (refs : List ℕ) (ok : callAnswer nos coords paths 0 b (startOf n refs) ≡ Answer.Done) where
-  paths-ok : pathsAnswer paths n ≡ Answer.Done
+  pub paths-ok : pathsAnswer paths n ≡ Answer.Done
   paths-ok = let z : length (zeros n) ≡ n = length-replicate n 0 in rw z at (call-fine nos coords paths 0 b (startOf n refs) ok .1)
 
   abbrev ran : ℕ → Ran St Refusal
@@ -168,7 +168,7 @@ module _ (b : ℕ) (nos : List ℕ) (coords : List Float) (paths : List ℕ) (n 
       rw same
 
   -- the lines up to e, where none of them is refused
-  part : (e : ℕ) → e ≤ b → (u : St) → ran e ≡ done u → AllCounted e nos coords paths n refs (u .backs) (u .counts) (u .refs) (u .made)
+  pub part : (e : ℕ) → e ≤ b → (u : St) → ran e ≡ done u → AllCounted e nos coords paths n refs (u .backs) (u .counts) (u .refs) (u .made)
   part e h u q = told e h ∙ ap (batchTold e) q
 
   -- All lines are counted, or 9 is answered where the room ends
