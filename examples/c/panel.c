@@ -11,7 +11,10 @@
 #include <stdio.h>
 #include <string.h>
 
-enum { COLS = 3, ROWS = 2, CHANNELS = 3, LINES = 9, TILES = 18, ROOM = 64, WORDS = 2 * COLS * ROWS * GP_TILE_WORDS };
+/* A tile around the screen that is shown: a line that has a tile of its box on every side of it is never refused with 10. */
+enum { MARGIN = 1 };
+enum { COLS = 3 + 2 * MARGIN, ROWS = 2 + 2 * MARGIN, SCREEN = COLS * ROWS, CHANNELS = 3, LINES = 9 };
+enum { TILES = CHANNELS * SCREEN, ROOM = 64, WORDS = 2 * SCREEN * GP_TILE_WORDS };
 
 /* Channel 0 is a triangle, 1 a bar; a gauge of channel 2 sends something that is no number. */
 static uint32_t path_nos[LINES] = {0, 0, 0, 1, 1, 1, 1, 2, 2};
@@ -20,9 +23,9 @@ static float coords[LINES * GP_LINE_FLOATS] = {
     20, 12, 44, 12,  44, 12, 44, 20,  44, 20, 20, 20,  20, 20, 20, 12,
     4, 4, 40, NAN,  40, 8, 4, 4,
 };
-/* Each channel may draw on the whole screen: its box, then its first tile. */
+/* Each channel may draw on the whole screen, and has the margin around it: its box, then its first tile. */
 static const uint32_t paths[CHANNELS * GP_PATH_WORDS] = {
-    0, 0, COLS, ROWS, 0,  0, 0, COLS, ROWS, 6,  0, 0, COLS, ROWS, 12,
+    0, 0, COLS, ROWS, 0,  0, 0, COLS, ROWS, SCREEN,  0, 0, COLS, ROWS, 2 * SCREEN,
 };
 static const uint32_t paints[CHANNELS * GP_PAINT_WORDS] = {0xff0000ff, 0, 0x0000ffff, 1, 0x00ff00ff, 0};
 
@@ -45,6 +48,9 @@ static size_t without(uint32_t channel, size_t n) {
 int main(void) {
     size_t n = LINES;
     uint32_t no, stage, item, lines, made;
+
+    /* All is drawn as far in as the margin is wide. */
+    for (size_t k = 0; k < LINES * GP_LINE_FLOATS; k++) coords[k] += 16 * MARGIN;
 
     /* A channel with a refused line is shown as faulty, and the frame is drawn without it. */
     for (;;) {
@@ -70,9 +76,9 @@ int main(void) {
     printf("fine: %u\n", no);
     if (no != GP_DONE) return 1;
 
-    /* Red is in a pixel's lowest byte, blue in its third. */
-    for (int y = 0; y < 16 * ROWS; y += 2) {
-        for (int x = 0; x < 16 * COLS; x++) {
+    /* The margin isn't shown. Red is in a pixel's lowest byte, blue in its third. */
+    for (int y = 16 * MARGIN; y < 16 * (ROWS - MARGIN); y += 2) {
+        for (int x = 16 * MARGIN; x < 16 * (COLS - MARGIN); x++) {
             uint32_t p = pixels[16 * COLS * y + x], red = p & 255, blue = p >> 16 & 255;
             putchar(p >> 24 < 64 ? '.' : red > blue ? 'r' : 'b');
         }

@@ -5,7 +5,10 @@ use groatpocket::{
 };
 use std::error::Error;
 
-const SCREEN: Screen = Screen { width: 48, cols: 3, rows: 2 };
+// A tile around the screen that is shown: a line that has a tile of its box on every side of it is never refused with 10.
+const MARGIN: u32 = 1;
+const SCREEN: Screen = Screen { width: 16 * (3 + 2 * MARGIN), cols: 3 + 2 * MARGIN, rows: 2 + 2 * MARGIN };
+const TILES: usize = (SCREEN.cols * SCREEN.rows) as usize;
 const CHANNELS: usize = 3;
 const ROOM: usize = 64;
 
@@ -18,10 +21,14 @@ fn main() -> Result<(), Box<dyn Error>> {
         20.0, 12.0, 44.0, 12.0,  44.0, 12.0, 44.0, 20.0,  44.0, 20.0, 20.0, 20.0,  20.0, 20.0, 20.0, 12.0,
         4.0, 4.0, 40.0, f32::NAN,  40.0, 8.0, 4.0, 4.0,
     ];
-    // Each channel may draw on the whole screen: its box, then its first tile.
-    let paths = [0, 0, 3, 2, 0, 0, 0, 3, 2, 6, 0, 0, 3, 2, 12];
+    // All is drawn as far in as the margin is wide.
+    coords.iter_mut().for_each(|v| *v += (16 * MARGIN) as f32);
+    // Each channel may draw on the whole screen, and has the margin around it: its box, then its first tile.
+    let whole = |channel: usize| [0, 0, SCREEN.cols, SCREEN.rows, (channel * TILES) as u32];
+    let paths = [0, 1, 2].map(whole).concat();
     let paints = [0xff0000ff, 0, 0x0000ffff, 1, 0x00ff00ff, 0];
-    let (mut backdrops, mut stored, mut tally) = ([0; 18], [0; 18], [0; 18]);
+    let (mut backdrops, mut stored, mut tally) =
+        ([0; CHANNELS * TILES], [0; CHANNELS * TILES], [0; CHANNELS * TILES]);
     let (mut refs, mut segments) = ([0; REF_WORDS * ROOM], [0.0; SEGMENT_FLOATS * ROOM]);
 
     // A channel with a refused line is shown as faulty, and the frame is drawn without it.
@@ -71,12 +78,14 @@ fn main() -> Result<(), Box<dyn Error>> {
     )?;
     println!("lists: 0");
 
-    let mut pixels = [0u32; 48 * 32];
+    let mut pixels = [0u32; 256 * TILES];
     fine(&words, &segments, SCREEN, 0, SCREEN.cols * SCREEN.rows, &mut pixels)?;
     println!("fine: 0");
 
-    // Red is in a pixel's lowest byte, blue in its third.
-    for row in pixels.chunks(SCREEN.width as usize).step_by(2) {
+    // The margin isn't shown. Red is in a pixel's lowest byte, blue in its third.
+    let edge = 16 * MARGIN as usize;
+    let (width, height) = (SCREEN.width as usize, 16 * SCREEN.rows as usize);
+    for row in pixels.chunks(width).take(height - edge).skip(edge).step_by(2) {
         let shown = |p: &u32| {
             if p >> 24 < 64 {
                 '.'
@@ -86,7 +95,7 @@ fn main() -> Result<(), Box<dyn Error>> {
                 'b'
             }
         };
-        println!("{}", row.iter().map(shown).collect::<String>());
+        println!("{}", row[edge..width - edge].iter().map(shown).collect::<String>());
     }
     Ok(())
 }
