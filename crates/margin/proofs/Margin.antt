@@ -1,4 +1,4 @@
--- A line whose ends are at 16 or more, over a box that reaches a tile further than the tiles of its ends on every side, is never refused with 10: every step has its tile in the box. Assumes nothing.
+-- A line over a box that reaches a tile further than the tiles of its ends on every side, is never refused with 10: every step has its tile in the box. Assumes nothing.
 --     margin-tile    every step below the line's count
 use mathlib.Core.Path.{_≡_, refl, sym, ap, _∙_, subst}
 use mathlib.Core.Bool.{Bool, true, false, not, cond, _&&_}
@@ -67,8 +67,8 @@ pub record Roomy (b : Path) (s : Vec2) : Type 0 where
 roomy-of : (b : Path) (p : Vec2) → (inReach (p .x) && inReach (p .y)) ≡ true → Inside b p → Roomy b (scaleOf p tileScale)
 roomy-of b p h k =
     let r = both (inReach (p .x)) (inReach (p .y)) h in
-    let gx = grid-of (p .x) (r .0) (k .far-x) in
-    let gy = grid-of (p .y) (r .1) (k .far-y) in
+    let gx = grid-of (p .x) (r .0) (omega (arith, k .left)) in
+    let gy = grid-of (p .y) (r .1) (omega (arith, k .top)) in
     let ex : tileAt (p .x) ≡ gx .S / 8388608 = cast-at (scaled (p .x)) (gx .S) (gx .is) (omega (arith, gx .most, tiles-few)) in
     let ey : tileAt (p .y) ≡ gy .S / 8388608 = cast-at (scaled (p .y)) (gy .S) (gy .is) (omega (arith, gy .most, tiles-few)) in
     record { gx = gx; gy = gy; left = omega (arith, k .left); right = omega (arith, k .right); top = omega (arith, k .top); bottom = omega (arith, k .bottom) }

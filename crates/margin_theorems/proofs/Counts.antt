@@ -5,8 +5,8 @@
 --     count-answers   so its answer is 0
 use mathlib.Core.Path.{_≡_, refl, sym, ap, _∙_}
 use mathlib.Core.Bool.{true, false}
-use mathlib.Core.List.{List, [], _∷_, _++_}
-use Prim.Native.Nat.{ℕ, zero, suc, _+_, _-_, _/_, _≤_, _<_, _^_, min}
+use mathlib.Core.List.{List, [], _∷_}
+use Prim.Native.Nat.{ℕ, zero, suc, _+_, _-_, _/_, _≤_, _<_, _^_}
 use native.Mathlib.Decide.{decLt}
 use native.Mathlib.Omega.{arith}
 use lib.ListN.{length, getD, replicate, length-replicate, List·getD-eq-default}
@@ -16,16 +16,16 @@ use lib.Ieee.{Float}
 use borrow.Author.Tests.{lt-ltb}
 use Rattle.lists.specs.Run.{Ran, done, refused, halted, All, all-append}
 use Rattle.lists.specs.Tally.{zeros}
-use Rattle.panel.specs.Limits.{mostLines, mostSteps, mostCount, mostSlots}
-use Rattle.panel.specs.Refusals.{countOver, noRoom, outside, sumOver}
+use Rattle.panel.specs.Limits.{mostSteps, mostCount}
+use Rattle.panel.specs.Refusals.{noRoom, outside}
 use Rattle.panel.specs.Signed.{inI32}
-use Rattle.panel.specs.Widths.{lineFloats, refWords}
+use Rattle.panel.specs.Widths.{refWords}
 use Rattle.panel.specs.Kinds.{runningOf}
 use Rattle.panel.specs.Paths.{pathAt, pathsAnswer}
 use Rattle.panel.specs.declared.kinds.Answer.the-variants as Answer
 use Rattle.panel.specs.declared.kinds.Path.{Path}
 use Rattle.panel.specs.declared.kinds.Verdict.{Verdict}
-use Rattle.panel.specs.declared.kinds.Verdict.the-variants.{Fine, Against}
+use Rattle.panel.specs.declared.kinds.Verdict.the-variants.{Against}
 use Rattle.panel.proofs.SignLaws.{mag-in}
 use Rattle.panel.proofs.PathLaws.{checked}
 use Rattle.backdrop.proofs.RowLaws.{sum-mag}
@@ -35,7 +35,7 @@ use Rattle.walk.specs.declared.kinds.Walk.{Walk}
 use Rattle.walk.specs.declared.kinds.Walked.the-variants.{Line}
 use Rattle.walk.proofs.Boxes.{fits-boxed}
 use Rattle.walk.proofs.Walks.{line-told}
-use Rattle.acts.specs.Acts.{St, stOf, Act, mark, visit, stop, Hit, on, off, rowActs, stepActs, stepsActs, checkNo, runActs, verdictOf, deltaOf}
+use Rattle.acts.specs.Acts.{St, Act, mark, visit, stop, Hit, on, off, rowActs, stepActs, stepsActs, checkNo, runActs, verdictOf, deltaOf}
 use Rattle.acts.specs.Rows.{rowsActs}
 use Rattle.acts.specs.Line.{Plan, planActs, Refusal}
 use Rattle.acts.proofs.Once.{check-run}
@@ -45,7 +45,7 @@ use Rattle.path_count.specs.declared.kinds.Counted.the-variants as Counted
 use Rattle.path_count.proofs.Batches.{counted-once}
 use Rattle.theorems.specs.StepNumbers.{few}
 use Rattle.theorems.specs.Refs.{fromZero, AllCounted}
-use Rattle.theorems.specs.Refusing.{StopsAt, ActWhy, LineWhy, five, six, seven, eight, nine, ten, stops}
+use Rattle.theorems.specs.Refusing.{ActWhy, LineWhy, five, six, seven, eight, nine, ten, stops}
 use Rattle.theorems.proofs.Grounds.{good-ends}
 use Rattle.theorems.proofs.Exact.{no-clash, run-halts, line-exact}
 use Rattle.theorems.proofs.ExactRuns.{batch-exact}
@@ -54,7 +54,7 @@ use Rattle.theorems.proofs.BatchLaws.{answer-first}
 use Rattle.theorems.proofs.Calm.{plan-once, delta-one, back-mag, backs-long}
 use Rattle.theorems.proofs.StepLaws.{steps-exact}
 use Rattle.theorems.proofs.Margins.{walked-few, margin-line}
-use Rattle.margin_theorems.specs.Fit.{Fit, FitCount, all, full, stepsIn, stepsAt, stepsOf, roomOf}
+use Rattle.margin_theorems.specs.Fit.{Fit, FitCount, all, full, stepsAt, stepsOf, roomOf}
 use Rattle.margin_theorems.proofs.Few.{count-most, made-most, steps-part}
 
 -- ---- acts on tiles whose counts and backdrops are small

@@ -1,6 +1,6 @@
 -- A test that says whether lines are fit, for instances. Assumes nothing.
 --     fit-all    where the test passes, the lines are fit
-use mathlib.Core.Path.{_≡_, refl, sym, subst}
+use mathlib.Core.Path.{_≡_, sym, subst}
 use mathlib.Core.Bool.{Bool, true, _&&_}
 use mathlib.Core.List.{List}
 use Prim.Native.Nat.{ℕ, zero, suc, _+_, _<_}
@@ -8,9 +8,8 @@ use native.Mathlib.Decide.{ℕ-discrete}
 use native.Mathlib.Omega.{arith}
 use lib.Dec.{ltb, leb}
 use lib.ListN.{getD}
-use lib.Ieee.{Float, le}
+use lib.Ieee.{Float}
 use borrow.Author.Tests.{ltb-true, leb-true}
-use Rattle.util.specs.Constants.{tileSide}
 use Rattle.util.specs.declared.Vec2.{Vec2}
 use Rattle.panel.specs.Limits.{mostLines}
 use Rattle.panel.specs.Paths.{pathAt, pathCount}
@@ -20,9 +19,6 @@ use Rattle.walk.specs.Lent.{lineAt, reachedOf}
 use Rattle.margin.specs.Room.{tileAt, Inside}
 use Rattle.margin_theorems.specs.Fit.{Fit}
 
-abbrev far : Vec2 → Bool
-far p = le tileSide (p .x) && le tileSide (p .y)
-
 abbrev across : Path → Vec2 → Bool
 across b p = leb (b .x0 + 1) (tileAt (p .x)) && leb (tileAt (p .x) + 2) (b .x1)
 
@@ -30,18 +26,14 @@ abbrev down : Path → Vec2 → Bool
 down b p = leb (b .y0 + 1) (tileAt (p .y)) && leb (tileAt (p .y) + 2) (b .y1)
 
 abbrev insideAt : Path → Vec2 → Bool
-insideAt b p = far p && (across b p && down b p)
+insideAt b p = across b p && down b p
 
 inside-of : (b : Path) (p : Vec2) → insideAt b p ≡ true → Inside b p
 inside-of b p e =
-    let t = both (far p) (across b p && down b p) e in
-    let f = both (le tileSide (p .x)) (le tileSide (p .y)) (t .0) in
-    let s = both (across b p) (down b p) (t .1) in
+    let s = both (across b p) (down b p) e in
     let x = both (leb (b .x0 + 1) (tileAt (p .x))) (leb (tileAt (p .x) + 2) (b .x1)) (s .0) in
     let y = both (leb (b .y0 + 1) (tileAt (p .y))) (leb (tileAt (p .y) + 2) (b .y1)) (s .1) in
     record {
-      far-x = f .0;
-      far-y = f .1;
       left = leb-true (b .x0 + 1) (tileAt (p .x)) (x .0);
       right = leb-true (tileAt (p .x) + 2) (b .x1) (x .1);
       top = leb-true (b .y0 + 1) (tileAt (p .y)) (y .0);

@@ -35,7 +35,7 @@ use Rattle.walk.specs.declared.kinds.Walked.{Walked}
 use Rattle.walk.specs.declared.kinds.Walked.the-variants.{Refused, Skipped, Line}
 use Rattle.clip.specs.Page.{clippedOf}
 use Rattle.acts.specs.Acts.{St, stOf, Act, mark, visit, stop, deltaOf}
-use Rattle.acts.specs.Line.{planActs, tooFar, atLine, batchOf}
+use Rattle.acts.specs.Line.{planActs, atLine, batchOf}
 use Rattle.acts.proofs.Once as Once
 use Rattle.acts.proofs.Once.{Free, Once}
 use Rattle.acts.proofs.Plans.{plan-marks, plan-visits}
