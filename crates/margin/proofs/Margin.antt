@@ -49,7 +49,7 @@ use Rattle.margin.proofs.Rises.{Kept}
 use Rattle.margin.proofs.Lines.{tiles-few, rows-ordered, rising, falling, cols-rising, cols-falling, rows-are, count-is, line-kept}
 
 -- ---- a point's tile, in whole numbers of 2 ^ -23
-cast-at : (x : Float) (n : ℕ) → HasValue x false n 8388608 → n ≤ 4096 * 8388608 → toUnsigned 32 x ≡ n / 8388608
+pub cast-at : (x : Float) (n : ℕ) → HasValue x false n 8388608 → n ≤ 4096 * 8388608 → toUnsigned 32 x ≡ n / 8388608
 unfolding toUnsigned
 cast-at nan n v b = absurd v
 cast-at (inf s) n v b = absurd v
@@ -143,7 +143,7 @@ row-at F n i q j u1 q1 lo hi e a b c d f g h =
     let m = neg-minus n in
     (omega arith, omega arith, omega arith)
 
-up-next : (n : ℕ) → up-div n 8388608 ≤ n / 8388608 + 1
+pub up-next : (n : ℕ) → up-div n 8388608 ≤ n / 8388608 + 1
 up-next n = omega arith
 
 up-above : (n m : ℕ) → n < m → n / 8388608 + 1 ≤ up-div m 8388608

@@ -1,6 +1,6 @@
 -- A box with a margin around a line's ends. Definitions only.
 use mathlib.Core.Path.{_≡_}
-use Prim.Native.Nat.{ℕ, _+_, _≤_}
+use Prim.Native.Nat.{ℕ, _+_, _-_, _≤_}
 use lib.Ieee.{Float, toUnsigned}
 use Rattle.util.specs.declared.Vec2.{Vec2}
 use Rattle.panel.specs.declared.kinds.Path.{Path}
@@ -21,6 +21,13 @@ pub record Inside (b : Path) (p : Vec2) : Type 0 where
   pub right : tileAt (p .x) + 2 ≤ b .x1
   pub top : b .y0 + 1 ≤ tileAt (p .y)
   pub bottom : tileAt (p .y) + 2 ≤ b .y1
+
+-- how many tiles lie from one to the other, across and down, and one: as many steps as a line between two such points has at most
+abbrev pub apart : ℕ → ℕ → ℕ
+apart n m = n - m + (m - n)
+
+abbrev pub stepsMost : Vec2 → Vec2 → ℕ
+stepsMost p q = apart (tileAt (p .x)) (tileAt (q .x)) + apart (tileAt (p .y)) (tileAt (q .y)) + 1
 
 -- step i has a tile in the box: it isn't refused
 pub record HasTile (p : Pace) (b : Path) (i : ℕ) : Type 0 where

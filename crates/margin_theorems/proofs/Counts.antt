@@ -98,12 +98,17 @@ few-steps : few ≤ mostSteps
 unfolding mostSteps
 few-steps = omega arith
 
+-- the box of a fit line's path is a checked one
+pub fit-boxed : (nos : List ℕ) (coords : List Float) (paths : List ℕ) (n : ℕ) → pathsAnswer paths n ≡ Answer.Done → (l : ℕ) → Fit nos coords paths l → Boxed (pathAt paths (getD nos l 0))
+fit-boxed nos coords paths n ok l fit =
+    let c = checked paths n ok in fits-boxed (pathAt paths (getD nos l 0)) n (c .tiled) (c .fits (getD nos l 0) (fit .there))
+
 -- ---- line l, where the lines before it are counted
 
 module _ (nos : List ℕ) (coords : List Float) (paths : List ℕ) (n : ℕ) (ok : pathsAnswer paths n ≡ Answer.Done) (refs : List ℕ) (l : ℕ) (u : St)
     (before : AllCounted l nos coords paths n refs (u .backs) (u .counts) (u .refs) (u .made)) (fit : Fit nos coords paths l) where
   boxed : Boxed (pathAt paths (getD nos l 0))
-  boxed = let c = checked paths n ok in fits-boxed (pathAt paths (getD nos l 0)) n (c .tiled) (c .fits (getD nos l 0) (fit .there))
+  boxed = fit-boxed nos coords paths n ok l fit
 
   back-small : (t : ℕ) → mag (getD (u .backs) t (pos 0)) ≤ 2 ^ 17
   back-small t = go (decLt t n)

@@ -22,6 +22,7 @@ use Rattle.path_tiling.specs.Tiling.{slotsOf}
 use Rattle.frame.specs.declared.kinds.Stage.the-variants as Stage
 use Rattle.frame.specs.declared.kinds.Framed.{Framed}
 use Rattle.frame.specs.declared.kinds.Framed.the-variants as Framed
+use Rattle.margin.specs.Room.{stepsMost}
 use Rattle.theorems.specs.Margins.{MarginLine}
 use Rattle.theorems.specs.Refs.{fromZero, AllCounted}
 
@@ -44,6 +45,10 @@ stepsAt nos coords paths l = stepsIn (walkAt nos coords paths l)
 -- those of the first b lines
 abbrev pub stepsOf : (nos : List ℕ) (coords : List Float) (paths : List ℕ) → ℕ → ℕ
 stepsOf nos coords paths b = sum (map (stepsAt nos coords paths) (from 0 b))
+
+-- what a caller can sum up instead: for each of the first b lines, how many tiles lie between its ends, across and down, and one
+abbrev pub reachOf : List Float → ℕ → ℕ
+reachOf coords b = sum (map (λ l. stepsMost (lineAt coords l .p0) (lineAt coords l .p1)) (from 0 b))
 
 -- how many references there is room for
 abbrev pub roomOf : List ℕ → ℕ
