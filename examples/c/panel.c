@@ -11,7 +11,10 @@
 #include <stdio.h>
 #include <string.h>
 
-enum { COLS = 3, ROWS = 2, SCREEN = COLS * ROWS, CHANNELS = 3, LINES = 9, TILES = CHANNELS * SCREEN, ROOM = 64, WORDS = 2 * COLS * ROWS * GP_TILE_WORDS };
+/* A tile around the screen that is shown: a line that has a tile of its box on every side of it is never refused with 10. */
+enum { MARGIN = 1 };
+enum { COLS = 3 + 2 * MARGIN, ROWS = 2 + 2 * MARGIN, SCREEN = COLS * ROWS, CHANNELS = 3, LINES = 9 };
+enum { TILES = CHANNELS * SCREEN, ROOM = 64, WORDS = 2 * SCREEN * GP_TILE_WORDS };
 
 /* Channel 0 is a triangle, 1 a bar; a gauge of channel 2 sends something that is no number. */
 static uint32_t path_nos[LINES] = {0, 0, 0, 1, 1, 1, 1, 2, 2};
@@ -20,7 +23,7 @@ static float coords[LINES * GP_LINE_FLOATS] = {
     20, 12, 44, 12,  44, 12, 44, 20,  44, 20, 20, 20,  20, 20, 20, 12,
     4, 4, 40, NAN,  40, 8, 4, 4,
 };
-/* Each channel may draw on the whole screen: its box, its first tile, and the number stamped on its beam. */
+/* Each channel may draw on the whole screen, and has the margin around it: its box, its first tile, and the number stamped on its beam. */
 static const uint32_t paths[CHANNELS * GP_PATH_WORDS] = {
     GP_PATH(0, 0, COLS, ROWS, 0, 301), GP_PATH(0, 0, COLS, ROWS, SCREEN, 302), GP_PATH(0, 0, COLS, ROWS, 2 * SCREEN, 417),
 };
@@ -46,6 +49,9 @@ static size_t without(uint32_t channel, size_t n) {
 int main(void) {
     size_t n = LINES;
     uint32_t no, stage, item, lines, made;
+
+    /* All is drawn as far in as the margin is wide. */
+    for (size_t k = 0; k < LINES * GP_LINE_FLOATS; k++) coords[k] += 16 * MARGIN;
 
     /* A channel with a refused line is shown as faulty, and the frame is drawn without it. */
     for (;;) {
@@ -80,9 +86,9 @@ int main(void) {
     printf("fine: %u\n", no);
     if (no != GP_DONE) return 1;
 
-    /* Red is in a pixel's lowest byte, blue in its third. */
-    for (int y = 0; y < 16 * ROWS; y += 2) {
-        for (int x = 0; x < 16 * COLS; x++) {
+    /* The margin isn't shown. Red is in a pixel's lowest byte, blue in its third. */
+    for (int y = 16 * MARGIN; y < 16 * (ROWS - MARGIN); y += 2) {
+        for (int x = 16 * MARGIN; x < 16 * (COLS - MARGIN); x++) {
             uint32_t p = pixels[16 * COLS * y + x], red = p & 255, blue = p >> 16 & 255;
             putchar(p >> 24 < 64 ? '.' : red > blue ? 'r' : 'b');
         }

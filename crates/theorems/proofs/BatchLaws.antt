@@ -63,7 +63,7 @@ same-lengths nos coords paths n p room a b s u e =
 -- ---- what a call checks, of a batch and of the next
 
 module _ (nos : List ℕ) (coords : List Float) (paths : List ℕ) (a b c : ℕ) (h : a ≤ b) (k : b ≤ c) (there : c ≤ length coords / lineFloats) where
-  answer-first : (s : St) → callAnswer nos coords paths a b s ≡ callAnswer nos coords paths a c s
+  pub answer-first : (s : St) → callAnswer nos coords paths a b s ≡ callAnswer nos coords paths a c s
   unfolding callAnswer
   answer-first s =
       rw (le-leb a b h, le-leb b (length coords / lineFloats) (omega arith), le-leb a c (omega arith), le-leb c (length coords / lineFloats) there)

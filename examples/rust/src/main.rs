@@ -6,9 +6,11 @@ use groatpocket::{
 };
 use std::error::Error;
 
-const SCREEN: Screen = Screen { width: 48, cols: 3, rows: 2 };
-const CHANNELS: usize = 3;
+// A tile around the screen that is shown: a line that has a tile of its box on every side of it is never refused with 10.
+const MARGIN: u32 = 1;
+const SCREEN: Screen = Screen { width: 16 * (3 + 2 * MARGIN), cols: 3 + 2 * MARGIN, rows: 2 + 2 * MARGIN };
 const TILES: usize = (SCREEN.cols * SCREEN.rows) as usize;
+const CHANNELS: usize = 3;
 const ROOM: usize = 64;
 
 fn main() -> Result<(), Box<dyn Error>> {
@@ -20,7 +22,9 @@ fn main() -> Result<(), Box<dyn Error>> {
         20.0, 12.0, 44.0, 12.0,  44.0, 12.0, 44.0, 20.0,  44.0, 20.0, 20.0, 20.0,  20.0, 20.0, 20.0, 12.0,
         4.0, 4.0, 40.0, f32::NAN,  40.0, 8.0, 4.0, 4.0,
     ];
-    // Each channel may draw on the whole screen: its box, its first tile, and the number stamped on its beam.
+    // All is drawn as far in as the margin is wide.
+    coords.iter_mut().for_each(|v| *v += (16 * MARGIN) as f32);
+    // Each channel may draw on the whole screen, and has the margin around it: its box, its first tile, and the number stamped on its beam.
     let whole = |first, beam| Path { x0: 0, y0: 0, x1: SCREEN.cols, y1: SCREEN.rows, first, beam };
     let boxes = [whole(0, 301), whole(TILES as u32, 302), whole(2 * TILES as u32, 417)];
     let paths = boxes.map(Path::words).concat();
@@ -86,8 +90,10 @@ fn main() -> Result<(), Box<dyn Error>> {
     fine(&words, &segments, SCREEN, 0, SCREEN.cols * SCREEN.rows, &mut pixels)?;
     println!("fine: 0");
 
-    // Red is in a pixel's lowest byte, blue in its third.
-    for row in pixels.chunks(SCREEN.width as usize).step_by(2) {
+    // The margin isn't shown. Red is in a pixel's lowest byte, blue in its third.
+    let edge = 16 * MARGIN as usize;
+    let (width, height) = (SCREEN.width as usize, 16 * SCREEN.rows as usize);
+    for row in pixels.chunks(width).take(height - edge).skip(edge).step_by(2) {
         let shown = |p: &u32| {
             if p >> 24 < 64 {
                 '.'
@@ -97,7 +103,7 @@ fn main() -> Result<(), Box<dyn Error>> {
                 'b'
             }
         };
-        println!("{}", row.iter().map(shown).collect::<String>());
+        println!("{}", row[edge..width - edge].iter().map(shown).collect::<String>());
     }
     Ok(())
 }
