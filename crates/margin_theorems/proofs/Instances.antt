@@ -11,6 +11,8 @@ use lib.Dec.{leb}
 use lib.IntN.{ℤ, pos}
 use lib.ListN.{replicate}
 use lib.Ieee.{Float, binary32, ofBits}
+use Rattle.panel.specs.Pieces.{Pieces, pieces}
+use Rattle.panel.specs.Widths.{segmentFloats}
 use borrow.Author.Tests.{leb-true}
 use Rattle.panel.specs.Refusals.{crooked}
 use Rattle.panel.specs.Paths.{boxed}
@@ -75,19 +77,22 @@ backs = replicate 60 (pos 0)
 abbrev words : List ℕ
 words = replicate 60 0
 
-abbrev segs : List Float
-segs = replicate 320 (ofBits binary32 0)
+abbrev slots : ℕ
+slots = 64
 
-passes-frame : checksOf nos coords paths backs words words refs segs ≡ Done
+abbrev empty : Pieces
+empty = pieces (replicate (slots * segmentFloats) (ofBits binary32 0)) (replicate slots 0)
+
+passes-frame : checksOf nos coords paths backs words words refs empty ≡ Done
 unfolding computing checksOf
 passes-frame = refl
 
-few-segments : leb (stepsOf nos coords paths 7) (slotsOf 320) ≡ true
+few-segments : leb (stepsOf nos coords paths 7) (slotsOf (slots * segmentFloats)) ≡ true
 unfolding computing
 few-segments = refl
 
-pub panel-drawn : (r : Framed) (bs : List ℤ) (ts ks rs : List ℕ) (sg : List Float) → FrameMet nos coords paths backs words words refs segs r bs ts ks rs sg
+pub panel-drawn : (r : Framed) (bs : List ℤ) (ts ks rs : List ℕ) (sg : Pieces) → FrameMet nos coords paths backs words words refs empty r bs ts ks rs sg
     → (s : Running) × (s .lines ≡ 7) × ((r ≡ Framed.Done s) ⊎ ((k : ℕ) × (r ≡ Framed.Refused Stage.Tile crooked k s)))
 panel-drawn r bs ts ks rs sg met =
-    frame-drawn nos coords paths backs words words refs segs passes-frame (fit-all nos coords paths 7 fits) r bs ts ks rs sg met
-    (leb-true (stepsOf nos coords paths 7) (roomOf refs) few) (leb-true (stepsOf nos coords paths 7) (slotsOf 320) few-segments)
+    frame-drawn nos coords paths backs words words refs empty passes-frame (fit-all nos coords paths 7 fits) r bs ts ks rs sg met
+    (leb-true (stepsOf nos coords paths 7) (roomOf refs) few) (leb-true (stepsOf nos coords paths 7) (slotsOf (slots * segmentFloats)) few-segments)

@@ -5,6 +5,7 @@ use Prim.Native.Nat.{ℕ, _+_, _-_, _/_, _<_, min}
 use lib.ListN.{length, getD}
 use lib.IntN.{ℤ}
 use lib.Ieee.{Float}
+use Rattle.panel.specs.Pieces.{Pieces}
 use Rattle.lists.specs.Sums.{sum, from}
 use Rattle.panel.specs.Limits.{mostLines, mostSlots}
 use Rattle.panel.specs.Refusals.{noRoom, crooked}
@@ -62,10 +63,10 @@ pub data FitCount (b : ℕ) (nos : List ℕ) (coords : List Float) (paths : List
 
 -- what a frame over so many tiles answers: 0, with all lines counted; 9 in counting, at a line whose steps there is no room for; 9 in hand-out, with fewer
 -- segments than references; or 12 in tiling
-pub data FitFrame (nos : List ℕ) (coords : List Float) (paths : List ℕ) (n : ℕ) (refs : List ℕ) (segs : List Float) (r : Framed) : Type 0 where
-  drawn : (s : Running) → s .lines ≡ length nos → r ≡ Framed.Done s → FitFrame nos coords paths n refs segs r
+pub data FitFrame (nos : List ℕ) (coords : List Float) (paths : List ℕ) (n : ℕ) (refs : List ℕ) (p : Pieces) (r : Framed) : Type 0 where
+  drawn : (s : Running) → s .lines ≡ length nos → r ≡ Framed.Done s → FitFrame nos coords paths n refs p r
   no-references : (s : Running) (bs : List ℤ) (cs rs : List ℕ) → s .lines < length nos → AllCounted (s .lines) nos coords paths n refs bs cs rs (s .refs)
-      → roomOf refs < s .refs + stepsAt nos coords paths (s .lines) → r ≡ Framed.Refused Stage.Count noRoom (s .lines) s → FitFrame nos coords paths n refs segs r
-  no-segments : (s : Running) (bs : List ℤ) (cs rs : List ℕ) → AllCounted (length nos) nos coords paths n refs bs cs rs (s .refs) → slotsOf (length segs) < s .refs
-      → r ≡ Framed.Refused Stage.HandOut noRoom 0 s → FitFrame nos coords paths n refs segs r
-  crooked-piece : (k : ℕ) (s : Running) → s .lines ≡ length nos → k < s .refs → r ≡ Framed.Refused Stage.Tile crooked k s → FitFrame nos coords paths n refs segs r
+      → roomOf refs < s .refs + stepsAt nos coords paths (s .lines) → r ≡ Framed.Refused Stage.Count noRoom (s .lines) s → FitFrame nos coords paths n refs p r
+  no-segments : (s : Running) (bs : List ℤ) (cs rs : List ℕ) → AllCounted (length nos) nos coords paths n refs bs cs rs (s .refs) → slotsOf (length (p .segments)) < s .refs
+      → r ≡ Framed.Refused Stage.HandOut noRoom 0 s → FitFrame nos coords paths n refs p r
+  crooked-piece : (k : ℕ) (s : Running) → s .lines ≡ length nos → k < s .refs → r ≡ Framed.Refused Stage.Tile crooked k s → FitFrame nos coords paths n refs p r
