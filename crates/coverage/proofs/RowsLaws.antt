@@ -1,15 +1,21 @@
 -- All rows of a segment at once: the lists have each row in its place, so that what they do to a pixel is what the segment does. Assumes nothing.
 use mathlib.Core.Path.{_≡_, refl, sym, ap, subst, _∙_}
+use mathlib.Core.Bool.{Bool, true, _&&_}
 use mathlib.Core.List.{List}
-use Prim.Native.Nat.{ℕ, _/_, _≤_, _<_}
+use mathlib.Core.Logic.{⊎-elim}
+use Prim.Native.Nat.{ℕ, _+_, _/_, _≤_, _<_}
+use native.Mathlib.Nat.{eq-or-lt-of-le}
 use native.Mathlib.Omega.{arith}
 use lib.ListN.{length, getD}
-use lib.Ieee.{Float, nan}
+use lib.Ieee.{Float, nan, eq, ne}
+use Rattle.util.specs.Constants.{zero}
+use Rattle.float32.proofs.Tests.{first, second}
 use Rattle.lists.specs.Grid.{mapi, within}
-use Rattle.lists.specs.GridLaws.{length-mapi, getD-mapi, mapi-is, within-all}
-use Rattle.coverage.specs.Tile.{tileWidth, tileHeight, tileSize}
+use Rattle.lists.specs.GridLaws.{length-mapi, getD-mapi, mapi-is, within-all, within-cong}
+use Rattle.ranges.proofs.Turn.{Done, turned-to, kept}
+use Rattle.coverage.specs.Tile.{tileWidth, tileHeight, tileSize, rowStart, rowEnd}
 use Rattle.coverage.specs.Row.{rowOf, stepRow, stepWay}
-use Rattle.coverage.specs.Rows.{noRows, ofRow, column, rowIn, stepIn}
+use Rattle.coverage.specs.Rows.{noRows, ofRow, column, rowIn, stepIn, clearAt, fourClear}
 use Rattle.coverage.specs.declared.row.Way.{Way}
 use Rattle.coverage.specs.declared.row.Row.{Row}
 
@@ -17,6 +23,57 @@ use Rattle.coverage.specs.declared.row.Row.{Row}
 mapi-alike : (f g : ℕ → Float → Float) (l : List Float) → ((k : ℕ) (x : Float) → k < length l → f k x ≡ g k x) → mapi f l ≡ mapi g l
 mapi-alike f g l e = mapi-is g l (mapi f l) nan nan (length-mapi f l) (λ k h. getD-mapi f l k nan nan h ∙ e k (getD l k nan) h)
 
+-- ---- what the lists do, row by row
+module _ (w : Way) (ys y0s y1s dys edges : List Float) where
+  abbrev all : ℕ → Float → Float
+  all = stepIn w ys y0s y1s dys edges
+
+  module _ (yi : ℕ) (r : Row) (e : r ≡ rowIn ys y0s y1s dys edges yi) where
+    -- within the row yi the pixel's row is r
+    here : (k : ℕ) (x : Float) → rowStart yi ≤ k → k < rowEnd yi → stepRow w r k x ≡ all k x
+    unfolding stepIn
+    here k x lo hi = let q : yi ≡ k / tileWidth = omega arith in ap (λ (z : Row). stepRow w z k x) (e ∙ ap (rowIn ys y0s y1s dys edges) q)
+
+    -- one more row
+    pub one-row : (a b : ℕ) (l₀ l m : List Float) → a ≤ rowStart yi → rowEnd yi ≡ b → Done all a (rowStart yi) l₀ l → m ≡ mapi (within (rowStart yi) (rowEnd yi) (stepRow w r)) l
+        → Done all a b l₀ m
+    one-row a b l₀ l m h n done q =
+        subst (λ (z : ℕ). Done all a z l₀ m) n
+        (turned-to all nan a (rowStart yi) (rowEnd yi) l₀ l m h (omega arith) done (q ∙ within-cong (stepRow w r) all (rowStart yi) (rowEnd yi) nan l here))
+
+  -- a row with no height and no y_edge changes nothing
+  clear-row : (yi k : ℕ) (x : Float) → clearAt dys edges yi ≡ true → yi ≡ k / tileWidth → x ≡ all k x
+  unfolding stepIn stepRow ne
+  clear-row yi k x c q =
+      let d = subst (λ (n : ℕ). clearAt dys edges n ≡ true) q c in
+      let t = eq (getD dys (k / tileWidth) nan) zero in
+      let u = eq (getD edges (k / tileWidth) nan) zero in
+      rw (first t u d, second t u d) refl
+
+  clear-at : (a q : ℕ) → a ≤ q → clearAt dys edges a ≡ true → (a < q → clearAt dys edges q ≡ true) → clearAt dys edges q ≡ true
+  clear-at a q h c rest = ⊎-elim (λ e. subst (λ (n : ℕ). clearAt dys edges n ≡ true) e c) (λ l. rest l) (eq-or-lt-of-le h)
+
+  -- four such rows
+  pub passed-over : (yi : ℕ) (l : List Float) → fourClear dys edges yi ≡ true → l ≡ mapi (within (rowStart yi) (rowStart (yi + 4)) all) l
+  passed-over yi l c = kept all nan (rowStart yi) (rowStart (yi + 4)) l (λ k x lo hi. clear-row (k / tileWidth) k x (at (k / tileWidth) (omega arith) (omega arith)) refl)
+    where
+      clears : ℕ → Bool
+      clears n = clearAt dys edges n
+
+      three : ((clears yi && clears (yi + 1)) && clears (yi + 2)) ≡ true
+      three = first ((clears yi && clears (yi + 1)) && clears (yi + 2)) (clears (yi + 3)) c
+
+      two : (clears yi && clears (yi + 1)) ≡ true
+      two = first (clears yi && clears (yi + 1)) (clears (yi + 2)) three
+
+      at : (q : ℕ) → yi ≤ q → q < yi + 4 → clearAt dys edges q ≡ true
+      at q lo hi =
+          clear-at yi q lo (first (clears yi) (clears (yi + 1)) two)
+          (λ i. clear-at (yi + 1) q (omega (arith, i)) (second (clears yi) (clears (yi + 1)) two)
+          (λ j. clear-at (yi + 2) q (omega (arith, j)) (second (clears yi && clears (yi + 1)) (clears (yi + 2)) three)
+          (λ k. clear-at (yi + 3) q (omega (arith, k)) (second ((clears yi && clears (yi + 1)) && clears (yi + 2)) (clears (yi + 3)) c) (λ n. absurd (omega (arith, n, hi))))))
+
+-- ---- the lists that `rows_of` leaves
 room : length noRows ≡ tileHeight
 unfolding noRows
 room = refl

@@ -1,9 +1,10 @@
 -- A segment's numbers for all rows of a tile at once: a list for each number of `Row`, which has in place yi what row yi has. What the functions of
 -- src/rows.rt and src/area.rt tell each other; no promise leans on it. Definitions only.
+use mathlib.Core.Bool.{Bool, _&&_}
 use mathlib.Core.List.{List}
-use Prim.Native.Nat.{ℕ, _/_}
+use Prim.Native.Nat.{ℕ, _+_, _/_}
 use lib.ListN.{getD, replicate}
-use lib.Ieee.{Float, nan}
+use lib.Ieee.{Float, nan, eq}
 use Rattle.util.specs.Constants.{zero}
 use Rattle.lists.specs.Grid.{mapi, within}
 use Rattle.coverage.specs.Tile.{tileWidth, tileHeight}
@@ -29,3 +30,10 @@ rowIn ys y0s y1s dys edges yi = record { y = getD ys yi nan; y0 = getD y0s yi na
 -- the area a of pixel k, 16 to a row, after the segment that goes the way w and has these rows
 unfoldable pub stepIn : Way → (ys y0s y1s dys edges : List Float) → ℕ → Float → Float
 stepIn w ys y0s y1s dys edges k a = stepRow w (rowIn ys y0s y1s dys edges (k / tileWidth)) k a
+
+-- whether row yi, and whether each of the four from yi on, changes no pixel: no height, and no y_edge
+abbrev pub clearAt : (dys edges : List Float) → ℕ → Bool
+clearAt dys edges yi = eq (getD dys yi nan) zero && eq (getD edges yi nan) zero
+
+abbrev pub fourClear : (dys edges : List Float) → ℕ → Bool
+fourClear dys edges yi = ((clearAt dys edges yi && clearAt dys edges (yi + 1)) && clearAt dys edges (yi + 2)) && clearAt dys edges (yi + 3)

@@ -5,9 +5,9 @@ use crate::row::Way;
 use crate::row::row_of;
 use crate::tile::TILE_HEIGHT;
 ghost use mathlib.Core.Path.{_≡_};
-ghost use Prim.Native.Nat.{_<_};
+ghost use Prim.Native.Nat.{_+_, _≤_, _<_};
 ghost use Rattle.coverage.specs.Tile.{tileHeight};
-ghost use Rattle.coverage.specs.Rows.{noRows, column, rowIn};
+ghost use Rattle.coverage.specs.Rows.{noRows, column, rowIn, clearAt, fourClear};
 ghost use Rattle.coverage.specs.declared.row.Row.{Row};
 
 // Room for one number of each row.
@@ -64,4 +64,23 @@ pub fn row_at(
         dy: dys[yi],
         edge: edges[yi],
     }
+}
+
+// Whether row yi gets nothing: no height in it, and no y_edge.
+fn clear(dys: &[f32; TILE_HEIGHT], edges: &[f32; TILE_HEIGHT], yi: usize) -> bool
+    requires { ⌜ yi < tileHeight ⌝ }
+    ensures { λ r. ⌜ r ≡ clearAt (now (dys .entry)) (now (edges .entry)) yi ⌝ }
+{
+    (dys[yi] == 0.0) & (edges[yi] == 0.0)
+}
+
+// Whether the four rows from yi on get nothing: one test, and no branch in it.
+pub fn four_clear(dys: &[f32; TILE_HEIGHT], edges: &[f32; TILE_HEIGHT], yi: usize) -> bool
+    requires { ⌜ yi + 4 ≤ tileHeight ⌝ }
+    ensures { λ r. ⌜ r ≡ fourClear (now (dys .entry)) (now (edges .entry)) yi ⌝ }
+{
+    clear(dys, edges, yi)
+        & clear(dys, edges, yi + 1)
+        & clear(dys, edges, yi + 2)
+        & clear(dys, edges, yi + 3)
 }
