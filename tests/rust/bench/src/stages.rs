@@ -6,7 +6,7 @@ use cases::commands::{Command, OURS, RUST};
 use cases::memory::one_zero;
 use cases::Rng;
 use oracle::{BumpAllocators, PathSegment, SegmentCount, Tile};
-use rules::limits::{REF, REGION, SEGMENT};
+use rules::limits::{LINE, REF, REGION, SEGMENT};
 use rules::records::{beam_at, box_at, paint, path, segments_in};
 use std::hint::black_box;
 
