@@ -10,7 +10,7 @@ use native.Mathlib.Numerals.{add-one}
 use mathlib.Core.Path.{_≡_, refl, sym, ap, subst, _∙_}
 use mathlib.Core.Bool.{Bool, true, false, cond}
 use mathlib.Core.List.{List}
-use lib.ListN.{length}
+use lib.ListN.{length, getD}
 use lib.Dec.{eqb}
 use borrow.Author.Tests.{eqb-true, eq-eqb}
 use Rattle.panel.specs.declared.kinds.Answer.{Answer}
@@ -19,6 +19,7 @@ use Rattle.panel.specs.declared.kinds.Verdict.{Verdict}
 use Rattle.panel.specs.declared.kinds.Verdict.the-variants as Verdict
 use Rattle.walk.specs.declared.kinds.Walked.{Walked}
 use Rattle.path_tiling.specs.Look.{Lent, lineAt, packedAt, tagOf, foundOf, foundTo, lookOf}
+use Rattle.panel.specs.Paths.{beamAt}
 use Rattle.panel.specs.Pieces.{Pieces, placed}
 use Rattle.path_tiling.specs.Tiling.{Range, range, lookThen, rangeOf, One, one, oneOf, Tiled, tiled, rangeTiled, slotsOf}
 use Rattle.path_tiling.specs.Runs.{Run, run, lookOn, runOf}
@@ -196,6 +197,10 @@ pub record Going (from to : ℕ) (L : Lent) (slots : ℕ) (p₀ p : Pieces) (k :
   pub high : k ≤ to
   pub long : AsLong p₀ p
   pub left : rangeTiled (rangeOf L slots (to - k) k) p ≡ rangeTiled (rangeOf L slots (to - from) from) p₀
+
+-- a line's tag, read in two steps
+pub tagged : (nos ps : List ℕ) (l path tag : ℕ) → path ≡ getD nos l 0 → tag ≡ beamAt ps path → tag ≡ beamAt ps (getD nos l 0)
+tagged nos ps l path tag e f = f ∙ ap (beamAt ps) e
 
 -- the run from reference k on, whose line was found
 module _ (from to : ℕ) (L : Lent) (slots : ℕ) (p₀ p : Pieces) (k : ℕ) (g : Going from to L slots p₀ p k) where

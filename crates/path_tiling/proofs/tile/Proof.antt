@@ -14,7 +14,8 @@ enum-known-checked c = search needs
 
 returns-2 : tie.Need-returns-2
 returns-2 c =
-    bad-paths _ _ _ _ _ _ (sym (c .before .before .before .before .before .whole .ensures) ∙ not-false _ (c .before .before .before .before .if1 .left)) (sym (c .before .before .before .check-paths .ensures) ∙ c .before .checked .given .1)
+    bad-paths _ _ _ _ _ _ (sym (c .before .before .before .before .before .whole .ensures) ∙ not-false _ (c .before .before .before .before .if1 .left))
+    (sym (c .before .before .before .check-paths .ensures) ∙ c .before .checked .given .1)
 
 enum-told : tie.Need-enum-told
 enum-told c = search needs

@@ -22,7 +22,10 @@ same-length-2 : tie.Need-same-length-2
 same-length-2 c = search needs
 
 returns-2 : tie.Need-returns-2
-returns-2 c = c .before .before .before .before .tile-range .ensures ∙ called _ _ _ _ (sym (c .before .before .before .before .before .before .before .before .whole .ensures) ∙ not-false _ (c .before .before .before .before .before .before .before .if1 .left)) (c .before .before .before .before .before .before .before .before .before .before .before .before .before .before .before .before .pre)
+returns-2 c = c .before .before .before .before .tile-range .ensures ∙ called _ _ _ _
+    (sym (c .before .before .before .before .before .before .before .before .whole .ensures)
+    ∙ not-false _ (c .before .before .before .before .before .before .before .if1 .left))
+    (c .before .before .before .before .before .before .before .before .before .before .before .before .before .before .before .before .pre)
 
 pub tile-checked-spec : {M : Type 1} → statement M
 tile-checked-spec = tie.close (tie.spec (λ c κs. tt) returns tile-range-requires same-length same-length-2 returns-2)

@@ -13,7 +13,12 @@ enum-known-slot : tie.Need-enum-known-slot
 enum-known-slot c = search needs
 
 put-requires : tie.Need-put-requires
-put-requires c κs = omega (arith, put-good _ _ _ _ (sym (c .before .before .before .before .look-at .ensures) ∙ c .before .before .slot .given .1) .among, c .before .before .before .before .before .before .before .before .pre .1)
+put-requires c κs = omega (
+  arith,
+  put-good _ _ _ _ (sym (c .before .before .before .before .look-at .ensures)
+      ∙ c .before .before .slot .given .1) .among,
+  c .before .before .before .before .before .before .before .before .pre .1,
+)
 
 cast-tags : tie.Need-cast-tags
 cast-tags c = search needs
@@ -22,7 +27,13 @@ mul-tags : tie.Need-mul-tags
 mul-tags c = search needs
 
 slice-write-tags : tie.Need-slice-write-tags
-slice-write-tags c = omega (arith, put-good _ _ _ _ (sym (c .before .before .before .before .before .before .before .before .look-at .ensures) ∙ c .before .before .before .before .before .before .slot .given .1) .among, c .before .before .before .before .before .before .before .before .before .before .before .before .pre .2)
+slice-write-tags c = omega (
+  arith,
+  put-good _ _ _ _ (sym (c .before .before .before .before .before .before .before .before .look-at .ensures)
+      ∙ c .before .before .before .before .before .before .slot .given .1) .among,
+  c .before .before .before .before .before .before .before .before
+      .before .before .before .before .pre .2,
+)
 
 enum-told : tie.Need-enum-told
 enum-told c = search needs
@@ -37,7 +48,11 @@ same-length-2 : tie.Need-same-length-2
 same-length-2 c = search needs
 
 returns : tie.Need-returns
-returns c = rw (sym (c .before .before .before .before .before .before .before .before .look-at .ensures) ∙ c .before .before .before .before .before .before .slot .given .1, c .before .before .before .put .ensures)
+returns c = rw (
+  sym (c .before .before .before .before .before .before .before .before .look-at .ensures)
+      ∙ c .before .before .before .before .before .before .slot .given .1,
+  c .before .before .before .put .ensures,
+)
 
 returns-2 : tie.Need-returns-2
 returns-2 c = rw (sym (c .before .before .look-at .ensures) ∙ c .enum-told .given .1)

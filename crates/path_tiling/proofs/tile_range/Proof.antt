@@ -9,7 +9,7 @@ use lib.ListN.{length}
 use Rattle.panel.specs.Pieces.{pieces}
 use Rattle.path_tiling.specs.Look.{lent}
 use Rattle.path_tiling.proofs.RangeLaws.{found-fits, long-self, slots-fit, slots-tagged}
-use Rattle.path_tiling.proofs.RunLaws.{Going, on, less, halted, done}
+use Rattle.path_tiling.proofs.RunLaws.{Going, tagged, on, less, halted, done}
 use Rattle.path_tiling.proofs.tile_range.Statement.{statement}
 use Rattle.path_tiling.proofs.tile_range.Tie as tie
 
@@ -55,17 +55,22 @@ enum-known-answer : tie.Need-enum-known-answer Inv-loop μ-loop
 enum-known-answer c = search needs
 
 same-length : tie.Need-same-length Inv-loop μ-loop
-same-length c = c .before .before .before .before .before .before .segments .given ∙ c .before .before .before .before .before .before .before .before .before .before .before .before .before .before .before .loop .inv .long .segments
+same-length c = c .before .before .before .before .before .before .segments .given
+    ∙ c .before .before .before .before .before .before .before .before .before .before .before .before .before .before .before .loop .inv .long .segments
 
 same-length-2 : tie.Need-same-length-2 Inv-loop μ-loop
-same-length-2 c = c .before .before .before .before .tags .given ∙ c .before .before .before .before .before .before .before .before .before .before .before .before .before .before .before .loop .inv .long .tags
+same-length-2 c = c .before .before .before .before .tags .given
+    ∙ c .before .before .before .before .before .before .before .before .before .before .before .before .before .before .before .loop .inv .long .tags
 
 returns : tie.Need-returns Inv-loop μ-loop
 returns c =
     let s = c .before .before .before .before .before .before .before .before .before .before in
     let t = s .before .before .before in
+    let a = c .before .before .before .before .before .before .before .before .before .before .before .before .before .before .before .before .before
+    .before .before .before .before .before .before .before .args in
+    let tag = tagged (a .path-nos .now) (a .paths .now) (t .named-at .result) _ _ (s .before .path-of .ensures) (s .tag-of .ensures) in
     halted _ _ _ _ _ _ _ (t .before .before .loop .inv) _ _ _
-    (rw (s .before .before .found-at .ensures, s .tag-of .ensures, s .before .path-of .ensures, t .named-at .ensures) at (c .before .before .before .before .before .before .before .tile-run .ensures))
+    (rw (s .before .before .found-at .ensures, tag, t .named-at .ensures) at (c .before .before .before .before .before .before .before .tile-run .ensures))
     (c .before .answer .given .1) (t .before .before .before .slots-of .ensures)
 
 enum-told : tie.Need-enum-told Inv-loop μ-loop
@@ -75,8 +80,11 @@ loop-less : tie.Need-loop-less Inv-loop μ-loop
 loop-less c =
     let s = c .before .before .before .before .before .before .before .before .before in
     let t = s .before .before .before in
+    let a = c .before .before .before .before .before .before .before .before .before .before .before .before .before .before .before .before .before
+    .before .before .before .before .before .before .args in
+    let tag = tagged (a .path-nos .now) (a .paths .now) (t .named-at .result) _ _ (s .before .path-of .ensures) (s .tag-of .ensures) in
     let l = less _ _ _ _ _ _ _ (t .before .before .loop .inv) _ (t .before .loop-test .taken)
-    (rw (s .before .before .found-at .ensures, s .tag-of .ensures, s .before .path-of .ensures, t .named-at .ensures) at (c .before .before .before .before .before .before .tile-run .ensures))
+    (rw (s .before .before .found-at .ensures, tag, t .named-at .ensures) at (c .before .before .before .before .before .before .tile-run .ensures))
     (c .enum-told .given .1) in
     omega (arith, l, t .before .loop-test .taken)
 
@@ -84,8 +92,11 @@ loop-again : tie.Need-loop-again Inv-loop μ-loop
 loop-again c =
     let s = c .before .before .before .before .before .before .before .before .before in
     let t = s .before .before .before in
+    let a = c .before .before .before .before .before .before .before .before .before .before .before .before .before .before .before .before .before
+    .before .before .before .before .before .before .args in
+    let tag = tagged (a .path-nos .now) (a .paths .now) (t .named-at .result) _ _ (s .before .path-of .ensures) (s .tag-of .ensures) in
     on _ _ _ _ _ _ _ (t .before .before .loop .inv) _ (t .before .loop-test .taken)
-    (rw (s .before .before .found-at .ensures, s .tag-of .ensures, s .before .path-of .ensures, t .named-at .ensures) at (c .before .before .before .before .before .before .tile-run .ensures))
+    (rw (s .before .before .found-at .ensures, tag, t .named-at .ensures) at (c .before .before .before .before .before .before .tile-run .ensures))
     (c .enum-told .given .1)
 
 same-length-3 : tie.Need-same-length-3 Inv-loop μ-loop

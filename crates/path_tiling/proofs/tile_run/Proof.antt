@@ -32,7 +32,8 @@ same-length-2 : tie.Need-same-length-2 Inv-loop μ-loop
 same-length-2 c = c .before .before .before .before .loop .inv .long .tags
 
 returns : tie.Need-returns Inv-loop μ-loop
-returns c = other _ _ _ _ _ _ _ _ _ _ _ (c .before .before .before .before .loop .inv) (c .before .before .before .loop-test .taken) (ne-eqb _ _ (rw (c .before .before .named-at .ensures) at (c .if1 .taken)))
+returns c = other _ _ _ _ _ _ _ _ _ _ _ (c .before .before .before .before .loop .inv) (c .before .before .before .loop-test .taken) (ne-eqb _ _
+    (rw (c .before .before .named-at .ensures) at (c .if1 .taken)))
 
 packed-at-requires : tie.Need-packed-at-requires Inv-loop μ-loop
 packed-at-requires c κs = omega (arith, c .before .before .before .before .before .before .before .before .before .pre .4, c .before .before .before .loop-test .taken)
@@ -47,17 +48,20 @@ enum-known-v : tie.Need-enum-known-v Inv-loop μ-loop
 enum-known-v c = search needs
 
 same-length-3 : tie.Need-same-length-3 Inv-loop μ-loop
-same-length-3 c = c .before .before .before .before .before .before .segments .given ∙ c .before .before .before .before .before .before .before .before .before .before .before .before .before .before .before .loop .inv .long .segments
+same-length-3 c = c .before .before .before .before .before .before .segments .given
+    ∙ c .before .before .before .before .before .before .before .before .before .before .before .before .before .before .before .loop .inv .long .segments
 
 same-length-4 : tie.Need-same-length-4 Inv-loop μ-loop
-same-length-4 c = c .before .before .before .before .tags .given ∙ c .before .before .before .before .before .before .before .before .before .before .before .before .before .before .before .loop .inv .long .tags
+same-length-4 c = c .before .before .before .before .tags .given
+    ∙ c .before .before .before .before .before .before .before .before .before .before .before .before .before .before .before .loop .inv .long .tags
 
 returns-2 : tie.Need-returns-2 Inv-loop μ-loop
 returns-2 c =
     let s = c .before .before .before .before .before .before .before .before .before .before .before .before .before in
     let t = c .before .before .before .before .before .before .before in
     stopped _ _ _ _ _ _ _ _ _ _ _ (s .before .before .loop .inv) _ _ _ (s .before .loop-test .taken)
-    (eq-eqb _ _ (rw (s .named-at .ensures) at (c .before .before .before .before .before .before .before .before .before .before .before .if1 .left))) (rw (c .before .before .before .before .before .before .before .before .before .before .packed-at .ensures) at (t .tile-one .ensures)) (c .before .v .given .1)
+    (eq-eqb _ _ (rw (s .named-at .ensures) at (c .before .before .before .before .before .before .before .before .before .before .before .if1 .left)))
+    (rw (c .before .before .before .before .before .before .before .before .before .before .packed-at .ensures) at (t .tile-one .ensures)) (c .before .v .given .1)
 
 enum-told : tie.Need-enum-told Inv-loop μ-loop
 enum-told c = search needs
@@ -73,7 +77,8 @@ loop-again c =
     let s = c .before .before .before .before .before .before .before .before .before .before .before .before in
     let t = c .before .before .before .before .before .before in
     turned _ _ _ _ _ _ _ _ _ _ _ (s .before .before .loop .inv) _ _ (s .before .loop-test .taken)
-    (eq-eqb _ _ (rw (s .named-at .ensures) at (c .before .before .before .before .before .before .before .before .before .before .if1 .left))) (rw (c .before .before .before .before .before .before .before .before .before .packed-at .ensures) at (t .tile-one .ensures)) (c .enum-told .given .1)
+    (eq-eqb _ _ (rw (s .named-at .ensures) at (c .before .before .before .before .before .before .before .before .before .before .if1 .left)))
+    (rw (c .before .before .before .before .before .before .before .before .before .packed-at .ensures) at (t .tile-one .ensures)) (c .enum-told .given .1)
 
 same-length-5 : tie.Need-same-length-5 Inv-loop μ-loop
 same-length-5 c = c .before .loop .inv .long .segments
