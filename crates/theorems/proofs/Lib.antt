@@ -19,7 +19,6 @@
 --     Refuted               statements near the theorems' that are false, refuted by instances
 --     StepLaws              step numbers stay exact in a float
 --     Margins               a line in a box with a margin isn't refused with 10
---     EvenOdd               even-odd coverage of the segments that a fill takes
 pub mod Acts
 pub mod Own
 pub mod Counting
@@ -46,5 +45,4 @@ pub mod FrameNumbers
 pub mod FrameTraces
 pub mod Refuted
 pub mod StepLaws
-pub mod EvenOdd
 pub mod Margins
