@@ -20,7 +20,6 @@
 --     Refuted               statements near the theorems' that are false, refuted by instances
 --     StepLaws              step numbers stay exact in a float
 --     Margins               a line in a box with a margin isn't refused with 10
---     EvenOdd               even-odd coverage of the segments that a fill takes
 pub mod Acts
 pub mod Own
 pub mod Counting
@@ -48,5 +47,4 @@ pub mod FrameNumbers
 pub mod FrameTraces
 pub mod Refuted
 pub mod StepLaws
-pub mod EvenOdd
 pub mod Margins
