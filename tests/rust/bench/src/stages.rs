@@ -6,8 +6,8 @@ use cases::commands::{Command, OURS, RUST};
 use cases::memory::one_zero;
 use cases::Rng;
 use oracle::{BumpAllocators, PathSegment, SegmentCount, Tile};
-use rules::limits::{REF, SEGMENT};
-use rules::records::{box_at, path};
+use rules::limits::{REF, REGION, SEGMENT};
+use rules::records::{beam_at, box_at, paint, path, segments_in};
 use std::hint::black_box;
 
 /// The sizes that show the growth.
@@ -117,7 +117,7 @@ fn count_scene(kind: Kind, n: usize, rounds: usize) -> Times {
     );
     assert!(tiles.iter().map(|t| t.backdrop).eq(backs.iter().copied()));
     assert!(tiles.iter().map(|t| t.segment_count_or_ix).eq(counts.iter().copied()));
-    assert!(records.iter().flat_map(|r| [r.line_ix, r.counts]).eq(refs.iter().copied()));
+    assert!(records.iter().flat_map(oracle::words_of).eq(refs.iter().copied()));
     times
 }
 
@@ -134,7 +134,7 @@ fn tile_scene(kind: Kind, n: usize, rounds: usize) -> Times {
     let paths = oracle::paths_of(&scene.paths);
     let tiles: Vec<Tile> = counted.stored.iter().map(|&i| Tile { backdrop: 0, segment_count_or_ix: i }).collect();
     let mut records = vec![PathSegment::default(); scene.room];
-    let mut mine = vec![0.0f32; SEGMENT * scene.room];
+    let (mut mine, mut tags) = (vec![0.0f32; SEGMENT * scene.room], vec![0; scene.room]);
     let all = scene.room as u32;
     let times = measured(
         scene.room,
@@ -146,18 +146,20 @@ fn tile_scene(kind: Kind, n: usize, rounds: usize) -> Times {
         },
         || {
             mine.fill(0.0);
+            tags.fill(0);
+            let (s, c) = (&scene, &counted);
             timed(|| {
-                let no = ours::tile(&scene.path_nos, &scene.coords, &scene.paths, &counted.stored, &counted.refs, 0, all, &mut mine, &mut 0);
+                let no = ours::tile(&s.path_nos, &s.coords, &s.paths, &c.stored, &c.refs, 0, all, &mut mine, &mut tags, &mut 0);
                 assert_eq!(no, 0);
             })
         },
     );
-    assert!(same_segments(&records, &mine));
+    assert!(same_segments(&records, &mine) && tags.iter().all(|&tag| tag == beam_at(&scene.paths, 0)));
     times
 }
 
 fn same_segments(theirs: &[PathSegment], mine: &[f32]) -> bool {
-    let theirs = theirs.iter().flat_map(|r| [r.point0[0], r.point0[1], r.point1[0], r.point1[1], r.y_edge]);
+    let theirs = theirs.iter().flat_map(oracle::floats_of);
     theirs.map(f32::to_bits).eq(mine.iter().map(|v| v.to_bits()))
 }
 
@@ -196,17 +198,17 @@ pub fn fine(rounds: usize) {
 fn fine_screen(cols: u32, rows: u32, rounds: usize) -> Times {
     let tiles = cols * rows;
     let mut rng = Rng::new(tiles as u64);
-    let (mut words, mut theirs) = (vec![0; 64 * tiles as usize], vec![0; 64 * tiles as usize]);
+    let (mut words, mut theirs) = (vec![0; REGION * tiles as usize], vec![0; REGION * tiles as usize]);
     let (mut list, mut records): (Vec<f32>, Vec<PathSegment>) = (vec![], vec![]);
     for t in 0..tiles {
-        let start = 64 * t as usize + 1;
+        let start = REGION * t as usize + 1;
         let (mut at, mut their_at) = (start, start);
         let mut put = |command: Command| {
             at = OURS.put(&mut words, at, command, 0);
             their_at = RUST.put(&mut theirs, their_at, command, 0);
         };
         for (k, n) in FILLS.into_iter().enumerate() {
-            let first = (list.len() / SEGMENT) as u32;
+            let first = segments_in(&list) as u32;
             let more = segments(&mut rng, n as usize);
             records.extend(moved(&more, 16.0 * (t % cols) as f32, 16.0 * (t / cols) as f32));
             list.extend(more);
@@ -253,7 +255,7 @@ fn frame_scene(kind: Kind, n: usize, rounds: usize) -> Times {
     let mut refs = vec![SegmentCount::default(); scene.room];
     let mut records = vec![PathSegment::default(); scene.room];
     let (mut backs, mut stored, mut tally) = (vec![0; scene.tiles], vec![0; scene.tiles], vec![0; scene.tiles]);
-    let (mut mine_refs, mut mine) = (vec![0; REF * scene.room], vec![0.0f32; SEGMENT * scene.room]);
+    let (mut mine_refs, mut mine, mut tags) = (vec![0; REF * scene.room], vec![0.0f32; SEGMENT * scene.room], vec![0; scene.room]);
     let times = measured(
         n,
         rounds,
@@ -272,12 +274,13 @@ fn frame_scene(kind: Kind, n: usize, rounds: usize) -> Times {
         || {
             mine_refs.fill(0);
             mine.fill(0.0);
+            tags.fill(0);
             let s = &scene;
             let [mut stage, mut item, mut lines, mut made] = [0; 4];
             timed(|| {
                 let (told, counted) = ((&mut stage, &mut item), (&mut lines, &mut made));
-                let (b, y, r) = (&mut backs, &mut tally, &mut mine_refs);
-                let no = ours::frame(&s.path_nos, &s.coords, &s.paths, b, &mut stored, y, r, &mut mine, told.0, told.1, counted.0, counted.1);
+                let (b, y, r, g) = (&mut backs, &mut tally, &mut mine_refs, &mut tags);
+                let no = ours::frame(&s.path_nos, &s.coords, &s.paths, b, &mut stored, y, r, &mut mine, g, told.0, told.1, counted.0, counted.1);
                 assert_eq!(no, 0);
             })
         },
@@ -317,7 +320,7 @@ fn one_path(kind: Kind, n: usize, rounds: usize) -> Times {
     let path_nos: Vec<u32> = (0..PATHS as u32).flat_map(|p| vec![p; n]).collect();
     let coords = scene.coords.repeat(PATHS);
     let (tiles, lines) = (PATHS * scene.tiles, (PATHS * n) as u32);
-    let (mut backs, mut counts, mut refs) = (vec![0; tiles], vec![0; tiles], vec![0; 2 * scene.room * PATHS]);
+    let (mut backs, mut counts, mut refs) = (vec![0; tiles], vec![0; tiles], vec![0; REF * scene.room * PATHS]);
     let mut count = |backs: &mut [i32], counts: &mut [u32]| {
         backs.fill(0);
         counts.fill(0);
@@ -325,7 +328,7 @@ fn one_path(kind: Kind, n: usize, rounds: usize) -> Times {
     };
     count(&mut backs, &mut counts);
     let (mut again, mut tally) = (backs.clone(), counts.clone());
-    let (mut own, mut kept_backs, mut kept_counts) = (vec![0; 2 * scene.room], vec![0; scene.tiles], vec![0; scene.tiles]);
+    let (mut own, mut kept_backs, mut kept_counts) = (vec![0; REF * scene.room], vec![0; scene.tiles], vec![0; scene.tiles]);
     let moved = PATHS as u32 / 2;
     let (line_nos, own_nos): (Vec<u32>, Vec<u32>) = ((0..n as u32).map(|l| moved * n as u32 + l).collect(), vec![moved; n]);
     let times = measured(
@@ -444,12 +447,12 @@ pub fn lists(rounds: usize) {
 fn lists_of(cover: &Cover, covered: usize, rounds: usize) -> f64 {
     let [cols, rows] = cover.screen;
     let paths: Vec<u32> = (0..cover.paths).flat_map(|p| path_over(cover, p)).collect();
-    let paints: Vec<u32> = (0..cover.paths).flat_map(|p| [0x2040_60ff + p, 0]).collect();
+    let paints: Vec<u32> = (0..cover.paths).flat_map(|p| paint(0x2040_60ff + p, 0)).collect();
     let backs: Vec<i32> = (0..covered as i32).map(|t| t % 3 - 1).collect();
     let tally: Vec<u32> = (0..covered as u32).map(|t| t % 2).collect();
     let stored: Vec<u32> = (0..covered as u32).map(|t| if t % 2 == 1 { !(t / 2) } else { 0 }).collect();
     let over = (covered as u32).div_ceil(cols * rows);
-    let mut words = vec![0; 64 * (cols * rows * (1 + over.div_ceil(10))) as usize];
+    let mut words = vec![0; REGION * (cols * rows * (1 + over.div_ceil(10))) as usize];
     let room = covered as u32 / 2;
     let mut once = || timed(|| assert_eq!(ours::write_lists(&paths, &paints, &backs, &stored, &tally, cols, rows, room, &mut words, &mut 0), 0));
     once();
