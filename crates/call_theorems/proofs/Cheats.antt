@@ -9,10 +9,11 @@ use native.Mathlib.Omega.{arith}
 use lib.IntN.{ℤ, pos, negsuc}
 use lib.ListN.{getD, replicate}
 use lib.Ieee.{Float, nan, binary32, ofBits, isNan}
+use Rattle.panel.specs.Pieces.{Pieces, pieces}
 use Rattle.util.specs.Constants as Number
 use Rattle.lists.specs.Grid.{tabFrom}
-use Rattle.panel.specs.Paths.{boxed}
-use Rattle.panel.specs.Refusals.{notWhole, noRoom, noSuch, badSize, badFile}
+use Rattle.panel.specs.Paths.{boxed, stamped}
+use Rattle.panel.specs.Refusals.{doneNo, notWhole, noRoom, noSuch, badSize, badFile, offTile}
 use Rattle.panel.specs.Kinds.{runningOf}
 use Rattle.panel.specs.declared.kinds.Answer.{Answer}
 use Rattle.panel.specs.declared.kinds.Answer.the-variants.{Done, Refused}
@@ -51,13 +52,20 @@ use Rattle.svg.specs.declared.Answer as Svg
 use Rattle.svg.specs.declared.Answer.the-variants as Drawing
 use Rattle.svg.proofs.Exact.{one-lines}
 use Rattle.svg.proofs.Examples.{drawing}
+use Rattle.ranges.specs.Ranges.{clearedOf, copiedOf}
+use Rattle.recount.specs.Recount.{ownWalk, ownStep, redrawnOf, askedOf, recountedOf}
+use Rattle.pixel.specs.Coverage.{coverageAtOf}
+use Rattle.pixel.specs.Colour.{underList, colourAtOf}
+use Rattle.groatpocket.specs.CallRecount.{GpRecountMet}
+use Rattle.groatpocket.specs.CallPixel.{GpPixelAreaMet, GpPixelMet}
 use Rattle.theorems.specs.Starred.{floatsOf}
 use Rattle.theorems.proofs.StarredTable.{computing}
 use Rattle.theorems.proofs.OneAnswer.{one-count, one-backdrop, one-hand, one-tile, one-fill, one-fine}
 use Rattle.theorems.proofs.Framing.{one-frame}
 use Rattle.list_theorems.proofs.Written.{one-lists}
 use Rattle.call_theorems.specs.Cheats.{Once, Shut, Refuses, RefusesCount, RefusesFrame, RefusesWrite, RefusesRead, RefusesSvg}
-use Rattle.call_theorems.proofs.OneAnswer.{one-write, one-read}
+use Rattle.call_theorems.specs.Cheats.{RecountTold, recountTold, RefusesNo, RefusesRecount}
+use Rattle.call_theorems.proofs.OneAnswer.{one-write, one-read, one-gp-recount, one-gp-pixel-area, one-gp-pixel}
 
 -- ---- the law: an input whose answer a is no refusal and which leaves another content than before, and one whose answer b is a refusal
 
@@ -133,22 +141,25 @@ hand-shut =
 
 -- ---- tiling: the first reference of (8,8)-(8,24), over NaNs; and a reference to a line that isn't there
 
-abbrev TileAt : (refs : List ℕ) → Answer → List Float → Type 0
-TileAt refs a m = TileMet 0 1 (lent (0 ∷ []) (floatsOf (8 ∷ 8 ∷ 8 ∷ 24 ∷ [])) (boxed 0 0 2 2 0) (4294967295 ∷ 0 ∷ 0 ∷ 0 ∷ []) refs) (replicate 5 nan) a m
+abbrev oneSlot : Pieces
+oneSlot = pieces (replicate 5 nan) (0 ∷ [])
 
-once-tile : (refs : List ℕ) → Once Answer (List Float) (TileAt refs)
+abbrev TileAt : (refs : List ℕ) → Answer → Pieces → Type 0
+TileAt refs a m = TileMet 0 1 (lent (0 ∷ []) (floatsOf (8 ∷ 8 ∷ 8 ∷ 24 ∷ [])) (stamped 0 0 2 2 0 7) (4294967295 ∷ 0 ∷ 0 ∷ 0 ∷ []) refs) oneSlot a m
+
+once-tile : (refs : List ℕ) → Once Answer Pieces (TileAt refs)
 once-tile refs a b m n p q =
-    one-tile 0 1 (lent (0 ∷ []) (floatsOf (8 ∷ 8 ∷ 8 ∷ 24 ∷ [])) (boxed 0 0 2 2 0) (4294967295 ∷ 0 ∷ 0 ∷ 0 ∷ []) refs) (replicate 5 nan) a b m n p q
+    one-tile 0 1 (lent (0 ∷ []) (floatsOf (8 ∷ 8 ∷ 8 ∷ 24 ∷ [])) (stamped 0 0 2 2 0 7) (4294967295 ∷ 0 ∷ 0 ∷ 0 ∷ []) refs) oneSlot a b m n p q
 
 abbrev piece : List Float
 piece = ofBits binary32 0x40ff_fffe ∷ ofBits binary32 0x4100_0000 ∷ ofBits binary32 0x40ff_fffe ∷ ofBits binary32 0x4180_0000 ∷ ofBits binary32 0x4e6e_6b28 ∷ []
 
-pub tile-shut : Shut Answer (List Float) Refuses (TileAt (0 ∷ 0 ∷ [])) (TileAt (1 ∷ 0 ∷ [])) (replicate 5 nan)
+pub tile-shut : Shut Answer Pieces Refuses (TileAt (0 ∷ 0 ∷ [])) (TileAt (1 ∷ 0 ∷ [])) oneSlot
 unfolding computing
 tile-shut =
-    shut Answer (List Float) Refuses (TileAt (0 ∷ 0 ∷ [])) (TileAt (1 ∷ 0 ∷ [])) (replicate 5 nan)
-    Done (Refused noSuch 0) piece (replicate 5 nan) (once-tile (0 ∷ 0 ∷ [])) (once-tile (1 ∷ 0 ∷ []))
-    refl refl (λ h. h) tt (apart-nan piece (replicate 5 nan) refl refl)
+    shut Answer Pieces Refuses (TileAt (0 ∷ 0 ∷ [])) (TileAt (1 ∷ 0 ∷ [])) oneSlot
+    Done (Refused noSuch 0) (pieces piece (7 ∷ [])) oneSlot (once-tile (0 ∷ 0 ∷ [])) (once-tile (1 ∷ 0 ∷ []))
+    refl refl (λ h. h) tt (λ e. apart-nan piece (replicate 5 nan) refl refl (ap (λ (x : Pieces). x .segments) e))
 
 -- ---- coverage: a tile with backdrop 1 and no segment, over NaNs; and an area of another size
 
@@ -185,23 +196,26 @@ fine-shut =
 
 -- ---- a frame: no line over one tile, which it clears; and a tally too short
 
+abbrev noSlot : Pieces
+noSlot = pieces [] []
+
 abbrev FrameMemory : Type 0
-FrameMemory = List ℤ × List ℕ × List ℕ × List ℕ × List Float
+FrameMemory = List ℤ × List ℕ × List ℕ × List ℕ × Pieces
 
 abbrev FrameAt : (ks : List ℕ) → Framed → FrameMemory → Type 0
-FrameAt ks a m = FrameMet [] [] (boxed 0 0 1 1 0) (pos 5 ∷ []) (3 ∷ []) ks [] [] a (m .0) (m .1) (m .2) (m .3) (m .4)
+FrameAt ks a m = FrameMet [] [] (boxed 0 0 1 1 0) (pos 5 ∷ []) (3 ∷ []) ks [] noSlot a (m .0) (m .1) (m .2) (m .3) (m .4)
 
 once-frame : (ks : List ℕ) → Once Framed FrameMemory (FrameAt ks)
 once-frame ks a b m n p q =
-    let e = one-frame [] [] (boxed 0 0 1 1 0) (pos 5 ∷ []) (3 ∷ []) ks [] [] a b (m .0) (n .0) (m .1) (n .1) (m .2) (n .2) (m .3) (n .3) (m .4) (n .4) p q in
+    let e = one-frame [] [] (boxed 0 0 1 1 0) (pos 5 ∷ []) (3 ∷ []) ks [] noSlot a b (m .0) (n .0) (m .1) (n .1) (m .2) (n .2) (m .3) (n .3) (m .4) (n .4) p q in
     (e .0, λ i. (e .1 i, e .2 i, e .3 i, e .4 i, e .5 i))
 
-pub frame-shut : Shut Framed FrameMemory RefusesFrame (FrameAt (8 ∷ [])) (FrameAt []) (pos 5 ∷ [], 3 ∷ [], 8 ∷ [], [], [])
+pub frame-shut : Shut Framed FrameMemory RefusesFrame (FrameAt (8 ∷ [])) (FrameAt []) (pos 5 ∷ [], 3 ∷ [], 8 ∷ [], [], noSlot)
 unfolding computing frameOf checksOf drawnOf placedOf backdropOf sumPaths rowsSums rowsFit rowSums rowFits
 frame-shut =
-    shut Framed FrameMemory RefusesFrame (FrameAt (8 ∷ [])) (FrameAt []) (pos 5 ∷ [], 3 ∷ [], 8 ∷ [], [], [])
+    shut Framed FrameMemory RefusesFrame (FrameAt (8 ∷ [])) (FrameAt []) (pos 5 ∷ [], 3 ∷ [], 8 ∷ [], [], noSlot)
     (Framed.Done (runningOf 0 0)) (Framed.Refused Stage.Lent notWhole 0 (runningOf 0 0))
-    (pos 0 ∷ [], 0 ∷ [], 0 ∷ [], [], []) (pos 5 ∷ [], 3 ∷ [], [], [], []) (once-frame (8 ∷ [])) (once-frame [])
+    (pos 0 ∷ [], 0 ∷ [], 0 ∷ [], [], noSlot) (pos 5 ∷ [], 3 ∷ [], [], [], noSlot) (once-frame (8 ∷ [])) (once-frame [])
     refl refl (λ h. h) tt (λ e. apart (0 ∷ []) (3 ∷ []) 0 (λ z. omega arith) (ap (λ (m : FrameMemory). m .1) e))
 
 -- ---- the lists: one screen tile and no path, whose list is END; and no word to write it in
@@ -269,3 +283,58 @@ svg-shut =
     shut Svg.Answer SvgMemory RefusesSvg (SvgAt move-close) (SvgAt (77 ∷ [])) (9 ∷ [], replicate 4 nan)
     (Drawing.Done 1) (Drawing.Refused badText 1) (3 ∷ [], no-length) (9 ∷ [], replicate 4 nan) (once-svg move-close) (once-svg (77 ∷ []))
     refl refl (λ h. h) tt (λ e. apart (3 ∷ []) (9 ∷ []) 0 (λ z. omega arith) (ap (λ (m : SvgMemory). m .0) e))
+
+-- ---- a recount, as a caller sees it: (8,8)-(8,24) as line 7 into the box 0,0,2,2, whose tiles held 5 and 3; and a path that isn't there
+
+abbrev RecountMemory : Type 0
+RecountMemory = List ℤ × List ℕ × List ℕ × List ℤ × List ℕ
+
+abbrev before : RecountMemory
+before = (replicate 4 (pos 5), replicate 4 3, replicate 4 0, replicate 4 (pos 9), replicate 4 9)
+
+abbrev RecountAt : (p : ℕ) → RecountTold → RecountMemory → Type 0
+RecountAt p a m =
+    GpRecountMet p (7 ∷ []) (0 ∷ []) (floatsOf (8 ∷ 8 ∷ 8 ∷ 24 ∷ [])) (boxed 0 0 2 2 0) (before .0) (before .1) (before .2) (before .3) (before .4)
+    (a .number) (a .at) (a .made) (m .0) (m .1) (m .2) (m .3) (m .4)
+
+once-recount : (p : ℕ) → Once RecountTold RecountMemory (RecountAt p)
+once-recount p a b m n h k =
+    let e = one-gp-recount p (7 ∷ []) (0 ∷ []) (floatsOf (8 ∷ 8 ∷ 8 ∷ 24 ∷ [])) (boxed 0 0 2 2 0) (before .0) (before .1) (before .2) (before .3) (before .4)
+    (a .number) (b .number) (a .at) (b .at) (a .made) (b .made) (m .0) (n .0) (m .1) (n .1) (m .2) (n .2) (m .3) (n .3) (m .4) (n .4) h k in
+    ((λ i. record { number = e .0 i; at = e .1 i; made = e .2 i }), λ i. (e .3 i, e .4 i, e .5 i, e .6 i, e .7 i))
+
+pub recount-shut : Shut RecountTold RecountMemory RefusesRecount (RecountAt 0) (RecountAt 1) before
+unfolding computing clearedOf copiedOf ownWalk ownStep redrawnOf askedOf recountedOf
+recount-shut =
+    shut RecountTold RecountMemory RefusesRecount (RecountAt 0) (RecountAt 1) before
+    (recountTold doneNo 0 2) (recountTold noSuch 0 0)
+    (pos 0 ∷ pos 0 ∷ pos 0 ∷ negsuc 0 ∷ [], 1 ∷ 0 ∷ 1 ∷ 0 ∷ [], 7 ∷ 0 ∷ 7 ∷ 1 ∷ [], replicate 4 (pos 5), replicate 4 3) before
+    (once-recount 0) (once-recount 1)
+    refl refl (λ h. h refl) (λ e. omega arith) (λ e. apart (1 ∷ 0 ∷ 1 ∷ 0 ∷ []) (replicate 4 3) 0 (λ z. omega arith) (ap (λ (m : RecountMemory). m .1) e))
+
+-- ---- one pixel's coverage: a tile with backdrop 1 and no segment, over a NaN; and column 16
+
+abbrev PixelAreaAt : (column : ℕ) → ℕ → Float → Type 0
+PixelAreaAt column a m = GpPixelAreaMet [] 0 0 0 (pos 1) Number.zero Number.zero column 3 nan a m
+
+pub pixel-area-shut : Shut ℕ Float RefusesNo (PixelAreaAt 5) (PixelAreaAt tileWidth) nan
+unfolding computing straightFrom coverageAtOf
+pixel-area-shut =
+    shut ℕ Float RefusesNo (PixelAreaAt 5) (PixelAreaAt tileWidth) nan
+    doneNo offTile Number.one nan
+    (λ a b m n p q. one-gp-pixel-area [] 0 0 0 (pos 1) Number.zero Number.zero 5 3 nan a b m n p q)
+    (λ a b m n p q. one-gp-pixel-area [] 0 0 0 (pos 1) Number.zero Number.zero tileWidth 3 nan a b m n p q)
+    refl refl (λ h. h refl) (λ e. omega arith) (λ e. apart-nan (Number.one ∷ []) (nan ∷ []) refl refl (ap (λ (a : Float). a ∷ []) e))
+
+-- ---- one pixel under a list: SOLID and COLOR 204060ff, over 0; and column 16
+
+abbrev PixelAt : (column : ℕ) → ℕ → ℕ → Type 0
+PixelAt column a m = GpPixelMet one-list [] 0 column 3 0 a m
+
+pub pixel-shut : Shut ℕ ℕ RefusesNo (PixelAt 5) (PixelAt tileWidth) 0
+unfolding computing underList colourAtOf
+pixel-shut =
+    shut ℕ ℕ RefusesNo (PixelAt 5) (PixelAt tileWidth) 0
+    doneNo offTile 0xff60_4020 0
+    (λ a b m n p q. one-gp-pixel one-list [] 0 5 3 0 a b m n p q) (λ a b m n p q. one-gp-pixel one-list [] 0 tileWidth 3 0 a b m n p q)
+    refl refl (λ h. h refl) (λ e. omega arith) (λ e. omega arith)

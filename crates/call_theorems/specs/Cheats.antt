@@ -1,6 +1,9 @@
 -- The cheats that a promise must shut out, of any call: refusing all, one constant answer, doing nothing. A promise at one input is P : it asks P a m of an
 -- answer a and of what was lent, m, as it is afterwards. Definitions only.
 use mathlib.Core.Path.{_≡_}
+use mathlib.Core.Logic.{_≢_}
+use Prim.Native.Nat.{ℕ}
+use Rattle.panel.specs.Refusals.{doneNo}
 use Rattle.panel.specs.declared.kinds.Answer.{Answer}
 use Rattle.panel.specs.declared.kinds.Answer.the-variants as Answer
 use Rattle.path_count.specs.declared.kinds.Counted.{Counted}
@@ -52,3 +55,19 @@ RefusesRead (Reading.Refused n) = Unit {0}
 abbrev pub RefusesSvg : Svg.Answer → Type 0
 RefusesSvg (Drawing.Done n) = ⊥
 RefusesSvg (Drawing.Refused n at) = Unit {0}
+
+-- what a caller in C or Rust sees of a recount: the number, the item's, the references made
+pub record RecountTold : Type 0 where
+  pub number : ℕ
+  pub at : ℕ
+  pub made : ℕ
+
+abbrev pub recountTold : (n item m : ℕ) → RecountTold
+recountTold n item m = record { number = n; at = item; made = m }
+
+-- and of a pixel: the number alone
+abbrev pub RefusesNo : ℕ → Type 0
+RefusesNo n = n ≢ doneNo
+
+abbrev pub RefusesRecount : RecountTold → Type 0
+RefusesRecount a = RefusesNo (a .number)

@@ -5,9 +5,11 @@
 --     References  its references are those of the fresh count's lines
 --     OneAnswer   one answer only
 --     Exact       refusals are exact
+--     ExactCall   the promise is met where one of the call's ways holds, and nowhere else
 pub mod OwnLines
 pub mod Elsewhere
 pub mod Fresh
 pub mod References
 pub mod OneAnswer
 pub mod Exact
+pub mod ExactCall

@@ -44,6 +44,27 @@ fn parts_at(words: &[u32], at: usize) -> Parts {
     }
 }
 
+// The rest, filled.
+fn put(
+    words: &[u32],
+    at: Parts,
+    stored: &mut [u32],
+    refs: &mut [u32],
+    segments: &mut [f32],
+    tags: &mut [u32],
+) -> bool {
+    rows::put_words(words, at.stored, stored)
+        & rows::put_words(words, at.refs, refs)
+        & rows::put_floats(words, at.segments, segments)
+        & rows::put_words(words, at.tags, tags)
+}
+
+// What is lent to be changed, compared afterwards.
+fn same(words: &[u32], at: Parts, segments: &[f32], tags: &[u32]) -> bool {
+    rows::same_floats(words, at.segments, at.later, segments)
+        & rows::same_words(words, at.tags, at.tags_later, tags)
+}
+
 // Whether the stage answers so, once path_nos, coords and paths are there.
 fn right(
     words: &[u32],
@@ -57,10 +78,7 @@ fn right(
     segments: &mut [f32],
     tags: &mut [u32],
 ) -> bool {
-    let whole = rows::put_words(words, at.stored, stored)
-        & rows::put_words(words, at.refs, refs)
-        & rows::put_floats(words, at.segments, segments)
-        & rows::put_words(words, at.tags, tags);
+    let whole = put(words, at, stored, refs, segments, tags);
     let a = path_tiling::tile(
         word(words, head, 8),
         word(words, head, 9),
@@ -72,10 +90,7 @@ fn right(
         segments,
         tags,
     );
-    whole
-        & rows::answers(words, at.answer, a)
-        & rows::same_floats(words, at.segments, at.later, segments)
-        & rows::same_words(words, at.tags, at.tags_later, tags)
+    whole & rows::answers(words, at.answer, a) & same(words, at, segments, tags)
 }
 
 // The same, with rooms for the other four.

@@ -14,6 +14,7 @@
 --     Exact, ExactRuns, ExactLooks, ExactPaths, ExactStops, ExactCommands   refusals are exact
 --     Together              these put together
 --     Framing               the call for a frame: its ways, what it leaves, isolation between frames, one answer
+--     Tags                  every slot carries its own path's beam number
 --     FrameNumbers          which numbers each part of a frame refuses with
 --     FrameTraces           frames of one line, computed
 --     Refuted               statements near the theorems' that are false, refuted by instances
@@ -42,6 +43,7 @@ pub mod ExactStops
 pub mod ExactCommands
 pub mod Together
 pub mod Framing
+pub mod Tags
 pub mod FrameNumbers
 pub mod FrameTraces
 pub mod Refuted
