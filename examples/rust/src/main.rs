@@ -1,8 +1,8 @@
 //! A panel of three channels drawn in three calls: frame, command lists, pixels. examples/c/panel.c does the same in C,
 //! and both print examples/panel.out. Once `rt staticlib groatpocket` has written the archive: `cargo run`.
 use groatpocket::{
-    fine, frame, words_needed, write_lists, Paint, Path, Screen, LINE_FLOATS, REF_WORDS, SEGMENT_FLOATS,
-    TILE_PIXELS,
+    fine, frame, words_needed, write_lists, Frame, Paint, Path, Screen, WriteLists, LINE_FLOATS, REF_WORDS,
+    SEGMENT_FLOATS, TILE_PIXELS,
 };
 use std::error::Error;
 
@@ -36,17 +36,18 @@ fn main() -> Result<(), Box<dyn Error>> {
 
     // A channel with a refused line is shown as faulty, and the frame is drawn without it.
     let done = loop {
-        let stopped = match frame(
-            &path_nos,
-            &coords,
-            &paths,
-            &mut backdrops,
-            &mut stored,
-            &mut tally,
-            &mut refs,
-            &mut segments,
-            &mut tags,
-        ) {
+        let lent = Frame {
+            path_nos: &path_nos,
+            coords: &coords,
+            paths: &paths,
+            backdrops: &mut backdrops,
+            stored: &mut stored,
+            tally: &mut tally,
+            refs: &mut refs,
+            segments: &mut segments,
+            tags: &mut tags,
+        };
+        let stopped = match frame(lent) {
             Ok(done) => break done,
             Err(stopped) => stopped,
         };
@@ -73,17 +74,17 @@ fn main() -> Result<(), Box<dyn Error>> {
     }
 
     let mut words = vec![0; words_needed(SCREEN.cols, SCREEN.rows, CHANNELS)];
-    write_lists(
-        &paths,
-        &paints,
-        &backdrops,
-        &stored,
-        &tally,
-        SCREEN.cols,
-        SCREEN.rows,
-        ROOM as u32,
-        &mut words,
-    )?;
+    write_lists(WriteLists {
+        paths: &paths,
+        paints: &paints,
+        backdrops: &backdrops,
+        stored: &stored,
+        tally: &tally,
+        cols: SCREEN.cols,
+        rows: SCREEN.rows,
+        room: ROOM as u32,
+        words: &mut words,
+    })?;
     println!("lists: 0");
 
     let mut pixels = [0u32; TILE_PIXELS * TILES];

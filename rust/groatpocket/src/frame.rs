@@ -66,6 +66,29 @@ impl FrameStopped {
 
 impl core::error::Error for FrameStopped {}
 
+/// What [`frame`] is lent, by name.
+#[derive(Debug)]
+pub struct Frame<'a> {
+    /// The path number of each line.
+    pub path_nos: &'a [u32],
+    /// The lines, [`LINE_FLOATS`](crate::LINE_FLOATS) each.
+    pub coords: &'a [f32],
+    /// The paths: the words of a [`Path`](crate::Path) each.
+    pub paths: &'a [u32],
+    /// One to a tile; afterwards the sums.
+    pub backdrops: &'a mut [i32],
+    /// One to a tile; afterwards what hand-out left.
+    pub stored: &'a mut [u32],
+    /// One to a tile; afterwards the counts.
+    pub tally: &'a mut [u32],
+    /// The references: the words of a [`Reference`] each.
+    pub refs: &'a mut [u32],
+    /// The segments: the floats of a [`Segment`](crate::Segment) to a slot.
+    pub segments: &'a mut [f32],
+    /// The tags: a beam number to a slot.
+    pub tags: &'a mut [u32],
+}
+
 /// Draws all lines into tiles and segments: backdrops and counts are cleared, the lines counted, the
 /// backdrops summed, slots handed out with room for the segments lent, and every reference tiled.
 /// Afterwards `backdrops` are the sums, `stored` what hand-out left, `tally` the counts, and the
@@ -73,14 +96,23 @@ impl core::error::Error for FrameStopped {}
 /// as segments, else 1.
 ///
 /// ```
-/// use groatpocket::{frame, Path, Refusal, Segment, Stage, REF_WORDS, SEGMENT_FLOATS};
+/// use groatpocket::{frame, Frame, Path, Refusal, Segment, Stage, REF_WORDS, SEGMENT_FLOATS};
 /// let (path_nos, coords) = ([0], [8.0, 8.0, 8.0, 24.0]);
 /// let paths = Path { x0: 0, y0: 0, x1: 2, y1: 2, first: 0, beam: 7 }.words();
 /// let (mut backdrops, mut stored, mut tally) = ([7; 4], [7; 4], [7; 4]);
 /// let (mut refs, mut segments, mut tags) = ([0; 4 * REF_WORDS], [0.0; 2 * SEGMENT_FLOATS], [0; 2]);
-/// let done = frame(
-///     &path_nos, &coords, &paths, &mut backdrops, &mut stored, &mut tally, &mut refs, &mut segments, &mut tags,
-/// ).unwrap();
+/// let lent = Frame {
+///     path_nos: &path_nos,
+///     coords: &coords,
+///     paths: &paths,
+///     backdrops: &mut backdrops,
+///     stored: &mut stored,
+///     tally: &mut tally,
+///     refs: &mut refs,
+///     segments: &mut segments,
+///     tags: &mut tags,
+/// };
+/// let done = frame(lent).unwrap();
 /// assert_eq!((done.lines, done.references), (1, 2));
 /// assert_eq!((backdrops, tally), ([0, 0, 0, -1], [1, 0, 1, 0]));
 /// let second = Segment::of(&segments[SEGMENT_FLOATS..]);
@@ -88,31 +120,38 @@ impl core::error::Error for FrameStopped {}
 /// assert_eq!(tags, [7, 7]);
 ///
 /// // Room for one segment only: hand-out refuses, and what was counted stands.
-/// let stopped = frame(
-///     &path_nos, &coords, &paths, &mut backdrops, &mut stored, &mut tally, &mut refs, &mut segments[..SEGMENT_FLOATS],
-///     &mut tags[..1],
-/// ).unwrap_err();
+/// let lent = Frame {
+///     path_nos: &path_nos,
+///     coords: &coords,
+///     paths: &paths,
+///     backdrops: &mut backdrops,
+///     stored: &mut stored,
+///     tally: &mut tally,
+///     refs: &mut refs,
+///     segments: &mut segments[..SEGMENT_FLOATS],
+///     tags: &mut tags[..1],
+/// };
+/// let stopped = frame(lent).unwrap_err();
 /// assert_eq!((stopped.stage, stopped.refused.refusal), (Stage::HandOut, Refusal::NoRoom));
 ///
 /// // A coordinate that is no number: counting stops, and says at which line.
-/// let stopped = frame(
-///     &path_nos, &[8.0, 8.0, f32::NAN, 24.0], &paths, &mut backdrops, &mut stored, &mut tally, &mut refs, &mut segments, &mut tags,
-/// ).unwrap_err();
+/// let lent = Frame {
+///     path_nos: &path_nos,
+///     coords: &[8.0, 8.0, f32::NAN, 24.0],
+///     paths: &paths,
+///     backdrops: &mut backdrops,
+///     stored: &mut stored,
+///     tally: &mut tally,
+///     refs: &mut refs,
+///     segments: &mut segments,
+///     tags: &mut tags,
+/// };
+/// let stopped = frame(lent).unwrap_err();
 /// assert_eq!(stopped.to_string(), "counting stopped at line 0: refusal 6: a coordinate not finite, or over 65,536 in size");
 /// assert_eq!(stopped.line(&refs), Some(0));
 /// ```
-#[allow(clippy::too_many_arguments)]
-pub fn frame(
-    path_nos: &[u32],
-    coords: &[f32],
-    paths: &[u32],
-    backdrops: &mut [i32],
-    stored: &mut [u32],
-    tally: &mut [u32],
-    refs: &mut [u32],
-    segments: &mut [f32],
-    tags: &mut [u32],
-) -> Result<Running, FrameStopped> {
+pub fn frame(lent: Frame<'_>) -> Result<Running, FrameStopped> {
+    let Frame { path_nos, coords, paths, backdrops, stored, tally, refs, segments, tags } = lent;
     let (mut stage, mut item, mut lines, mut made) = (UNTOLD, UNTOLD, UNTOLD, UNTOLD);
     // SAFETY: as for `count`.
     #[rustfmt::skip]

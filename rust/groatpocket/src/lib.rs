@@ -10,7 +10,9 @@
 //!
 #![cfg_attr(all(feature = "frame", feature = "lists"), doc = "```")]
 #![cfg_attr(not(all(feature = "frame", feature = "lists")), doc = "```ignore")]
-//! use groatpocket::{fine, frame, words_needed, write_lists, Paint, Path, Screen, REF_WORDS, SEGMENT_FLOATS};
+//! use groatpocket::{
+//!     fine, frame, words_needed, write_lists, Frame, Paint, Path, Screen, WriteLists, REF_WORDS, SEGMENT_FLOATS,
+//! };
 //!
 //! // One beam's trace, a triangle, as path 0, whose box is the whole screen: two by two tiles from tile 0 on.
 //! let screen = Screen { width: 32, cols: 2, rows: 2 };
@@ -23,20 +25,43 @@
 //!
 //! let (mut backdrops, mut stored, mut tally) = ([0; 4], [0; 4], [0; 4]);
 //! let (mut refs, mut segments, mut tags) = ([0; 16 * REF_WORDS], [0.0; 16 * SEGMENT_FLOATS], [0; 16]);
-//! let done = frame(
-//!     &path_nos, &coords, &paths, &mut backdrops, &mut stored, &mut tally, &mut refs, &mut segments, &mut tags,
-//! ).unwrap();
+//! let lent = Frame {
+//!     path_nos: &path_nos,
+//!     coords: &coords,
+//!     paths: &paths,
+//!     backdrops: &mut backdrops,
+//!     stored: &mut stored,
+//!     tally: &mut tally,
+//!     refs: &mut refs,
+//!     segments: &mut segments,
+//!     tags: &mut tags,
+//! };
+//! let done = frame(lent).unwrap();
 //! // Every segment is the beam's own.
 //! assert!(tags[..done.references as usize].iter().all(|tag| *tag == 7));
 //!
 //! let mut words = vec![0; words_needed(2, 2, 1)];
-//! write_lists(&paths, &paints, &backdrops, &stored, &tally, 2, 2, done.references, &mut words).unwrap();
+//! let lent = WriteLists {
+//!     paths: &paths,
+//!     paints: &paints,
+//!     backdrops: &backdrops,
+//!     stored: &stored,
+//!     tally: &tally,
+//!     cols: screen.cols,
+//!     rows: screen.rows,
+//!     room: done.references,
+//!     words: &mut words,
+//! };
+//! write_lists(lent).unwrap();
 //!
 //! let mut pixels = [0; 32 * 32];
 //! fine(&words, &segments, screen, 0, 4, &mut pixels).unwrap();
 //! assert_eq!(pixels[32 * 20 + 16], 0xff0080ff); // inside: red is in the low byte now
 //! assert_eq!(pixels[0], 0); // outside
 //! ```
+//!
+//! A call that is lent several slices of one kind takes them by name, so that none is taken for another; records have names for
+//! their words: [`Path`], [`Reference`], [`Segment`], [`Paint`].
 //!
 //! The stages of a frame are calls too, for whoever feeds lines in batches: [`count`], [`backdrop`], [`hand_out`],
 //! [`tile`]. Where one gauge has moved, its path alone is counted again: [`recount`]. One pixel can be asked for by itself: [`pixel`], [`pixel_area`]. Lines of an outline can be read from
@@ -46,21 +71,28 @@
 //! their alpha, and nothing refuses one that isn't; a paint has red in its highest byte and a pixel in its lowest.
 //!
 //! ```
-//! use groatpocket::{count, hand_out, Path, Running, REF_WORDS};
+//! use groatpocket::{count, hand_out, Count, HandOut, Path, Running, REF_WORDS};
 //!
 //! // One line, (8,8) to (8,24), of path 0, whose box is two by two tiles from tile 0 on.
 //! let (path_nos, coords) = ([0], [8.0, 8.0, 8.0, 24.0]);
 //! let paths = Path { x0: 0, y0: 0, x1: 2, y1: 2, first: 0, beam: 7 }.words();
 //! let (mut backdrops, mut counts, mut refs) = ([0; 4], [0; 4], [0; 4 * REF_WORDS]);
-//! let running = count(
-//!     Running::default(), 1, &path_nos, &coords, &paths, &mut backdrops, &mut counts, &mut refs,
-//! ).unwrap();
+//! let lent = Count {
+//!     path_nos: &path_nos,
+//!     coords: &coords,
+//!     paths: &paths,
+//!     backdrops: &mut backdrops,
+//!     counts: &mut counts,
+//!     refs: &mut refs,
+//!     end: 1,
+//! };
+//! let running = count(Running::default(), lent).unwrap();
 //! assert_eq!((running.lines, running.references), (1, 2));
 //! assert_eq!(counts, [1, 0, 1, 0]);
 //! assert_eq!(backdrops, [0, 0, 0, -1]);
 //!
 //! let mut tally = [0; 4];
-//! hand_out(&mut counts, &mut tally, 2).unwrap();
+//! hand_out(HandOut { counts: &mut counts, tally: &mut tally, room: 2 }).unwrap();
 //! assert_eq!(counts, [4294967295, 0, 4294967294, 0]);
 //! ```
 #![no_std]
@@ -85,19 +117,19 @@ mod stages;
 mod svg;
 
 #[cfg(feature = "frame")]
-pub use frame::{frame, FrameStopped, Stage};
+pub use frame::{frame, Frame, FrameStopped, Stage};
 #[cfg(feature = "lists")]
-pub use lists::{words_needed, write_lists};
+pub use lists::{words_needed, write_lists, WriteLists};
 #[cfg(feature = "picture")]
 pub use picture::{ppm_read, ppm_write};
 #[cfg(feature = "pixel")]
 pub use pixel::{pixel, pixel_area};
 pub use records::{Paint, Path, Reference, Segment, STEP_RANGE};
 #[cfg(feature = "recount")]
-pub use recount::{recount, RecountStopped};
+pub use recount::{recount, Recount, RecountStopped};
 pub use refusal::{Refusal, Refused};
 pub use screen::{fill, fine, Fill, Screen};
-pub use stages::{backdrop, count, hand_out, tile, Running, Stopped};
+pub use stages::{backdrop, count, hand_out, tile, Count, HandOut, Running, Stopped, Tile};
 #[cfg(feature = "svg")]
 pub use svg::{svg_lines, TextRefused};
 

@@ -3,6 +3,29 @@ use crate::raw;
 use crate::refusal::{answered, Refused, UNTOLD};
 use crate::TILE_WORDS;
 
+/// What [`write_lists`] is lent, by name.
+#[derive(Debug)]
+pub struct WriteLists<'a> {
+    /// The paths: the words of a [`Path`](crate::Path) each.
+    pub paths: &'a [u32],
+    /// A paint to a path: the words of a [`Paint`](crate::Paint) each.
+    pub paints: &'a [u32],
+    /// One to a tile: the sums.
+    pub backdrops: &'a [i32],
+    /// One to a tile: what hand-out left.
+    pub stored: &'a [u32],
+    /// One to a tile: the counts.
+    pub tally: &'a [u32],
+    /// The screen's tile columns.
+    pub cols: u32,
+    /// Its tile rows.
+    pub rows: u32,
+    /// The number of segments that [`fine`](crate::fine) will be lent.
+    pub room: u32,
+    /// The lists' words: [`words_needed`] says how many suffice.
+    pub words: &'a mut [u32],
+}
+
 /// Writes a list of commands for each tile of a screen of `cols` by `rows` tiles, for the paths in
 /// their order, each with its [`Paint`](crate::Paint). `backdrops`, `stored` and `tally`
 /// are what [`frame`](crate::frame) leaves there; `room` is the number
@@ -10,29 +33,30 @@ use crate::TILE_WORDS;
 /// screen tile that has too many commands; 9 where the words lent or the room don't suffice.
 ///
 /// ```
-/// use groatpocket::{fine, write_lists, words_needed, Paint, Path, Screen};
+/// use groatpocket::{fine, write_lists, words_needed, Paint, Path, Screen, WriteLists};
 /// // A path over one tile that its backdrop covers whole, in the colour 0x204060ff.
 /// let paths = Path { x0: 0, y0: 0, x1: 1, y1: 1, first: 0, beam: 7 }.words();
 /// let paints = Paint { colour: 0x204060ff, even_odd: false }.words();
 /// let mut words = vec![0; words_needed(1, 1, 1)];
-/// write_lists(&paths, &paints, &[1], &[0], &[0], 1, 1, 0, &mut words).unwrap();
+/// let lent = WriteLists {
+///     paths: &paths,
+///     paints: &paints,
+///     backdrops: &[1],
+///     stored: &[0],
+///     tally: &[0],
+///     cols: 1,
+///     rows: 1,
+///     room: 0,
+///     words: &mut words,
+/// };
+/// write_lists(lent).unwrap();
 /// assert_eq!(words[1..5], [2, 3, 0x204060ff, 0]);
 /// let mut pixels = [0; 256];
 /// fine(&words, &[], Screen { width: 16, cols: 1, rows: 1 }, 0, 1, &mut pixels).unwrap();
 /// assert!(pixels.iter().all(|p| *p == 0xff604020));
 /// ```
-#[allow(clippy::too_many_arguments)]
-pub fn write_lists(
-    paths: &[u32],
-    paints: &[u32],
-    backdrops: &[i32],
-    stored: &[u32],
-    tally: &[u32],
-    cols: u32,
-    rows: u32,
-    room: u32,
-    words: &mut [u32],
-) -> Result<(), Refused> {
+pub fn write_lists(lent: WriteLists<'_>) -> Result<(), Refused> {
+    let WriteLists { paths, paints, backdrops, stored, tally, cols, rows, room, words } = lent;
     let mut item = UNTOLD;
     // SAFETY: as for `count`.
     #[rustfmt::skip]

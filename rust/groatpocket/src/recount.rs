@@ -20,6 +20,31 @@ impl fmt::Display for RecountStopped {
 
 impl core::error::Error for RecountStopped {}
 
+/// What [`recount`] is lent, by name.
+#[derive(Debug)]
+pub struct Recount<'a> {
+    /// The path that is counted again.
+    pub path: u32,
+    /// Each line's own number.
+    pub line_nos: &'a [u32],
+    /// The path number of each line.
+    pub path_nos: &'a [u32],
+    /// The lines, [`LINE_FLOATS`](crate::LINE_FLOATS) each.
+    pub coords: &'a [f32],
+    /// The paths: the words of a [`Path`](crate::Path) each.
+    pub paths: &'a [u32],
+    /// One to a tile, as [`count`](crate::count) leaves them.
+    pub backdrops: &'a mut [i32],
+    /// One to a tile, as [`count`](crate::count) leaves them.
+    pub counts: &'a mut [u32],
+    /// This path's references: the words of a [`Reference`](crate::Reference) each.
+    pub refs: &'a mut [u32],
+    /// As long as the path's range: keeps its backdrops.
+    pub kept_backdrops: &'a mut [i32],
+    /// As long as the path's range: keeps its counts.
+    pub kept_counts: &'a mut [u32],
+}
+
 /// Counts a path's lines again: its tiles are zeroed and the lines lent counted into them; no tile of
 /// another path changes. It works on counts and backdrops as [`count`](crate::count) leaves them, before
 /// the sums and hand-out, and answers how many references it made. `refs` is a list of this path alone.
@@ -27,45 +52,70 @@ impl core::error::Error for RecountStopped {}
 /// the path's range, and hold afterwards what it held; where a line is refused, the range gets it back.
 ///
 /// ```
-/// use groatpocket::{count, recount, Path, Refusal, Running, REF_WORDS};
+/// use groatpocket::{count, recount, Count, Path, Recount, Refusal, Running, REF_WORDS};
 /// // Path 0: a box of two by two tiles, from tile 0 on.
 /// let paths = Path { x0: 0, y0: 0, x1: 2, y1: 2, first: 0, beam: 7 }.words();
 /// let (mut backdrops, mut counts, mut refs) = ([0; 4], [0; 4], [0; 4 * REF_WORDS]);
-/// count(
-///     Running::default(), 1, &[0], &[8.0, 8.0, 8.0, 24.0], &paths, &mut backdrops, &mut counts, &mut refs,
-/// ).unwrap();
+/// let lent = Count {
+///     path_nos: &[0],
+///     coords: &[8.0, 8.0, 8.0, 24.0],
+///     paths: &paths,
+///     backdrops: &mut backdrops,
+///     counts: &mut counts,
+///     refs: &mut refs,
+///     end: 1,
+/// };
+/// count(Running::default(), lent).unwrap();
 /// assert_eq!((backdrops, counts), ([0, 0, 0, -1], [1, 0, 1, 0]));
 ///
 /// // The gauge moves 16 pixels to the right.
 /// let (mut kept_backdrops, mut kept_counts) = ([0; 4], [0; 4]);
-/// let made = recount(
-///     0, &[0], &[0], &[24.0, 8.0, 24.0, 24.0], &paths, &mut backdrops, &mut counts, &mut refs,
-///     &mut kept_backdrops, &mut kept_counts,
-/// ).unwrap();
+/// let lent = Recount {
+///     path: 0,
+///     line_nos: &[0],
+///     path_nos: &[0],
+///     coords: &[24.0, 8.0, 24.0, 24.0],
+///     paths: &paths,
+///     backdrops: &mut backdrops,
+///     counts: &mut counts,
+///     refs: &mut refs,
+///     kept_backdrops: &mut kept_backdrops,
+///     kept_counts: &mut kept_counts,
+/// };
+/// let made = recount(lent).unwrap();
 /// assert_eq!((made, backdrops, counts), (2, [0; 4], [0, 1, 0, 1]));
 /// assert_eq!((kept_backdrops, kept_counts), ([0, 0, 0, -1], [1, 0, 1, 0]));
 ///
 /// // A line of another path is refused, and the tiles are as before.
-/// let stopped = recount(
-///     0, &[3], &[1], &[24.0, 8.0, 24.0, 24.0], &paths, &mut backdrops, &mut counts, &mut refs,
-///     &mut kept_backdrops, &mut kept_counts,
-/// ).unwrap_err();
+/// let lent = Recount {
+///     path: 0,
+///     line_nos: &[3],
+///     path_nos: &[1],
+///     coords: &[24.0, 8.0, 24.0, 24.0],
+///     paths: &paths,
+///     backdrops: &mut backdrops,
+///     counts: &mut counts,
+///     refs: &mut refs,
+///     kept_backdrops: &mut kept_backdrops,
+///     kept_counts: &mut kept_counts,
+/// };
+/// let stopped = recount(lent).unwrap_err();
 /// assert_eq!((stopped.refused.refusal, stopped.refused.item), (Refusal::NoSuch, 3));
 /// assert_eq!((backdrops, counts), ([0; 4], [0, 1, 0, 1]));
 /// ```
-#[allow(clippy::too_many_arguments)]
-pub fn recount(
-    path: u32,
-    line_nos: &[u32],
-    path_nos: &[u32],
-    coords: &[f32],
-    paths: &[u32],
-    backdrops: &mut [i32],
-    counts: &mut [u32],
-    refs: &mut [u32],
-    kept_backdrops: &mut [i32],
-    kept_counts: &mut [u32],
-) -> Result<u32, RecountStopped> {
+pub fn recount(lent: Recount<'_>) -> Result<u32, RecountStopped> {
+    let Recount {
+        path,
+        line_nos,
+        path_nos,
+        coords,
+        paths,
+        backdrops,
+        counts,
+        refs,
+        kept_backdrops,
+        kept_counts,
+    } = lent;
     let (mut made, mut item) = (UNTOLD, UNTOLD);
     // SAFETY: as for `count`.
     #[rustfmt::skip]

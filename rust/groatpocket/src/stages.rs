@@ -33,31 +33,47 @@ impl fmt::Display for Stopped {
 
 impl core::error::Error for Stopped {}
 
+/// What [`count`] is lent, by name.
+#[derive(Debug)]
+pub struct Count<'a> {
+    /// The path number of each line.
+    pub path_nos: &'a [u32],
+    /// The lines, [`LINE_FLOATS`](crate::LINE_FLOATS) each.
+    pub coords: &'a [f32],
+    /// The paths: the words of a [`Path`](crate::Path) each.
+    pub paths: &'a [u32],
+    /// One to a tile: the lines' marks are added.
+    pub backdrops: &'a mut [i32],
+    /// One to a tile: the lines' references are added.
+    pub counts: &'a mut [u32],
+    /// The references: the words of a [`Reference`](crate::Reference) each.
+    pub refs: &'a mut [u32],
+    /// The batch's end: lines below it are counted.
+    pub end: u32,
+}
+
 /// Counts the lines from `running.lines` up to `end` into `backdrops` and `counts`, and writes their
 /// references. It stops before the first line refused.
 ///
 /// ```
-/// use groatpocket::{count, Path, Refusal, Running, REF_WORDS};
+/// use groatpocket::{count, Count, Path, Refusal, Running, REF_WORDS};
 /// let paths = Path { x0: 0, y0: 0, x1: 2, y1: 2, first: 0, beam: 7 }.words();
 /// // x is no number: the line is refused with 6, and nothing changes.
-/// let stopped = count(
-///     Running::default(), 1, &[0], &[f32::NAN, 0.0, 8.0, 24.0], &paths,
-///     &mut [0; 4], &mut [0; 4], &mut [0; 4 * REF_WORDS],
-/// ).unwrap_err();
+/// let lent = Count {
+///     path_nos: &[0],
+///     coords: &[f32::NAN, 0.0, 8.0, 24.0],
+///     paths: &paths,
+///     backdrops: &mut [0; 4],
+///     counts: &mut [0; 4],
+///     refs: &mut [0; 4 * REF_WORDS],
+///     end: 1,
+/// };
+/// let stopped = count(Running::default(), lent).unwrap_err();
 /// assert_eq!(stopped.refused.refusal, Refusal::Coordinate);
 /// assert_eq!(stopped.running, Running::default());
 /// ```
-#[allow(clippy::too_many_arguments)]
-pub fn count(
-    running: Running,
-    end: u32,
-    path_nos: &[u32],
-    coords: &[f32],
-    paths: &[u32],
-    backdrops: &mut [i32],
-    counts: &mut [u32],
-    refs: &mut [u32],
-) -> Result<Running, Stopped> {
+pub fn count(running: Running, lent: Count<'_>) -> Result<Running, Stopped> {
+    let Count { path_nos, coords, paths, backdrops, counts, refs, end } = lent;
     let (mut lines, mut made, mut item) = (running.lines, running.references, UNTOLD);
     // SAFETY: each pointer comes from a slice with its length, and the borrow rules keep them apart.
     #[rustfmt::skip]
@@ -100,9 +116,21 @@ pub fn backdrop(paths: &[u32], backdrops: &mut [i32]) -> Result<(), Refused> {
     answered(number, item)
 }
 
+/// What [`hand_out`] is lent, by name.
+#[derive(Debug)]
+pub struct HandOut<'a> {
+    /// One to a tile, as [`count`] leaves them; afterwards the stored words.
+    pub counts: &'a mut [u32],
+    /// One to a tile: keeps the counts.
+    pub tally: &'a mut [u32],
+    /// How many slots there are.
+    pub room: u32,
+}
+
 /// Hands out slots: a tile with a count above 0 takes so many and then holds the NOT of its first;
 /// an empty tile holds 0. The counts are kept in `tally`.
-pub fn hand_out(counts: &mut [u32], tally: &mut [u32], room: u32) -> Result<(), Refused> {
+pub fn hand_out(lent: HandOut<'_>) -> Result<(), Refused> {
+    let HandOut { counts, tally, room } = lent;
     // SAFETY: as for `count`.
     #[rustfmt::skip]
     let number = unsafe {
@@ -115,31 +143,55 @@ pub fn hand_out(counts: &mut [u32], tally: &mut [u32], room: u32) -> Result<(), 
     answered(number, 0)
 }
 
+/// What [`tile`] is lent, by name.
+#[derive(Debug)]
+pub struct Tile<'a> {
+    /// The path number of each line.
+    pub path_nos: &'a [u32],
+    /// The lines, [`LINE_FLOATS`](crate::LINE_FLOATS) each.
+    pub coords: &'a [f32],
+    /// The paths: the words of a [`Path`](crate::Path) each.
+    pub paths: &'a [u32],
+    /// One to a tile: what [`hand_out`] left in the counts.
+    pub stored: &'a [u32],
+    /// The references: the words of a [`Reference`](crate::Reference) each.
+    pub refs: &'a [u32],
+    /// The first reference of the range.
+    pub from: u32,
+    /// The range's end.
+    pub to: u32,
+    /// The segments: the floats of a [`Segment`](crate::Segment) to a slot.
+    pub segments: &'a mut [f32],
+    /// The tags: a beam number to a slot.
+    pub tags: &'a mut [u32],
+}
+
 /// Writes the segments of the references `from..to`, each at its slot, relative to its tile, and beside each its tag: the
 /// beam number of its line's path. It stops before the first refused. `stored` is what [`hand_out`] left in the counts. There are
 /// as many tags as segments, else 1; where nothing is written, segment and tag stay.
 ///
 /// ```
-/// use groatpocket::{tile, Path, Reference, SEGMENT_FLOATS};
+/// use groatpocket::{tile, Path, Reference, Tile, SEGMENT_FLOATS};
 /// // Step 0 of the one line of beam 7, in a tile whose slot is 1.
 /// let paths = Path { x0: 0, y0: 0, x1: 1, y1: 1, first: 0, beam: 7 }.words();
 /// let refs = Reference { line: 0, slice: 0, step: 0 }.words();
 /// let (mut segments, mut tags) = ([0.0; 3 * SEGMENT_FLOATS], [9; 3]);
-/// tile(0, 1, &[0], &[8.5, 2.0, 8.5, 6.0], &paths, &[!1], &refs, &mut segments, &mut tags).unwrap();
+/// let lent = Tile {
+///     path_nos: &[0],
+///     coords: &[8.5, 2.0, 8.5, 6.0],
+///     paths: &paths,
+///     stored: &[!1],
+///     refs: &refs,
+///     from: 0,
+///     to: 1,
+///     segments: &mut segments,
+///     tags: &mut tags,
+/// };
+/// tile(lent).unwrap();
 /// assert_eq!(tags, [9, 7, 9]);
 /// ```
-#[allow(clippy::too_many_arguments)]
-pub fn tile(
-    from: u32,
-    to: u32,
-    path_nos: &[u32],
-    coords: &[f32],
-    paths: &[u32],
-    stored: &[u32],
-    refs: &[u32],
-    segments: &mut [f32],
-    tags: &mut [u32],
-) -> Result<(), Refused> {
+pub fn tile(lent: Tile<'_>) -> Result<(), Refused> {
+    let Tile { path_nos, coords, paths, stored, refs, from, to, segments, tags } = lent;
     let mut item = UNTOLD;
     // SAFETY: as for `count`.
     #[rustfmt::skip]

@@ -15,7 +15,8 @@ fn counted(coords: &[f32], paths: &[u32], refs: &mut [u32]) -> Result<Running, S
     let path_nos = vec![0; coords.len() / LINE_FLOATS];
     let end = path_nos.len() as u32;
     let (mut b, mut c) = ([0; 4], [0; 4]);
-    count(Running::default(), end, &path_nos, coords, paths, &mut b, &mut c, refs)
+    let (backdrops, counts) = (&mut b[..], &mut c[..]);
+    count(Running::default(), Count { path_nos: &path_nos, coords, paths, backdrops, counts, refs, end })
 }
 
 #[test]
@@ -58,12 +59,15 @@ fn batches_make_what_one_batch_makes() {
     let coords = [4.0, 4.0, 28.0, 4.0, 28.0, 4.0, 16.0, 28.0, 16.0, 28.0, 4.0, 4.0];
     let mut whole = ([0; 4], [0; 4], [0; 16 * REF_WORDS]);
     let mut cut = whole;
-    let (b, c, r) = (&mut whole.0, &mut whole.1, &mut whole.2);
-    let all = count(Running::default(), 3, &path_nos, &coords, &PATHS, b, c, r).unwrap();
+    type Tiles = ([i32; 4], [u32; 4], [u32; 16 * REF_WORDS]);
+    let batch = |running, end, (backdrops, counts, refs): &mut Tiles| {
+        let (path_nos, coords, paths) = (&path_nos[..], &coords[..], &PATHS[..]);
+        count(running, Count { path_nos, coords, paths, backdrops, counts, refs, end }).unwrap()
+    };
+    let all = batch(Running::default(), 3, &mut whole);
     let mut running = Running::default();
     for end in [1, 1, 3] {
-        let (b, c, r) = (&mut cut.0, &mut cut.1, &mut cut.2);
-        running = count(running, end, &path_nos, &coords, &PATHS, b, c, r).unwrap();
+        running = batch(running, end, &mut cut);
     }
     assert_eq!((running, cut), (all, whole));
     assert_eq!((all.lines, all.references), (3, 6));
@@ -102,20 +106,24 @@ fn sums_slots_and_segments() {
     let refused = backdrop(&boxed(2, 1, 0), &mut backdrops).unwrap_err();
     assert_eq!(refused.refusal, Refusal::SumOver);
     let (mut counts, mut tally) = ([1, 0, 1, 0], [0; 4]);
-    let refused = hand_out(&mut counts, &mut tally, 1).unwrap_err();
+    let refused = hand_out(HandOut { counts: &mut counts, tally: &mut tally, room: 1 }).unwrap_err();
     assert_eq!((refused.refusal, counts), (Refusal::NoRoom, [1, 0, 1, 0]));
-    hand_out(&mut counts, &mut tally, 2).unwrap();
+    hand_out(HandOut { counts: &mut counts, tally: &mut tally, room: 2 }).unwrap();
 
     let (path_nos, coords) = ([0], [8.0, 8.0, 8.0, 24.0]);
     let (mut segments, mut tags) = ([0.0; 2 * SEGMENT_FLOATS], [5, 5]);
     let refs = [0, 1, 9].map(|step| Reference { line: 0, slice: 0, step }.words()).concat();
-    tile(0, 1, &path_nos, &coords, &PATHS, &counts, &refs, &mut segments, &mut tags).unwrap();
+    let tiled = |from, to, segments: &mut [f32], tags: &mut [u32]| {
+        let (path_nos, coords, paths) = (&path_nos[..], &coords[..], &PATHS[..]);
+        tile(Tile { path_nos, coords, paths, stored: &counts, refs: &refs, from, to, segments, tags })
+    };
+    tiled(0, 1, &mut segments, &mut tags).unwrap();
     assert_eq!(tags, [BEAM, 5]);
-    tile(1, 2, &path_nos, &coords, &PATHS, &counts, &refs, &mut segments, &mut tags).unwrap();
+    tiled(1, 2, &mut segments, &mut tags).unwrap();
     assert_eq!(tags, [BEAM, BEAM]);
     let first = Segment { point0: [7.999999, 8.0], point1: [7.999999, 16.0], y_edge: Segment::NO_EDGE };
     assert_eq!(Segment::of(&segments), first);
-    let refused = tile(2, 3, &path_nos, &coords, &PATHS, &counts, &refs, &mut segments, &mut tags);
+    let refused = tiled(2, 3, &mut segments, &mut tags);
     assert_eq!(refused.unwrap_err().refusal, Refusal::Outside);
 }
 
@@ -128,7 +136,17 @@ fn a_tag_is_the_number_of_its_lines_path() {
     let refs = [0, 1, 2].map(|line| Reference { line, slice: 0, step: 0 }.words()).concat();
     let asked = |stored: [u32; 3], from: u32, to: u32, slots: usize, tags: usize| {
         let (mut segments, mut tags) = (vec![0.5; SEGMENT_FLOATS * slots], vec![5; tags]);
-        let answer = tile(from, to, &path_nos, &coords, &paths, &stored, &refs, &mut segments, &mut tags);
+        let answer = tile(Tile {
+            path_nos: &path_nos,
+            coords: &coords,
+            paths: &paths,
+            stored: &stored,
+            refs: &refs,
+            from,
+            to,
+            segments: &mut segments,
+            tags: &mut tags,
+        });
         let written: Vec<bool> =
             segments.chunks(SEGMENT_FLOATS).map(|s| s != [0.5; SEGMENT_FLOATS]).collect();
         assert!(answer.is_err_and(|no| no.refusal == Refusal::NotWhole) || written.len() == tags.len());
@@ -171,21 +189,31 @@ fn a_frame_is_drawn() {
     let coords = [4.0, 0.0, 4.0, 16.0, 12.0, 16.0, 12.0, 0.0];
     let (mut b, mut t, mut y) = ([9; 4], [9; 4], [9; 4]);
     let (mut refs, mut segments, mut tags) = ([0; 4 * REF_WORDS], [0.0; 4 * SEGMENT_FLOATS], [5; 4]);
-    let done = frame(&[0, 0], &coords, &PATHS, &mut b, &mut t, &mut y, &mut refs, &mut segments, &mut tags);
+    let done = frame(Frame {
+        path_nos: &[0, 0],
+        coords: &coords,
+        paths: &PATHS,
+        backdrops: &mut b,
+        stored: &mut t,
+        tally: &mut y,
+        refs: &mut refs,
+        segments: &mut segments,
+        tags: &mut tags,
+    });
     assert_eq!((done.unwrap().references, tags), (2, [BEAM, BEAM, 5, 5]));
     let mut words = vec![7; words_needed(2, 2, 1)];
-    write_lists(
-        &PATHS,
-        &Paint { colour: 0xffffffff, even_odd: false }.words(),
-        &b,
-        &t,
-        &y,
-        2,
-        2,
-        4,
-        &mut words,
-    )
-    .unwrap();
+    let lent = WriteLists {
+        paths: &PATHS,
+        paints: &Paint { colour: 0xffffffff, even_odd: false }.words(),
+        backdrops: &b,
+        stored: &t,
+        tally: &y,
+        cols: 2,
+        rows: 2,
+        room: 4,
+        words: &mut words,
+    };
+    write_lists(lent).unwrap();
     let screen = Screen { width: 32, cols: 2, rows: 2 };
     let mut pixels = [0; 1_024];
     fine(&words, &segments, screen, 0, 4, &mut pixels).unwrap();
@@ -202,8 +230,18 @@ fn a_frame_says_which_part_refused() {
         let (mut b, mut t, mut y) = ([9; 4], [9; 4], vec![9; tally]);
         let (mut refs, mut segments) = (vec![0; REF_WORDS * refs], vec![0.0; SEGMENT_FLOATS * slots]);
         let mut tags = vec![5; tags];
-        frame(&[0], coords, &PATHS, &mut b, &mut t, &mut y, &mut refs, &mut segments, &mut tags)
-            .map_err(|s| (s.stage, s.refused.refusal, b[0]))
+        let lent = Frame {
+            path_nos: &[0],
+            coords,
+            paths: &PATHS,
+            backdrops: &mut b,
+            stored: &mut t,
+            tally: &mut y,
+            refs: &mut refs,
+            segments: &mut segments,
+            tags: &mut tags,
+        };
+        frame(lent).map_err(|s| (s.stage, s.refused.refusal, b[0]))
     };
     let stage =
         |coords: &[f32], tally: usize, refs: usize, slots: usize| tagged(coords, tally, refs, slots, slots);
@@ -223,8 +261,18 @@ fn lists_are_refused_whole() {
     let mut words = [7; TILE_WORDS];
     let paint = Paint { colour: 1, even_odd: false }.words();
     let mut number = |tally: u32, stored: u32, room: u32, tiles: u32| {
-        write_lists(&boxed(1, 1, 0), &paint, &[1], &[stored], &[tally], tiles, 1, room, &mut words)
-            .map_err(|r| r.refusal.number())
+        let lent = WriteLists {
+            paths: &boxed(1, 1, 0),
+            paints: &paint,
+            backdrops: &[1],
+            stored: &[stored],
+            tally: &[tally],
+            cols: tiles,
+            rows: 1,
+            room,
+            words: &mut words,
+        };
+        write_lists(lent).map_err(|r| r.refusal.number())
     };
     assert_eq!(number(1, !4, 4, 1), Err(9));
     assert_eq!(number(1, 0, 4, 1), Err(9));

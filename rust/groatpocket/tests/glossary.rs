@@ -22,13 +22,30 @@ fn example() {
     let said = text().split_once("its path record is ").unwrap().1.split_once('.').unwrap().0.to_string();
     assert_eq!(said, paths.map(|w| w.to_string()).join(", "));
     let (mut backdrops, mut counts, mut refs) = ([0; 4], [0; 4], [0; 5 * REF_WORDS]);
-    let made =
-        count(Running::default(), 2, &path_nos, &coords, &paths, &mut backdrops, &mut counts, &mut refs);
-    assert_eq!(made.unwrap().references, 5);
+    let lent = Count {
+        path_nos: &path_nos,
+        coords: &coords,
+        paths: &paths,
+        backdrops: &mut backdrops,
+        counts: &mut counts,
+        refs: &mut refs,
+        end: 2,
+    };
+    assert_eq!(count(Running::default(), lent).unwrap().references, 5);
     let (mut sums, mut tiles, mut tally) = ([9; 4], [9; 4], [9; 4]);
     let (mut segments, mut tags) = ([0.0; 5 * SEGMENT_FLOATS], [9; 5]);
-    frame(&path_nos, &coords, &paths, &mut sums, &mut tiles, &mut tally, &mut refs, &mut segments, &mut tags)
-        .unwrap();
+    let lent = Frame {
+        path_nos: &path_nos,
+        coords: &coords,
+        paths: &paths,
+        backdrops: &mut sums,
+        stored: &mut tiles,
+        tally: &mut tally,
+        refs: &mut refs,
+        segments: &mut segments,
+        tags: &mut tags,
+    };
+    frame(lent).unwrap();
 
     let references = rows("| Reference | Words | Line | Step | Tile | Slice number | Slot |");
     for (n, words) in refs.chunks(REF_WORDS).enumerate() {

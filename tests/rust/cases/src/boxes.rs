@@ -2,7 +2,7 @@
 
 use crate::Rng;
 use rules::limits::{EDGE_MOST, PATH};
-use rules::records::{beam_at, paths_in, stamped, BEAM, FIRST};
+use rules::records::{beam_at, paths_in, stamped, words_of, BEAM};
 
 pub const KINDS: u64 = 9;
 
@@ -39,14 +39,15 @@ pub fn any(rng: &mut Rng, most: i64) -> [i64; 4] {
     of_kind(rng, kind, most)
 }
 
-/// Any word, and now and then the number of a path before it.
-fn beam(rng: &mut Rng, before: &[u32]) -> u32 {
-    let n = paths_in(before);
-    if n > 0 && rng.one_in(6) {
-        return beam_at(before, rng.below(n as u64) as usize);
+/// A beam number for a path with this box and first tile: any word, and now and then that of a path before it. It comes from what is there and
+/// draws nothing from the case's own stream, so that boxes and lines of a seed don't depend on it.
+fn beam(b: [u32; 4], first: u32, before: &[u32]) -> u32 {
+    let mut own = b.iter().fold(Rng::of_case(first as u64, paths_in(before) as u64), |mut rng, &edge| Rng::of_case(rng.u64(), edge as u64));
+    let (n, any) = (paths_in(before), own.u32());
+    if n > 0 && own.one_in(6) {
+        return beam_at(before, own.below(n as u64) as usize);
     }
-    let any = rng.u32();
-    rng.pick(&[0, 1, u32::MAX, any, any, any])
+    own.pick(&[0, 1, u32::MAX, any, any, any])
 }
 
 /// A table of `n` good paths with gaps now and then, and the number of tiles.
@@ -55,8 +56,8 @@ pub fn table(rng: &mut Rng, n: usize, most: i64) -> (Vec<u32>, usize) {
     let mut next = if rng.one_in(4) { rng.range(0, 5) } else { 0 };
     for _ in 0..n {
         let b = any(rng, most);
-        let beam = beam(rng, &paths);
-        paths.extend(stamped(b.map(|v| v as u32), next as u32, beam));
+        let edges = b.map(|v| v as u32);
+        paths.extend(stamped(edges, next as u32, beam(edges, next as u32, &paths)));
         next += (b[2] - b[0]) * (b[3] - b[1]);
         if rng.one_in(4) {
             next += rng.range(0, 5);
@@ -67,13 +68,12 @@ pub fn table(rng: &mut Rng, n: usize, most: i64) -> (Vec<u32>, usize) {
 
 /// One word of the table altered so that 3 or 4 may follow; now and then it still passes.
 pub fn spoil(rng: &mut Rng, paths: &mut [u32], tiles: usize) {
-    if paths.is_empty() {
+    if paths_in(paths) == 0 {
         return;
     }
-    let mut k = rng.below(paths.len() as u64) as usize;
-    if k % PATH == BEAM && !rng.one_in(4) {
-        k -= BEAM - FIRST; // any word is a beam number
-    }
+    // any word is a beam number: one of those that stand before it
+    let which = rng.below((BEAM * paths_in(paths)) as u64) as usize;
+    let k = words_of(which / BEAM).start + which % BEAM;
     paths[k] = match rng.below(9) {
         0 => EDGE_MOST as u32,
         1 => EDGE_MOST as u32 + 1,

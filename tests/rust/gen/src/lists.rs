@@ -426,6 +426,7 @@ fn hand_out_case(counts: &[u32], tally: &[u32], room: u32) -> Written {
     }
 }
 
+#[derive(Clone)]
 struct Tiling {
     path_nos: Vec<u32>,
     coords: Vec<u32>,
@@ -537,6 +538,9 @@ pub fn tiling() -> String {
                 references += refs_in(&tiling.refs);
             }
             list.case(&written);
+            if round == 20 {
+                list.case(&Tiling { tags: Some([tiling.room + 1, SEGMENT * tiling.room + 1][family % 2]), ..tiling.clone() }.written());
+            }
             if round % 5 == 0 {
                 invented(&mut list, &mut rng, tiling);
             }
@@ -554,8 +558,7 @@ fn invented(list: &mut List, rng: &mut Rng, mut tiling: Tiling) {
     if all == 0 || tiling.stored.is_empty() {
         return;
     }
-    match rng.below(9) {
-        8 => tiling.tags = Some(rng.pick(&[0, tiling.room.saturating_sub(1), tiling.room + 1, SEGMENT * tiling.room])),
+    match rng.below(8) {
         0 => tiling.refs[rng.below(all) as usize] = rng.u32(),
         1 => tiling.refs[ref_words(rng.below(all) as usize / REF).start + PACKED] += 1 + rng.below(4) as u32,
         2 => tiling.stored[0] = rng.pick(&[0, 5, 0x7fff_ffff, u32::MAX, 0x8000_0000]),

@@ -25,7 +25,7 @@ pub fn count(
         return unsafe { groatpocket::raw::gp_count(crate::null::at(path_nos), path_nos.len(), crate::null::at(coords), coords.len(), crate::null::at(paths), paths.len(), crate::null::at_mut(backdrops), backdrops.len(), crate::null::at_mut(counts), counts.len(), crate::null::at_mut(refs), refs.len(), end, lines, made, item) };
     }
     #[cfg(feature = "count")]
-    let answer = groatpocket::count(groatpocket::Running { lines: *lines, references: *made }, end, path_nos, coords, paths, backdrops, counts, refs);
+    let answer = groatpocket::count(groatpocket::Running { lines: *lines, references: *made }, groatpocket::Count { path_nos, coords, paths, backdrops, counts, refs, end });
     #[cfg(feature = "count")]
     return crate::answers::lines_made_item(answer, lines, made, item);
     #[cfg(not(feature = "count"))]
@@ -61,7 +61,7 @@ pub fn hand_out(
         return unsafe { groatpocket::raw::gp_hand_out(crate::null::at_mut(counts), counts.len(), crate::null::at_mut(tally), tally.len(), room) };
     }
     #[cfg(feature = "hand_out")]
-    let answer = groatpocket::hand_out(counts, tally, room);
+    let answer = groatpocket::hand_out(groatpocket::HandOut { counts, tally, room });
     #[cfg(feature = "hand_out")]
     return crate::answers::nothing(answer);
     #[cfg(not(feature = "hand_out"))]
@@ -86,7 +86,7 @@ pub fn tile(
         return unsafe { groatpocket::raw::gp_tile(crate::null::at(path_nos), path_nos.len(), crate::null::at(coords), coords.len(), crate::null::at(paths), paths.len(), crate::null::at(stored), stored.len(), crate::null::at(refs), refs.len(), from, to, crate::null::at_mut(segments), segments.len(), crate::null::at_mut(tags), tags.len(), item) };
     }
     #[cfg(feature = "tile")]
-    let answer = groatpocket::tile(from, to, path_nos, coords, paths, stored, refs, segments, tags);
+    let answer = groatpocket::tile(groatpocket::Tile { path_nos, coords, paths, stored, refs, from, to, segments, tags });
     #[cfg(feature = "tile")]
     return crate::answers::item(answer, item);
     #[cfg(not(feature = "tile"))]
@@ -167,7 +167,7 @@ pub fn frame(
         return unsafe { groatpocket::raw::gp_frame(crate::null::at(path_nos), path_nos.len(), crate::null::at(coords), coords.len(), crate::null::at(paths), paths.len(), crate::null::at_mut(backdrops), backdrops.len(), crate::null::at_mut(stored), stored.len(), crate::null::at_mut(tally), tally.len(), crate::null::at_mut(refs), refs.len(), crate::null::at_mut(segments), segments.len(), crate::null::at_mut(tags), tags.len(), stage, item, lines, made) };
     }
     #[cfg(feature = "frame")]
-    let answer = groatpocket::frame(path_nos, coords, paths, backdrops, stored, tally, refs, segments, tags);
+    let answer = groatpocket::frame(groatpocket::Frame { path_nos, coords, paths, backdrops, stored, tally, refs, segments, tags });
     #[cfg(feature = "frame")]
     return crate::answers::stage_item_lines_made(answer, stage, item, lines, made);
     #[cfg(not(feature = "frame"))]
@@ -192,7 +192,7 @@ pub fn write_lists(
         return unsafe { groatpocket::raw::gp_write_lists(crate::null::at(paths), paths.len(), crate::null::at(paints), paints.len(), crate::null::at(backdrops), backdrops.len(), crate::null::at(stored), stored.len(), crate::null::at(tally), tally.len(), cols, rows, room, crate::null::at_mut(words), words.len(), item) };
     }
     #[cfg(feature = "lists")]
-    let answer = groatpocket::write_lists(paths, paints, backdrops, stored, tally, cols, rows, room, words);
+    let answer = groatpocket::write_lists(groatpocket::WriteLists { paths, paints, backdrops, stored, tally, cols, rows, room, words });
     #[cfg(feature = "lists")]
     return crate::answers::item(answer, item);
     #[cfg(not(feature = "lists"))]
@@ -322,7 +322,7 @@ pub fn recount(
         return unsafe { groatpocket::raw::gp_recount(path, crate::null::at(line_nos), line_nos.len(), crate::null::at(path_nos), path_nos.len(), crate::null::at(coords), coords.len(), crate::null::at(paths), paths.len(), crate::null::at_mut(backdrops), backdrops.len(), crate::null::at_mut(counts), counts.len(), crate::null::at_mut(refs), refs.len(), crate::null::at_mut(kept_backdrops), kept_backdrops.len(), crate::null::at_mut(kept_counts), kept_counts.len(), made, item) };
     }
     #[cfg(feature = "recount")]
-    let answer = groatpocket::recount(path, line_nos, path_nos, coords, paths, backdrops, counts, refs, kept_backdrops, kept_counts);
+    let answer = groatpocket::recount(groatpocket::Recount { path, line_nos, path_nos, coords, paths, backdrops, counts, refs, kept_backdrops, kept_counts });
     #[cfg(feature = "recount")]
     return crate::answers::made_item(answer, made, item);
     #[cfg(not(feature = "recount"))]

@@ -22,6 +22,11 @@ impl Safe {
 /// A field of the safe crate that has a name of its own there.
 const ALIASES: [(&str, &str); 1] = [("references", "made")];
 
+/// A type's name without its lifetimes.
+fn bare(name: &str) -> &str {
+    name.split('<').next().unwrap_or(name)
+}
+
 fn named(list: &str, before: &str) -> Vec<(String, String)> {
     let lines = list.split(',').flat_map(|p| p.lines().map(str::trim).filter(|l| !l.is_empty() && !l.starts_with("//") && !l.starts_with('#')));
     lines.filter_map(|p| p.strip_prefix(before)?.split_once(": ")).map(|(n, t)| (n.to_string(), t.to_string())).collect()
@@ -34,7 +39,7 @@ pub fn read(text: &str) -> Safe {
     });
     let structs = text.split("\npub struct ").skip(1).filter_map(|s| {
         let (name, rest) = s.split_once(" {")?;
-        Some((name.to_string(), named(rest.split_once("\n}")?.0, "pub ")))
+        Some((bare(name).to_string(), named(rest.split_once("\n}")?.0, "pub ")))
     });
     let features = text.split("#[cfg(feature = \"").skip(1).filter_map(|f| {
         let (feature, rest) = f.split_once("\")]\npub use ")?;
@@ -102,7 +107,7 @@ fn safe_call(call: &Call, safe: &Safe) -> (String, Vec<String>) {
     let Some(params) = safe.functions.get(&call.name) else { fail(&format!("the safe crate has no {}", call.name)) };
     let mut bools = vec![];
     let argument = |(name, of): &(String, String)| {
-        let Some(fields) = safe.structs.get(of) else { return value(call, name, of) };
+        let Some(fields) = safe.structs.get(bare(of)) else { return value(call, name, of) };
         let each = fields.iter().map(|(field, of)| {
             if of == "bool" {
                 bools.push(field.clone());
@@ -114,7 +119,7 @@ fn safe_call(call: &Call, safe: &Safe) -> (String, Vec<String>) {
                 format!("{field}: {value}")
             }
         });
-        format!("groatpocket::{of} {{ {} }}", each.collect::<Vec<_>>().join(", "))
+        format!("groatpocket::{} {{ {} }}", bare(of), each.collect::<Vec<_>>().join(", "))
     };
     let arguments: Vec<String> = params.iter().map(argument).collect();
     (format!("groatpocket::{}({})", call.name, arguments.join(", ")), bools)
