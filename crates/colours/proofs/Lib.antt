@@ -1,3 +1,4 @@
 pub mod Bytes
 pub mod ByShift
 pub mod Traces
+pub mod SameByte
