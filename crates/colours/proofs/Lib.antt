@@ -2,3 +2,4 @@ pub mod Bytes
 pub mod ByShift
 pub mod Traces
 pub mod SameByte
+pub mod LayerLaws

@@ -1,14 +1,13 @@
 // Colours of four floats, red first, multiplied by their alpha: unpacked from a COLOR command's word,
-// laid over a tile's pixels, and packed for the screen. fine.rs, lines 34 to 49 and 153 to 165;
+// laid over a tile's pixels (src/layer.rt), and packed for the screen. fine.rs, lines 34 to 49 and 153 to 165;
 // docs/RULES.md, "Coverage and colour".
-use coverage::tile::TILE_SIZE;
+pub mod layer;
+
 use float32::pick;
 ghost use mathlib.Core.Path.{_≡_};
 ghost use mathlib.Core.Bool.{true};
 ghost use Prim.Native.Nat.{_<_};
-ghost use lib.ListN.{length};
-ghost use Rattle.coverage.specs.Tile.{tileSize};
-ghost use Rattle.colours.specs.Colour.{byteMany, channelOf, colourOf, overOf, compositeOf, byteOf, packOf};
+ghost use Rattle.colours.specs.Colour.{byteMany, channelOf, colourOf, overOf, byteOf, packOf};
 
 // One byte of a packed colour, from the bit `shift` on, as a float from 0 to 1.
 pub fn channel(x: u32, shift: u32) -> f32
@@ -40,20 +39,6 @@ pub fn over(px: [f32; 4], fg: [f32; 4], ai: f32) -> [f32; 4]
         px[2] * keep + b,
         px[3] * keep + a,
     ]
-}
-
-// The colour over each of a tile's pixels, by its coverage.
-pub fn composite(rgba: &mut [[f32; 4]; TILE_SIZE], area: &[f32], fg: [f32; 4])
-    requires { ⌜ (length (now rgba) ≡ tileSize) × (length (now area) ≡ tileSize) ⌝ }
-    ensures { λ _. ⌜ now (rgba .exit) ≡ compositeOf (now (area .entry)) fg (now (rgba .entry)) ⌝ }
-{
-    let mut i = 0usize;
-    while i < TILE_SIZE {
-        let px = rgba[i];
-        let next = over(px, fg, area[i]);
-        rgba[i] = next;
-        i += 1;
-    }
 }
 
 // From here up every float is a whole number.
