@@ -135,7 +135,7 @@ round-cast x p =
     (whole-cast (near-div (p .m * up (p .e)) (down (p .e))) (nearest-small (p .m * up (p .e)) (down (p .e)) (down-pos (p .e)) (p .most)))
 
 -- ---- the byte of what is kept
-zero-byte : toUnsigned 32 (roundOf (mul binary32 zero byteMost)) ≡ 0
+pub zero-byte : toUnsigned 32 (roundOf (mul binary32 zero byteMost)) ≡ 0
 unfolding ofBits mul roundOf round toUnsigned
 zero-byte = refl
 
@@ -146,7 +146,7 @@ zero-whole = refl
 abbrev byteAt : Float → ℕ
 byteAt z = toUnsigned 32 (roundOf (mul binary32 z byteMost))
 
-kept-byte : (v : Float) → T (fits binary32 v) → byteOf v ≡ toUnsigned 32 (roundOf (scaled v))
+pub kept-byte : (v : Float) → T (fits binary32 v) → byteOf v ≡ toUnsigned 32 (roundOf (scaled v))
 unfolding byteOf clampOf ofBits lt le
 kept-byte nan h = nan-byte ∙ sym zero-byte
 kept-byte (inf true) h = refl

@@ -1,2 +1,3 @@
 -- Colours, a pixel at a time. Definitions only.
 pub mod Colour
+pub mod Layer

@@ -1,13 +1,13 @@
 // Colours of four floats, red first, multiplied by their alpha: unpacked from a COLOR command's word,
-// laid over a tile's pixels, and packed for the screen. fine.rs, lines 34 to 49 and 153 to 165;
+// laid over a tile's pixels (src/layer.rt), and packed for the screen. fine.rs, lines 34 to 49 and 153 to 165;
 // docs/RULES.md, "Coverage and colour".
-use coverage::tile::TILE_SIZE;
+pub mod layer;
+
 use float32::pick;
 ghost use mathlib.Core.Path.{_≡_};
+ghost use mathlib.Core.Bool.{true};
 ghost use Prim.Native.Nat.{_<_};
-ghost use lib.ListN.{length};
-ghost use Rattle.coverage.specs.Tile.{tileSize};
-ghost use Rattle.colours.specs.Colour.{byteMany, channelOf, colourOf, overOf, compositeOf, byteOf, packOf};
+ghost use Rattle.colours.specs.Colour.{byteMany, channelOf, colourOf, overOf, byteOf, packOf};
 
 // One byte of a packed colour, from the bit `shift` on, as a float from 0 to 1.
 pub fn channel(x: u32, shift: u32) -> f32
@@ -41,20 +41,6 @@ pub fn over(px: [f32; 4], fg: [f32; 4], ai: f32) -> [f32; 4]
     ]
 }
 
-// The colour over each of a tile's pixels, by its coverage.
-pub fn composite(rgba: &mut [[f32; 4]; TILE_SIZE], area: &[f32], fg: [f32; 4])
-    requires { ⌜ (length (now rgba) ≡ tileSize) × (length (now area) ≡ tileSize) ⌝ }
-    ensures { λ _. ⌜ now (rgba .exit) ≡ compositeOf (now (area .entry)) fg (now (rgba .entry)) ⌝ }
-{
-    let mut i = 0usize;
-    while i < TILE_SIZE {
-        let px = rgba[i];
-        let next = over(px, fg, area[i]);
-        rgba[i] = next;
-        i += 1;
-    }
-}
-
 // From here up every float is a whole number.
 const WHOLE: f32 = 8388608.0;
 
@@ -76,4 +62,18 @@ pub fn pack(px: [f32; 4]) -> u32
     ensures { λ r. ⌜ r ≡ packOf px ⌝ }
 {
     byte(px[0]) + 0x100 * byte(px[1]) + 0x1_0000 * byte(px[2]) + 0x100_0000 * byte(px[3])
+}
+
+// Whether two channels are equal: then so are their bytes, also of +0 and -0. A NaN is equal to nothing.
+fn one_byte(x: f32, y: f32) -> bool
+    ensures { λ r. ⌜ (r ≡ true → byteOf x ≡ byteOf y) ⌝ }
+{
+    x == y
+}
+
+// Whether two pixels are equal, channel by channel: then one word stands for both.
+pub fn one_word(a: [f32; 4], b: [f32; 4]) -> bool
+    ensures { λ r. ⌜ (r ≡ true → packOf a ≡ packOf b) ⌝ }
+{
+    one_byte(a[0], b[0]) & one_byte(a[1], b[1]) & one_byte(a[2], b[2]) & one_byte(a[3], b[3])
 }

@@ -5,7 +5,7 @@ use crate::steps::Move;
 use crate::steps::move_at;
 use crate::steps::op_of;
 use colours::colour;
-use colours::composite;
+use colours::layer::composite;
 use colours::over;
 use coverage::area::fill_path;
 use coverage::area::set_all;

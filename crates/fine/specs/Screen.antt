@@ -1,7 +1,8 @@
 -- A screen tile, pixel by pixel. Definitions only.
+use mathlib.Core.Path.{_≡_}
 use mathlib.Core.Bool.{Bool, cond, _&&_}
 use mathlib.Core.List.{List, []}
-use Prim.Native.Nat.{ℕ, _+_, _*_, _/_, _%_}
+use Prim.Native.Nat.{ℕ, _+_, _*_, _/_, _%_, _<_}
 use lib.Dec.{eqb}
 use lib.ListN.{getD, replicate}
 use lib.Ieee.{Float}
@@ -44,6 +45,10 @@ fromList rgba width p old = packed (λ k. getD rgba k []) width p old
 -- one word in each pixel
 abbrev pub oneWord : ℕ → ℕ → ℕ → ℕ
 oneWord word p old = word
+
+-- one word stands for all pixels of a row, from the first on: what the functions of a row tell each other, no promise leans on it
+abbrev pub OneWord : List (List Float) → ℕ → Type 0
+OneWord rgba first = (x : ℕ) → x < tileWidth → packOf (getD rgba (first + x) []) ≡ packOf (getD rgba first [])
 
 -- ---- what its commands make of it
 

@@ -1,5 +1,6 @@
 // A screen tile: its commands run on colours of its own, which go to the screen only where none is
 // refused; and a range of tiles.
+use colours::one_word;
 use colours::pack;
 use commands::numbers::LIST_START;
 use commands::numbers::TILE_WORDS;
@@ -12,14 +13,15 @@ use coverage::tile::TILE_WIDTH;
 use panel::kinds::Answer;
 use panel::kinds::Verdict;
 ghost use mathlib.Core.Path.{_≡_};
+ghost use mathlib.Core.Bool.{true};
 ghost use Prim.Native.Nat.{_+_, _*_, _/_, _%_, _≤_, _<_};
 ghost use lib.ListN.{length};
 ghost use Rattle.lists.specs.Grid.{mapi, within};
 ghost use Rattle.lists.specs.Sums as Numbers;
 ghost use Rattle.panel.specs.Limits.{mostTiles};
-ghost use Rattle.coverage.specs.Tile.{tileWidth, tileHeight};
+ghost use Rattle.coverage.specs.Tile.{tileWidth, tileHeight, tileSize};
 ghost use Rattle.commands.specs.Alike.{sameColour};
-ghost use Rattle.fine.specs.Screen.{oneWord, rowAt, fromList, putTile, endsAt, tilePixels};
+ghost use Rattle.fine.specs.Screen.{oneWord, OneWord, rowAt, fromList, putTile, endsAt, tilePixels};
 ghost use Rattle.fine.specs.Fine.{shown, tilesOf, shownOf};
 
 // A tile's colours, all the same.
@@ -29,7 +31,39 @@ pub fn same_colour(px: [f32; 4]) -> [[f32; 4]; TILE_SIZE]
     [px; TILE_SIZE]
 }
 
-// Row y of the tile in column tx and row ty of tiles, packed.
+// Row y of the tile, one word in each pixel.
+pub fn fill_row(pixels: &mut [u32], width: usize, tx: usize, ty: usize, y: usize, word: u32)
+    requires { ⌜ (tx < mostTiles) × (ty < mostTiles) × (y < tileHeight) × (tileWidth * tx + tileWidth ≤ width) × (rowAt width tx ty y + tileWidth ≤ length (now pixels)) ⌝ }
+    ensures { λ _. ⌜ now (pixels .exit) ≡ mapi (within (rowAt width tx ty y) (rowAt width tx ty y + tileWidth) (oneWord word)) (now (pixels .entry)) ⌝ }
+{
+    let base = width * (TILE_HEIGHT * ty + y) + TILE_WIDTH * tx;
+    let mut x = 0usize;
+    while x < TILE_WIDTH {
+        let at = base + x;
+        pixels[at] = word;
+        x += 1;
+    }
+}
+
+// Whether one word stands for all pixels of a row, the first of which is `first`.
+pub fn alike(rgba: &[[f32; 4]; TILE_SIZE], first: usize) -> bool
+    requires { ⌜ first + tileWidth ≤ tileSize ⌝ }
+    ensures { λ r. ⌜ (r ≡ true → OneWord (now (rgba .entry)) first) ⌝ }
+{
+    let one = rgba[first];
+    let mut x = 0usize;
+    while x < TILE_WIDTH {
+        let px = rgba[first + x];
+        let same = one_word(px, one);
+        if !same {
+            return false;
+        }
+        x += 1;
+    }
+    true
+}
+
+// Row y of the tile in column tx and row ty of tiles, packed: once where one word stands for all.
 pub fn put_row(
     pixels: &mut [u32],
     width: usize,
@@ -43,6 +77,10 @@ pub fn put_row(
 {
     let base = width * (TILE_HEIGHT * ty + y) + TILE_WIDTH * tx;
     let first = TILE_WIDTH * y;
+    if alike(rgba, first) {
+        fill_row(pixels, width, tx, ty, y, pack(rgba[first]));
+        return;
+    }
     let mut x = 0usize;
     while x < TILE_WIDTH {
         let px = rgba[first + x];
@@ -68,20 +106,6 @@ pub fn put_tile(
     while y < TILE_HEIGHT {
         put_row(pixels, width, tx, ty, y, rgba);
         y += 1;
-    }
-}
-
-// Row y of the tile, one word in each pixel.
-pub fn fill_row(pixels: &mut [u32], width: usize, tx: usize, ty: usize, y: usize, word: u32)
-    requires { ⌜ (tx < mostTiles) × (ty < mostTiles) × (y < tileHeight) × (tileWidth * tx + tileWidth ≤ width) × (rowAt width tx ty y + tileWidth ≤ length (now pixels)) ⌝ }
-    ensures { λ _. ⌜ now (pixels .exit) ≡ mapi (within (rowAt width tx ty y) (rowAt width tx ty y + tileWidth) (oneWord word)) (now (pixels .entry)) ⌝ }
-{
-    let base = width * (TILE_HEIGHT * ty + y) + TILE_WIDTH * tx;
-    let mut x = 0usize;
-    while x < TILE_WIDTH {
-        let at = base + x;
-        pixels[at] = word;
-        x += 1;
     }
 }
 

@@ -1,14 +1,16 @@
--- `fine::screen::put_row` meets its contract. The invariant: the row's pixels left of x are written. Assumes nothing.
-use mathlib.Core.Path.{_≡_, sym, ap, _∙_}
+-- `fine::screen::put_row` meets its contract: one word for all where `alike` says so; else the invariant is that the row's pixels left of x are written. Assumes nothing.
+use mathlib.Core.Path.{_≡_, sym, ap, subst, _∙_}
 use mathlib.Core.List.{List, []}
 use Prim.Native.Nat.{ℕ, _*_, _-_, _+_, _≤_, _<_}
 use lib.ListN.{getD, set}
 use denote.Ref.{now}
 use lib.Ieee.{Float}
+use Rattle.lists.specs.Grid.{mapi, within}
+use Rattle.lists.specs.GridLaws.{within-cong}
 use Rattle.coverage.specs.Tile.{tileWidth, tileHeight}
 use Rattle.ranges.proofs.Turn.{Done, begun-at, turned-at, ended-at}
 use Rattle.colours.specs.Colour.{packOf}
-use Rattle.fine.specs.Screen.{rowAt, fromList}
+use Rattle.fine.specs.Screen.{rowAt, placeOf, fromList, oneWord, OneWord}
 use Rattle.fine.proofs.Places.{place-in-row}
 use native.Mathlib.Omega.{arith}
 use borrow.Author.Needs.{needs}
@@ -20,6 +22,22 @@ turn : (rgba : List (List Float)) (w tx ty y x : ℕ) (l₀ l : List ℕ) (v : �
     (rowAt w tx ty y) (rowAt w tx ty y + (x + 1)) l₀ (set l (rowAt w tx ty y + x) v)
 turn rgba w tx ty y x l₀ l v hy hw hx done e =
     turned-at (fromList rgba w) 0 (rowAt w tx ty y) x l₀ l v done (e ∙ ap (λ (k : ℕ). packOf (getD rgba k [])) (sym (place-in-row w tx ty y hy hw x hx)))
+
+-- one word for all of the row
+once : (rgba : List (List Float)) (w tx ty y word : ℕ) (l m : List ℕ) → y < tileHeight → tileWidth * tx + tileWidth ≤ w → OneWord rgba (tileWidth * y)
+    → word ≡ packOf (getD rgba (tileWidth * y) []) → m ≡ mapi (within (rowAt w tx ty y) (rowAt w tx ty y + tileWidth) (oneWord word)) l
+    → m ≡ mapi (within (rowAt w tx ty y) (rowAt w tx ty y + tileWidth) (fromList rgba w)) l
+once rgba w tx ty y word l m hy hw one e h = h ∙ within-cong (oneWord word) (fromList rgba w) R (R + tileWidth) 0 l (λ p x lo hi. at p lo hi)
+  where
+    R : ℕ
+    R = rowAt w tx ty y
+
+    at : (p : ℕ) → R ≤ p → p < R + tileWidth → word ≡ packOf (getD rgba (placeOf w p) [])
+    at p lo hi =
+        let x = p - R in
+        let hx : x < tileWidth = omega (arith, lo, hi) in
+        let q : R + x ≡ p = omega (arith, lo) in
+        e ∙ sym (one x hx) ∙ ap (λ (k : ℕ). packOf (getD rgba k [])) (sym (place-in-row w tx ty y hy hw x hx) ∙ ap (placeOf w) q)
 
 abbrev Inv-loop : tie.InvT-loop
 Inv-loop pixels₀ width tx ty y rgba base first x₀ pixels x = (x ≤ tileWidth) × Done (fromList rgba width) base (base + x) pixels₀ pixels
@@ -45,8 +63,33 @@ add-base-2 c = search needs
 mul-first : tie.Need-mul-first Inv-loop μ-loop
 mul-first c = search needs
 
+alike-requires : tie.Need-alike-requires Inv-loop μ-loop
+alike-requires c κs = search needs
+
+mul-pack : tie.Need-mul-pack Inv-loop μ-loop
+mul-pack c = search needs
+
+element-copy-out-pack : tie.Need-element-copy-out-pack Inv-loop μ-loop
+element-copy-out-pack c = search needs
+
+pack-requires : tie.Need-pack-requires Inv-loop μ-loop
+pack-requires c κs = search needs
+
+fill-row-requires : tie.Need-fill-row-requires Inv-loop μ-loop
+fill-row-requires c κs = search needs
+
+same-length : tie.Need-same-length Inv-loop μ-loop
+same-length c = search needs
+
+returns : tie.Need-returns Inv-loop μ-loop
+returns c =
+    let a = c .before .before .before .before .before .before .before .before .before .args in
+    once (now (a .rgba)) (a .width) (a .tx) (a .ty) (a .y) _ _ _ (c .before .before .before .before .before .before .before .before .before .pre .2) (c .before .before .before .before .before .before .before .before .before .pre .3) (c .before .before .before .before .before .before .before .alike .ensures (c .before .before .before .before .before .before .if1 .taken)) (c .before .before .before .pack .ensures) (c .before .before .fill-row .ensures)
+
 loop-holds : tie.Need-loop-holds Inv-loop μ-loop
-loop-holds c = (search needs, begun-at (fromList (now (c .before .args .rgba)) (c .before .args .width)) 0 _ _)
+loop-holds c =
+    let a = c .before .before .before .args in
+    (search needs, begun-at (fromList (now (a .rgba)) (a .width)) 0 _ _)
 
 add-px : tie.Need-add-px Inv-loop μ-loop
 add-px c = search needs
@@ -57,8 +100,8 @@ mul-px c = search needs
 element-copy-out-px : tie.Need-element-copy-out-px Inv-loop μ-loop
 element-copy-out-px c = search needs
 
-pack-requires : tie.Need-pack-requires Inv-loop μ-loop
-pack-requires c κs = search needs
+pack-requires-2 : tie.Need-pack-requires-2 Inv-loop μ-loop
+pack-requires-2 c κs = search needs
 
 add-at : tie.Need-add-at Inv-loop μ-loop
 add-at c = search needs
@@ -77,18 +120,20 @@ loop-less c = search needs
 
 loop-again : tie.Need-loop-again Inv-loop μ-loop
 loop-again c =
-    let a = c .before .before .before .before .before .args in (
+    let a = c .before .before .before .before .before .before .before .args in
+    let l = c .before .before .before .loop in (
       search needs,
-      turn (now (a .rgba)) (a .width) (a .tx) (a .ty) (a .y) (c .before .before .before .loop .x) _ (c .before .before .before .loop .pixels) _
-          (c .before .before .before .before .before .pre .2) (c .before .before .before .before .before .pre .3) (c .before .before .loop-test .taken)
-          (c .before .before .before .loop .inv .1) (c .pack .ensures),
+      turn (now (a .rgba)) (a .width) (a .tx) (a .ty) (a .y) (l .x) _ (l .pixels) _ (c .before .before .before .before .before .before .before .pre .2) (c .before .before .before .before .before .before .before .pre .3) (c .before .before .loop-test .taken) (l .inv .1) (c .pack2 .ensures),
     )
 
-same-length : tie.Need-same-length Inv-loop μ-loop
-same-length c = c .before .loop .inv .1 .0
+same-length-2 : tie.Need-same-length-2 Inv-loop μ-loop
+same-length-2 c = c .before .loop .inv .1 .0
 
-returns : tie.Need-returns Inv-loop μ-loop
-returns c = ended-at (fromList (now (c .before .before .before .args .rgba)) (c .before .before .before .args .width)) 0 _ tileWidth (c .before .loop .x) _ _ (c .before .loop .inv .1) (omega arith)
+returns-2 : tie.Need-returns-2 Inv-loop μ-loop
+returns-2 c =
+    let a = c .before .before .before .before .before .args in
+    let l = c .before .loop in
+    ended-at (fromList (now (a .rgba)) (a .width)) 0 _ tileWidth (l .x) _ _ (l .inv .1) (omega arith)
 
 pub put-row-spec : {M : Type 1} → statement M
 put-row-spec =
@@ -102,16 +147,23 @@ put-row-spec =
     mul-base-3
     add-base-2
     mul-first
+    alike-requires
+    mul-pack
+    element-copy-out-pack
+    pack-requires
+    fill-row-requires
+    same-length
+    returns
     loop-holds
     add-px
     mul-px
     element-copy-out-px
-    pack-requires
+    pack-requires-2
     add-at
     mul-pixels
     slice-write-pixels
     add-x
     loop-less
     loop-again
-    same-length
-    returns)
+    same-length-2
+    returns-2)

@@ -1,0 +1,149 @@
+// A colour laid over a tile's pixels, row by row. A pixel's four floats are written out, and so are a row's
+// pixels: with no loop over pixels the compiler keeps a pixel in one register. Of a row whose areas are all
+// the same, what is added is computed once.
+use coverage::tile::TILE_HEIGHT;
+use coverage::tile::TILE_SIZE;
+use coverage::tile::TILE_WIDTH;
+ghost use mathlib.Core.Path.{_≡_};
+ghost use mathlib.Core.Bool.{true};
+ghost use Prim.Native.Nat.{_+_, _≤_, _<_};
+ghost use lib.ListN.{length, getD};
+ghost use lib.Ieee.{nan};
+ghost use Rattle.lists.specs.Grid.{mapi, within};
+ghost use Rattle.coverage.specs.Tile.{tileWidth, tileSize};
+ghost use Rattle.colours.specs.Colour.{compositeOf};
+ghost use Rattle.colours.specs.Layer.{shareOf, mixOf, mixed, each, Level};
+
+// What is added to a pixel of which the colour fg covers the part ai.
+pub fn share(fg: [f32; 4], ai: f32) -> [f32; 4]
+    ensures { λ r. ⌜ r ≡ shareOf fg ai ⌝ }
+{
+    [fg[0] * ai, fg[1] * ai, fg[2] * ai, fg[3] * ai]
+}
+
+// What a pixel is after that: of it 1 less the alpha added is kept.
+pub fn mix(px: [f32; 4], more: [f32; 4]) -> [f32; 4]
+    ensures { λ r. ⌜ r ≡ mixOf more px ⌝ }
+{
+    let keep = 1.0 - more[3];
+    [
+        px[0] * keep + more[0],
+        px[1] * keep + more[1],
+        px[2] * keep + more[2],
+        px[3] * keep + more[3],
+    ]
+}
+
+// To pixel i.
+pub fn add(rgba: &mut [[f32; 4]; TILE_SIZE], i: usize, more: [f32; 4])
+    requires { ⌜ i < tileSize ⌝ }
+    ensures { λ _. ⌜ now (rgba .exit) ≡ mapi (within i (i + 1) (mixed more)) (now (rgba .entry)) ⌝ }
+{
+    let px = rgba[i];
+    let next = mix(px, more);
+    rgba[i] = next;
+}
+
+// To four pixels from i on.
+pub fn add_four(rgba: &mut [[f32; 4]; TILE_SIZE], i: usize, more: [f32; 4])
+    requires { ⌜ i + 4 ≤ tileSize ⌝ }
+    ensures { λ _. ⌜ now (rgba .exit) ≡ mapi (within i (i + 4) (mixed more)) (now (rgba .entry)) ⌝ }
+{
+    add(rgba, i, more);
+    add(rgba, i + 1, more);
+    add(rgba, i + 2, more);
+    add(rgba, i + 3, more);
+}
+
+// To a row of pixels from i on.
+pub fn add_row(rgba: &mut [[f32; 4]; TILE_SIZE], i: usize, more: [f32; 4])
+    requires { ⌜ i + tileWidth ≤ tileSize ⌝ }
+    ensures { λ _. ⌜ now (rgba .exit) ≡ mapi (within i (i + tileWidth) (mixed more)) (now (rgba .entry)) ⌝ }
+{
+    add_four(rgba, i, more);
+    add_four(rgba, i + 4, more);
+    add_four(rgba, i + 8, more);
+    add_four(rgba, i + 12, more);
+}
+
+// The colour fg over pixel i, by its area.
+pub fn lay(rgba: &mut [[f32; 4]; TILE_SIZE], i: usize, fg: [f32; 4], area: &[f32])
+    requires { ⌜ (i < tileSize) × (length (now area) ≡ tileSize) ⌝ }
+    ensures { λ _. ⌜ now (rgba .exit) ≡ mapi (within i (i + 1) (each (now (area .entry)) fg)) (now (rgba .entry)) ⌝ }
+{
+    add(rgba, i, share(fg, area[i]));
+}
+
+// Over four pixels from i on.
+pub fn lay_four(rgba: &mut [[f32; 4]; TILE_SIZE], i: usize, fg: [f32; 4], area: &[f32])
+    requires { ⌜ (i + 4 ≤ tileSize) × (length (now area) ≡ tileSize) ⌝ }
+    ensures { λ _. ⌜ now (rgba .exit) ≡ mapi (within i (i + 4) (each (now (area .entry)) fg)) (now (rgba .entry)) ⌝ }
+{
+    lay(rgba, i, fg, area);
+    lay(rgba, i + 1, fg, area);
+    lay(rgba, i + 2, fg, area);
+    lay(rgba, i + 3, fg, area);
+}
+
+// Over a row of pixels from i on.
+pub fn lay_row(rgba: &mut [[f32; 4]; TILE_SIZE], i: usize, fg: [f32; 4], area: &[f32])
+    requires { ⌜ (i + tileWidth ≤ tileSize) × (length (now area) ≡ tileSize) ⌝ }
+    ensures { λ _. ⌜ now (rgba .exit) ≡ mapi (within i (i + tileWidth) (each (now (area .entry)) fg)) (now (rgba .entry)) ⌝ }
+{
+    lay_four(rgba, i, fg, area);
+    lay_four(rgba, i + 4, fg, area);
+    lay_four(rgba, i + 8, fg, area);
+    lay_four(rgba, i + 12, fg, area);
+}
+
+// Whether an area is v, and v above 0: of two zeros `==` can't tell which is -0.
+pub fn level(a: f32, v: f32) -> bool
+    ensures { λ r. ⌜ (r ≡ true → a ≡ v) ⌝ }
+{
+    (a == v) & (0.0 < v)
+}
+
+// Whether four areas from i on are.
+pub fn four_level(area: &[f32], i: usize, v: f32) -> bool
+    requires { ⌜ i + 4 ≤ length (now area) ⌝ }
+    ensures { λ r. ⌜ (r ≡ true → (getD (now (area .entry)) i nan ≡ v) × (getD (now (area .entry)) (i + 1) nan ≡ v)
+        × (getD (now (area .entry)) (i + 2) nan ≡ v) × (getD (now (area .entry)) (i + 3) nan ≡ v)) ⌝ }
+{
+    level(area[i], v) & level(area[i + 1], v) & level(area[i + 2], v) & level(area[i + 3], v)
+}
+
+// Whether a row's areas, from i on, are all the same.
+pub fn all_level(area: &[f32], i: usize) -> bool
+    requires { ⌜ i + tileWidth ≤ length (now area) ⌝ }
+    ensures { λ r. ⌜ (r ≡ true → Level (now (area .entry)) i) ⌝ }
+{
+    let v = area[i];
+    four_level(area, i, v)
+        & four_level(area, i + 4, v)
+        & four_level(area, i + 8, v)
+        & four_level(area, i + 12, v)
+}
+
+// The colour over a row of pixels from i on.
+pub fn over_row(rgba: &mut [[f32; 4]; TILE_SIZE], i: usize, fg: [f32; 4], area: &[f32])
+    requires { ⌜ (i + tileWidth ≤ tileSize) × (length (now area) ≡ tileSize) ⌝ }
+    ensures { λ _. ⌜ now (rgba .exit) ≡ mapi (within i (i + tileWidth) (each (now (area .entry)) fg)) (now (rgba .entry)) ⌝ }
+{
+    if all_level(area, i) {
+        add_row(rgba, i, share(fg, area[i]))
+    } else {
+        lay_row(rgba, i, fg, area)
+    }
+}
+
+// The colour over each of a tile's pixels, by its coverage.
+pub fn composite(rgba: &mut [[f32; 4]; TILE_SIZE], area: &[f32], fg: [f32; 4])
+    requires { ⌜ (length (now rgba) ≡ tileSize) × (length (now area) ≡ tileSize) ⌝ }
+    ensures { λ _. ⌜ now (rgba .exit) ≡ compositeOf (now (area .entry)) fg (now (rgba .entry)) ⌝ }
+{
+    let mut y = 0usize;
+    while y < TILE_HEIGHT {
+        over_row(rgba, TILE_WIDTH * y, fg, area);
+        y += 1;
+    }
+}
