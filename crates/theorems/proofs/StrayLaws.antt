@@ -54,7 +54,7 @@ use Rattle.theorems.proofs.Counting.{length-tiles}
 
 -- ---- what a reference comes to, where its slot is known: never an empty tile
 
-abbrev PutAt : ℕ → L.Look → Type 0
+abbrev pub PutAt : ℕ → L.Look → Type 0
 PutAt k (Put slot s) = slot .0 ≡ k
 PutAt k Empty = ⊥
 PutAt k (Against why) = Unit {0}
@@ -172,7 +172,7 @@ module _ (b : ℕ) (nos : List ℕ) (coords : List Float) (paths : List ℕ) (n 
   slot-is : (k : ℕ) → k < m → slotOf n (tilesEv es) k ≡ first cs (getD (tilesEv es) k 0) + sliceNo (packedAt rs k)
   slot-is k q = rw (ref-slice b nos coords paths n refs bs cs rs m all es h k q, ← h .counts)
 
-  look-put : (slots k : ℕ) → k < m → PutAt (slotOf n (tilesEv es) k) (lookOf lentNow slots k)
+  pub look-put : (slots k : ℕ) → k < m → PutAt (slotOf n (tilesEv es) k) (lookOf lentNow slots k)
   unfolding lookOf foundOf
   look-put slots k q = rw (slot-is k q) (go (ltb (lineAt rs k) (length nos)))
     where

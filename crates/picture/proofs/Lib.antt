@@ -1,0 +1,5 @@
+pub mod AtSlots
+pub mod Gather
+pub mod OwnPieces
+pub mod AtTile
+pub mod Windings

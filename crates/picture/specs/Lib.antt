@@ -1,0 +1,2 @@
+-- The picture as a function of the lines. Definitions only.
+pub mod Picture
