@@ -110,12 +110,24 @@ uint32_t gp_version(void);
     (GP_PREMULTIPLIED(red, alpha) << 24 | GP_PREMULTIPLIED(green, alpha) << 16 |             \
      GP_PREMULTIPLIED(blue, alpha) << 8 | (uint32_t)(alpha))
 
-/* The widths of the records, and the commands. */
-#define GP_PATH_WORDS 5u     /* box x0, y0, x1, y1 in tiles, then the first tile */
+/* The widths of the records, the places of their words, and the commands. */
+#define GP_PATH_WORDS 6u     /* box x0, y0, x1, y1 in tiles, the first tile, the beam number */
 #define GP_LINE_FLOATS 4u    /* p0.x, p0.y, p1.x, p1.y in pixels */
-#define GP_REF_WORDS 2u      /* line number; slice number * 65,536 + step number */
+#define GP_REF_WORDS 2u      /* line number; slice number * GP_STEP_RANGE + step number */
 #define GP_SEGMENT_FLOATS 5u /* point0.x, point0.y, point1.x, point1.y, y_edge */
 #define GP_PAINT_WORDS 2u    /* colour, red in the high byte; rule, its lowest bit set for even-odd */
+#define GP_PATH_X0 0u        /* where a path's words stand */
+#define GP_PATH_Y0 1u
+#define GP_PATH_X1 2u
+#define GP_PATH_Y1 3u
+#define GP_PATH_FIRST 4u
+#define GP_PATH_BEAM 5u
+#define GP_REF_LINE 0u       /* a reference's */
+#define GP_REF_PACKED 1u
+#define GP_STEP_RANGE 65536u /* its second word: slice number * GP_STEP_RANGE + step number */
+#define GP_SEGMENT_Y_EDGE 4u /* the last of a segment's floats */
+#define GP_PAINT_COLOUR 0u   /* a paint's */
+#define GP_PAINT_RULE 1u
 #define GP_CMD_END 0u
 #define GP_CMD_FILL 1u  /* then segments * 2 + (1 for even-odd), first segment, backdrop */
 #define GP_CMD_SOLID 2u /* one word: the next command follows at once */
@@ -123,11 +135,21 @@ uint32_t gp_version(void);
 #define GP_CMD_JUMP 4u  /* then the word to go on at */
 #define GP_TILE_WORDS 64u /* tile t's list starts at word 64 t + 1 */
 
+/* A path's words in their order, for the list in braces of an array: {GP_PATH(0, 0, 2, 2, 0, 7), GP_PATH(2, 0, 4, 2, 4, 8)}. */
+#define GP_PATH(x0, y0, x1, y1, first, beam) (x0), (y0), (x1), (y1), (first), (beam)
+
+/* Beam numbers and tags. A path's beam number is the one stamped on the steel. Any word is one, two paths may carry the
+ * same, and no call draws anything else for it. gp_tile and gp_frame write it beside each segment: tags has a word for
+ * each slot, and a slot's tag is the beam number of the path of the line whose piece the segment there is. So whoever
+ * draws or keeps segments can hold them against the beam they are meant for: the slots of a tile of path p carry p's
+ * number, and so do those of a FILL that gp_write_lists wrote for p. A slot that is not written keeps its tag, as it
+ * keeps its segment; so does the slot of a reference that is refused, or skipped for a tile with no slots. */
+
 /* What a 1 was for: each call says in which order it looks. "Whole" is a length that is so many times the
  * record's width. After 1 comes 2, then 16, then each path's 3 and 4 in order; after that what the call says.
  *
  * What a 9 would have needed: for references, *made and as many as the refused line has steps (GP_MAX_STEPS
- * always suffice for one line); for slots, the sum of the counts, which is *made where the tiles were clear;
+ * always suffice for one line); for slots, the sum of the counts, which is *made where the tiles were clear: a segment and a tag for each;
  * for a file, 3 bytes a pixel and at most 19 for its head; for lists see gp_write_lists. A 16 needs
  * a width of GP_TILE * cols, and width * GP_TILE * rows pixels. */
 
@@ -137,12 +159,12 @@ uint32_t gp_version(void);
 
 /* A whole frame: checks all that is lent, clears backdrops and counts, counts all lines, sums the
  * backdrops, hands out slots (as many as segments are lent) and tiles every reference. Afterwards
- * backdrops are the sums, stored what hand-out left, tally the counts, and segments below *made are
- * written.
+ * backdrops are the sums, stored what hand-out left, tally the counts, and segments and tags below
+ * *made are written.
  * Where it refuses, *stage says which part; *item is the line, path or reference; *lines and *made are
  * what was counted (0 and 0 where the checks refuse). What the parts before it did stands.
  * 1: coords whole; as many path_nos as lines; backdrops, stored and tally equally long; refs whole;
- * segments whole; paths whole. */
+ * segments whole; a tag for each segment; paths whole. */
 uint32_t gp_frame(const uint32_t *path_nos, size_t path_nos_len,
                   const float *coords, size_t coords_len,
                   const uint32_t *paths, size_t paths_len,
@@ -151,6 +173,7 @@ uint32_t gp_frame(const uint32_t *path_nos, size_t path_nos_len,
                   uint32_t *tally, size_t tally_len,
                   uint32_t *refs, size_t refs_len,
                   float *segments, size_t segments_len,
+                  uint32_t *tags, size_t tags_len,
                   uint32_t *stage, uint32_t *item, uint32_t *lines, uint32_t *made);
 
 /* The command lists of a screen of cols by rows tiles: the paths in their order, each with its paint.
@@ -217,17 +240,19 @@ uint32_t gp_backdrop(const uint32_t *paths, size_t paths_len,
 uint32_t gp_hand_out(uint32_t *counts, size_t counts_len,
                      uint32_t *tally, size_t tally_len, uint32_t room);
 
-/* Tiling: references from .. to, each writes its segment, relative to its tile, at its slot. Stops
- * before the first refused, with its number in *item. stored is what gp_hand_out left in counts.
- * 1: coords whole; as many path_nos as lines; paths whole; refs whole; segments whole; from <= to; to at
- * most the references lent. */
+/* Tiling: references from .. to, each writes its segment, relative to its tile, at its slot, and its
+ * path's beam number at that slot of tags. Stops before the first refused, with its number in *item.
+ * stored is what gp_hand_out left in counts.
+ * 1: coords whole; as many path_nos as lines; paths whole; refs whole; segments whole; a tag for each
+ * segment; from <= to; to at most the references lent. */
 uint32_t gp_tile(const uint32_t *path_nos, size_t path_nos_len,
                  const float *coords, size_t coords_len,
                  const uint32_t *paths, size_t paths_len,
                  const uint32_t *stored, size_t stored_len,
                  const uint32_t *refs, size_t refs_len,
                  uint32_t from, uint32_t to,
-                 float *segments, size_t segments_len, uint32_t *item);
+                 float *segments, size_t segments_len,
+                 uint32_t *tags, size_t tags_len, uint32_t *item);
 
 /* The coverage of the 256 pixels of one tile: number segments from first on, over the backdrop.
  * even_odd: 0 for non-zero, else even-odd. x_tile, y_tile: the tile's corner in the segments'

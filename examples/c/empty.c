@@ -18,7 +18,7 @@ int main(void) {
     float area = 9;
 
     /* A frame of no line and no path; then the lists and the pixels of a screen of no tile. */
-    say("frame", gp_frame(NULL, 0, NULL, 0, NULL, 0, NULL, 0, NULL, 0, NULL, 0, NULL, 0, NULL, 0, &stage, &item, &lines, &made));
+    say("frame", gp_frame(NULL, 0, NULL, 0, NULL, 0, NULL, 0, NULL, 0, NULL, 0, NULL, 0, NULL, 0, NULL, 0, &stage, &item, &lines, &made));
     printf("stage %u, item %u, lines %u, references %u\n", (unsigned)stage, (unsigned)item, (unsigned)lines, (unsigned)made);
     say("write_lists", gp_write_lists(NULL, 0, NULL, 0, NULL, 0, NULL, 0, NULL, 0, 0, 0, 0, NULL, 0, &item));
     say("fine", gp_fine(NULL, 0, NULL, 0, 0, 0, 0, 0, 0, NULL, 0, &item));
@@ -28,7 +28,7 @@ int main(void) {
     say("count", gp_count(NULL, 0, NULL, 0, NULL, 0, NULL, 0, NULL, 0, NULL, 0, 0, &lines, &made, &item));
     say("backdrop", gp_backdrop(NULL, 0, NULL, 0, &item));
     say("hand_out", gp_hand_out(NULL, 0, NULL, 0, 0));
-    say("tile", gp_tile(NULL, 0, NULL, 0, NULL, 0, NULL, 0, NULL, 0, 0, 0, NULL, 0, &item));
+    say("tile", gp_tile(NULL, 0, NULL, 0, NULL, 0, NULL, 0, NULL, 0, 0, 0, NULL, 0, NULL, 0, &item));
 
     /* Refused, each for its own reason, and nothing is touched. */
     say("fill", gp_fill(NULL, 0, 0, 0, 0, 0, 0, 0, NULL, 0));

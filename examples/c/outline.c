@@ -19,8 +19,8 @@ static const char *const texts[] = {
     "M8,4 h48 v8 h-16 q-4,0 -4,4 v16 q0,4 4,4 h16 v8 H8 v-8 h16 q4,0 4-4 V16 q0-4 -4-4 H8 Z "
     "M14,8 q0-2 2-2 2,0 2,2 0,2 -2,2 -2,0 -2-2 M46 40 q0-2 2-2 2,0 2,2 0,2 -2,2 -2,0 -2-2",
 };
-/* The beam may draw on the whole screen: its box, then its first tile. White, even-odd. */
-static const uint32_t paths[GP_PATH_WORDS] = {0, 0, COLS, ROWS, 0};
+/* The beam may draw on the whole screen: its box, its first tile, and the number stamped on it. White, even-odd. */
+static const uint32_t paths[GP_PATH_WORDS] = {GP_PATH(0, 0, COLS, ROWS, 0, 7)};
 static const uint32_t paints[GP_PAINT_WORDS] = {0xffffffff, 1};
 
 static uint32_t path_nos[LINES];
@@ -28,6 +28,7 @@ static float coords[LINES * GP_LINE_FLOATS];
 static int32_t backdrops[TILES];
 static uint32_t stored[TILES], tally[TILES], refs[ROOM * GP_REF_WORDS], words[WORDS], pixels[PIXELS];
 static float segments[ROOM * GP_SEGMENT_FLOATS];
+static uint32_t tags[ROOM];
 static uint8_t file[3 * PIXELS + 32];
 
 static int write_picture(const char *name) {
@@ -50,7 +51,8 @@ int main(int words_given, char **given) {
     if (no != GP_DONE) return 1;
 
     no = gp_frame(path_nos, lines, coords, lines * GP_LINE_FLOATS, paths, GP_PATH_WORDS, backdrops, TILES, stored, TILES,
-                  tally, TILES, refs, ROOM * GP_REF_WORDS, segments, ROOM * GP_SEGMENT_FLOATS, &stage, &item, &counted, &made);
+                  tally, TILES, refs, ROOM * GP_REF_WORDS, segments, ROOM * GP_SEGMENT_FLOATS, tags, ROOM,
+                  &stage, &item, &counted, &made);
     printf("frame: %u, lines %u, references %u\n", no, counted, made);
     if (no != GP_DONE) return 1;
 

@@ -14,16 +14,17 @@
 #define SLOTS 16
 
 int main(void) {
-    /* A triangle (4,4), (28,4), (16,28) as path 0, in a box of two by two tiles. */
+    /* A triangle (4,4), (28,4), (16,28) as path 0, in a box of two by two tiles, of the beam stamped 7. */
     const uint32_t path_nos[LINES] = {0, 0, 0};
     const float coords[LINES * GP_LINE_FLOATS] = {
         4, 4, 28, 4, 28, 4, 16, 28, 16, 28, 4, 4,
     };
-    const uint32_t paths[GP_PATH_WORDS] = {0, 0, 2, 2, 0};
+    const uint32_t paths[GP_PATH_WORDS] = {GP_PATH(0, 0, 2, 2, 0, 7)};
     int32_t backdrops[TILES] = {0};
     uint32_t counts[TILES] = {0}, tally[TILES] = {0};
     uint32_t refs[REFS * GP_REF_WORDS] = {0};
     float segments[SLOTS * GP_SEGMENT_FLOATS] = {0};
+    uint32_t tags[SLOTS] = {0};
     uint32_t words[TILES * GP_TILE_WORDS] = {0};
     uint32_t pixels[32 * 32] = {0};
     uint32_t lines = 0, made = 0, item = 0, no;
@@ -44,8 +45,10 @@ int main(void) {
 
     no = gp_tile(path_nos, LINES, coords, LINES * GP_LINE_FLOATS, paths, GP_PATH_WORDS,
                  counts, TILES, refs, REFS * GP_REF_WORDS, 0, made,
-                 segments, SLOTS * GP_SEGMENT_FLOATS, &item);
-    printf("tile: %u\n", no);
+                 segments, SLOTS * GP_SEGMENT_FLOATS, tags, SLOTS, &item);
+    printf("tile: %u, tags", no);
+    for (uint32_t k = 0; k < made; k++) printf(" %u", tags[k]);
+    putchar('\n');
     if (no != GP_DONE) return 1;
 
     /* A list of commands for each of the four screen tiles: fill, then orange. */

@@ -100,7 +100,7 @@ static struct scene scene_of(enum kind kind) {
 
 struct ours {
     size_t lines, paths, tiles, made;
-    uint32_t *path_nos, *boxes, *paints, *stored, *tally, *refs, *words, *pixels;
+    uint32_t *path_nos, *boxes, *paints, *stored, *tally, *refs, *tags, *words, *pixels;
     float *coords, *segments;
     int32_t *backdrops;
     size_t words_len, pixels_len;
@@ -136,16 +136,16 @@ static struct ours ours_of(const struct scene *s) {
         const struct polygon *one = &s->polygons[p];
         uint32_t box[4];
         box_of(one, box);
-        memcpy(o.boxes + GP_PATH_WORDS * p, box, sizeof box);
-        o.boxes[GP_PATH_WORDS * p + 4] = (uint32_t)o.tiles;
+        const uint32_t path[GP_PATH_WORDS] = {GP_PATH(box[0], box[1], box[2], box[3], (uint32_t)o.tiles, (uint32_t)p)};
+        memcpy(o.boxes + GP_PATH_WORDS * p, path, sizeof path);
         o.tiles += (size_t)(box[2] - box[0]) * (box[3] - box[1]);
         uint32_t r = times(one->red, one->alpha), g = times(one->green, one->alpha), b = times(one->blue, one->alpha);
-        o.paints[GP_PAINT_WORDS * p] = r << 24 | g << 16 | b << 8 | one->alpha;
+        o.paints[GP_PAINT_WORDS * p + GP_PAINT_COLOUR] = r << 24 | g << 16 | b << 8 | one->alpha;
         for (size_t k = 0; k < one->corners; k++, line++) {
             size_t next = (k + 1) % one->corners;
             o.path_nos[line] = (uint32_t)p;
             memcpy(o.coords + GP_LINE_FLOATS * line, one->points + 2 * k, 8);
-            memcpy(o.coords + GP_LINE_FLOATS * line + 2, one->points + 2 * next, 8);
+            memcpy(o.coords + GP_LINE_FLOATS * line + GP_LINE_FLOATS / 2, one->points + 2 * next, 8);
         }
     }
     o.backdrops = room(o.tiles, 4);
@@ -154,6 +154,7 @@ static struct ours ours_of(const struct scene *s) {
     o.made = 4000000;
     o.refs = room(GP_REF_WORDS * o.made, 4);
     o.segments = room(GP_SEGMENT_FLOATS * o.made, 4);
+    o.tags = room(o.made, 4);
     o.words_len = (size_t)GP_TILE_WORDS * COLS * ROWS * (1 + (o.paths + 9) / 10);
     o.words = room(o.words_len, 4);
     o.pixels_len = (size_t)WIDTH * ROWS * TILE;
@@ -173,7 +174,8 @@ static void ours_paint(struct ours *o, double took[3]) {
     uint32_t stage, item, lines, made;
     double t0 = seconds();
     uint32_t a = gp_frame(o->path_nos, o->lines, o->coords, GP_LINE_FLOATS * o->lines, o->boxes, GP_PATH_WORDS * o->paths, o->backdrops, o->tiles,
-                          o->stored, o->tiles, o->tally, o->tiles, o->refs, GP_REF_WORDS * o->made, o->segments, GP_SEGMENT_FLOATS * o->made, &stage, &item, &lines, &made);
+                          o->stored, o->tiles, o->tally, o->tiles, o->refs, GP_REF_WORDS * o->made, o->segments, GP_SEGMENT_FLOATS * o->made, o->tags, o->made,
+                          &stage, &item, &lines, &made);
     double t1 = seconds();
     done("gp_frame", a, item);
     double t2 = seconds();

@@ -9,7 +9,7 @@ enum { COLS = 8, ROWS = 6, PATHS = 4, LINES = 60, FRAMES = 200, ROOM = 4096 };
 enum { SCREEN = COLS * ROWS, TILES = PATHS * SCREEN, WORDS = SCREEN * GP_TILE_WORDS, PIXELS = SCREEN * GP_TILE * GP_TILE };
 
 static uint32_t path_nos[LINES], paths[PATHS * GP_PATH_WORDS], paints[PATHS * GP_PAINT_WORDS];
-static uint32_t stored[TILES], tally[TILES], refs[ROOM * GP_REF_WORDS], words[WORDS], pixels[PIXELS];
+static uint32_t stored[TILES], tally[TILES], refs[ROOM * GP_REF_WORDS], tags[ROOM], words[WORDS], pixels[PIXELS];
 static int32_t backdrops[TILES];
 static float coords[LINES * GP_LINE_FLOATS], segments[ROOM * GP_SEGMENT_FLOATS];
 
@@ -58,17 +58,18 @@ static void frame(void) {
     for (uint32_t k = 0; k < LINES * GP_LINE_FLOATS; k++) coords[k] = any_coord();
     for (uint32_t k = 0; k < PATHS; k++) {
         uint32_t *path = paths + GP_PATH_WORDS * k;
-        path[2] = COLS;
-        path[3] = ROWS;
-        path[4] = SCREEN * k;
-        paints[GP_PAINT_WORDS * k] = GP_PAINT(any() % 256, any() % 256, any() % 256, any() % 256);
-        paints[GP_PAINT_WORDS * k + 1] = any() % 2;
+        path[GP_PATH_X1] = COLS;
+        path[GP_PATH_Y1] = ROWS;
+        path[GP_PATH_FIRST] = SCREEN * k;
+        path[GP_PATH_BEAM] = any();
+        paints[GP_PAINT_WORDS * k + GP_PAINT_COLOUR] = GP_PAINT(any() % 256, any() % 256, any() % 256, any() % 256);
+        paints[GP_PAINT_WORDS * k + GP_PAINT_RULE] = any() % 2;
     }
     no = gp_frame(path_nos, LINES, coords, LINES * GP_LINE_FLOATS, paths, PATHS * GP_PATH_WORDS, backdrops, TILES, stored, TILES, tally, TILES,
-                  refs, ROOM * GP_REF_WORDS, segments, ROOM * GP_SEGMENT_FLOATS, &stage, &item, &lines, &made);
+                  refs, ROOM * GP_REF_WORDS, segments, ROOM * GP_SEGMENT_FLOATS, tags, ROOM, &stage, &item, &lines, &made);
     take_word(no), take_word(stage), take_word(item), take_word(lines), take_word(made);
     take(backdrops, sizeof backdrops), take(stored, sizeof stored), take(tally, sizeof tally);
-    take(refs, sizeof refs), take(segments, sizeof segments);
+    take(refs, sizeof refs), take(segments, sizeof segments), take(tags, sizeof tags);
     if (no == GP_DONE) done++;
     else refused++;
     take_word(gp_write_lists(paths, PATHS * GP_PATH_WORDS, paints, PATHS * GP_PAINT_WORDS, backdrops, TILES, stored, TILES, tally, TILES, COLS,

@@ -9,9 +9,10 @@ use native.Mathlib.Omega.{arith}
 use lib.IntN.{ℤ, pos, negsuc}
 use lib.ListN.{getD, replicate}
 use lib.Ieee.{Float, nan, binary32, ofBits, isNan}
+use Rattle.panel.specs.Pieces.{Pieces, pieces}
 use Rattle.util.specs.Constants as Number
 use Rattle.lists.specs.Grid.{tabFrom}
-use Rattle.panel.specs.Paths.{boxed}
+use Rattle.panel.specs.Paths.{boxed, stamped}
 use Rattle.panel.specs.Refusals.{doneNo, notWhole, noRoom, noSuch, badSize, badFile, offTile}
 use Rattle.panel.specs.Kinds.{runningOf}
 use Rattle.panel.specs.declared.kinds.Answer.{Answer}
@@ -140,22 +141,25 @@ hand-shut =
 
 -- ---- tiling: the first reference of (8,8)-(8,24), over NaNs; and a reference to a line that isn't there
 
-abbrev TileAt : (refs : List ℕ) → Answer → List Float → Type 0
-TileAt refs a m = TileMet 0 1 (lent (0 ∷ []) (floatsOf (8 ∷ 8 ∷ 8 ∷ 24 ∷ [])) (boxed 0 0 2 2 0) (4294967295 ∷ 0 ∷ 0 ∷ 0 ∷ []) refs) (replicate 5 nan) a m
+abbrev oneSlot : Pieces
+oneSlot = pieces (replicate 5 nan) (0 ∷ [])
 
-once-tile : (refs : List ℕ) → Once Answer (List Float) (TileAt refs)
+abbrev TileAt : (refs : List ℕ) → Answer → Pieces → Type 0
+TileAt refs a m = TileMet 0 1 (lent (0 ∷ []) (floatsOf (8 ∷ 8 ∷ 8 ∷ 24 ∷ [])) (stamped 0 0 2 2 0 7) (4294967295 ∷ 0 ∷ 0 ∷ 0 ∷ []) refs) oneSlot a m
+
+once-tile : (refs : List ℕ) → Once Answer Pieces (TileAt refs)
 once-tile refs a b m n p q =
-    one-tile 0 1 (lent (0 ∷ []) (floatsOf (8 ∷ 8 ∷ 8 ∷ 24 ∷ [])) (boxed 0 0 2 2 0) (4294967295 ∷ 0 ∷ 0 ∷ 0 ∷ []) refs) (replicate 5 nan) a b m n p q
+    one-tile 0 1 (lent (0 ∷ []) (floatsOf (8 ∷ 8 ∷ 8 ∷ 24 ∷ [])) (stamped 0 0 2 2 0 7) (4294967295 ∷ 0 ∷ 0 ∷ 0 ∷ []) refs) oneSlot a b m n p q
 
 abbrev piece : List Float
 piece = ofBits binary32 0x40ff_fffe ∷ ofBits binary32 0x4100_0000 ∷ ofBits binary32 0x40ff_fffe ∷ ofBits binary32 0x4180_0000 ∷ ofBits binary32 0x4e6e_6b28 ∷ []
 
-pub tile-shut : Shut Answer (List Float) Refuses (TileAt (0 ∷ 0 ∷ [])) (TileAt (1 ∷ 0 ∷ [])) (replicate 5 nan)
+pub tile-shut : Shut Answer Pieces Refuses (TileAt (0 ∷ 0 ∷ [])) (TileAt (1 ∷ 0 ∷ [])) oneSlot
 unfolding computing
 tile-shut =
-    shut Answer (List Float) Refuses (TileAt (0 ∷ 0 ∷ [])) (TileAt (1 ∷ 0 ∷ [])) (replicate 5 nan)
-    Done (Refused noSuch 0) piece (replicate 5 nan) (once-tile (0 ∷ 0 ∷ [])) (once-tile (1 ∷ 0 ∷ []))
-    refl refl (λ h. h) tt (apart-nan piece (replicate 5 nan) refl refl)
+    shut Answer Pieces Refuses (TileAt (0 ∷ 0 ∷ [])) (TileAt (1 ∷ 0 ∷ [])) oneSlot
+    Done (Refused noSuch 0) (pieces piece (7 ∷ [])) oneSlot (once-tile (0 ∷ 0 ∷ [])) (once-tile (1 ∷ 0 ∷ []))
+    refl refl (λ h. h) tt (λ e. apart-nan piece (replicate 5 nan) refl refl (ap (λ (x : Pieces). x .segments) e))
 
 -- ---- coverage: a tile with backdrop 1 and no segment, over NaNs; and an area of another size
 
@@ -192,23 +196,26 @@ fine-shut =
 
 -- ---- a frame: no line over one tile, which it clears; and a tally too short
 
+abbrev noSlot : Pieces
+noSlot = pieces [] []
+
 abbrev FrameMemory : Type 0
-FrameMemory = List ℤ × List ℕ × List ℕ × List ℕ × List Float
+FrameMemory = List ℤ × List ℕ × List ℕ × List ℕ × Pieces
 
 abbrev FrameAt : (ks : List ℕ) → Framed → FrameMemory → Type 0
-FrameAt ks a m = FrameMet [] [] (boxed 0 0 1 1 0) (pos 5 ∷ []) (3 ∷ []) ks [] [] a (m .0) (m .1) (m .2) (m .3) (m .4)
+FrameAt ks a m = FrameMet [] [] (boxed 0 0 1 1 0) (pos 5 ∷ []) (3 ∷ []) ks [] noSlot a (m .0) (m .1) (m .2) (m .3) (m .4)
 
 once-frame : (ks : List ℕ) → Once Framed FrameMemory (FrameAt ks)
 once-frame ks a b m n p q =
-    let e = one-frame [] [] (boxed 0 0 1 1 0) (pos 5 ∷ []) (3 ∷ []) ks [] [] a b (m .0) (n .0) (m .1) (n .1) (m .2) (n .2) (m .3) (n .3) (m .4) (n .4) p q in
+    let e = one-frame [] [] (boxed 0 0 1 1 0) (pos 5 ∷ []) (3 ∷ []) ks [] noSlot a b (m .0) (n .0) (m .1) (n .1) (m .2) (n .2) (m .3) (n .3) (m .4) (n .4) p q in
     (e .0, λ i. (e .1 i, e .2 i, e .3 i, e .4 i, e .5 i))
 
-pub frame-shut : Shut Framed FrameMemory RefusesFrame (FrameAt (8 ∷ [])) (FrameAt []) (pos 5 ∷ [], 3 ∷ [], 8 ∷ [], [], [])
+pub frame-shut : Shut Framed FrameMemory RefusesFrame (FrameAt (8 ∷ [])) (FrameAt []) (pos 5 ∷ [], 3 ∷ [], 8 ∷ [], [], noSlot)
 unfolding computing frameOf checksOf drawnOf placedOf backdropOf sumPaths rowsSums rowsFit rowSums rowFits
 frame-shut =
-    shut Framed FrameMemory RefusesFrame (FrameAt (8 ∷ [])) (FrameAt []) (pos 5 ∷ [], 3 ∷ [], 8 ∷ [], [], [])
+    shut Framed FrameMemory RefusesFrame (FrameAt (8 ∷ [])) (FrameAt []) (pos 5 ∷ [], 3 ∷ [], 8 ∷ [], [], noSlot)
     (Framed.Done (runningOf 0 0)) (Framed.Refused Stage.Lent notWhole 0 (runningOf 0 0))
-    (pos 0 ∷ [], 0 ∷ [], 0 ∷ [], [], []) (pos 5 ∷ [], 3 ∷ [], [], [], []) (once-frame (8 ∷ [])) (once-frame [])
+    (pos 0 ∷ [], 0 ∷ [], 0 ∷ [], [], noSlot) (pos 5 ∷ [], 3 ∷ [], [], [], noSlot) (once-frame (8 ∷ [])) (once-frame [])
     refl refl (λ h. h) tt (λ e. apart (0 ∷ []) (3 ∷ []) 0 (λ z. omega arith) (ap (λ (m : FrameMemory). m .1) e))
 
 -- ---- the lists: one screen tile and no path, whose list is END; and no word to write it in

@@ -8,6 +8,7 @@ use native.Mathlib.Omega.{arith}
 use lib.IntN.{ℤ}
 use lib.ListN.{length}
 use lib.Ieee.{Float}
+use Rattle.panel.specs.Pieces.{Pieces}
 use Rattle.lists.specs.Sums.{sum}
 use Rattle.panel.specs.Segments.{segmentAt, Straight}
 use Rattle.panel.specs.Widths.{segmentFloats}
@@ -27,22 +28,22 @@ use Rattle.list_theorems.proofs.Tiled.{handed-never-refused, handed-like-painte
 
 module _ (b : ℕ) (nos : List ℕ) (coords : List Float) (paths : List ℕ) (n : ℕ) (refs : List ℕ) (bs : List ℤ) (cs rs : List ℕ) (m : ℕ)
     (counted : AllCounted b nos coords paths n refs bs cs rs m) (room : ℕ) (kept stored tally : List ℕ) (out : handOutOf room cs kept ≡ outOf Done stored tally)
-    (segs : List Float) (whole : length segs % segmentFloats ≡ 0) (enough : m ≤ length segs / segmentFloats)
-    (tiled : callOf 0 m (lent nos coords paths stored rs) segs .answer ≡ Done) where
+    (p : Pieces) (whole : length (p .segments) % segmentFloats ≡ 0) (enough : m ≤ length (p .segments) / segmentFloats)
+    (tiled : callOf 0 m (lent nos coords paths stored rs) p .answer ≡ Done) where
   -- the segments after tiling
   abbrev after : List Float
-  after = applied (callOf 0 m (lent nos coords paths stored rs) segs .writes) segs
+  after = applied (callOf 0 m (lent nos coords paths stored rs) p .writes) p .segments
 
   all : sum tally ≡ m
   all = ap sum (handed-is room cs kept stored tally out .1) ∙ sums b nos coords paths n refs bs cs rs m counted .total
 
   pub tiled-fills : Fills (sum tally) after
   tiled-fills =
-      let l = length-applied (callOf 0 m (lent nos coords paths stored rs) segs .writes) segs in
-      let each = tiled-straight nos coords paths cs rs m segs _ (no-stray b nos coords paths n refs bs cs rs m room kept stored tally segs counted out) tiled in
+      let l = length-applied (callOf 0 m (lent nos coords paths stored rs) p .writes) p in
+      let each = tiled-straight nos coords paths cs rs m p _ (no-stray b nos coords paths n refs bs cs rs m room kept stored tally p counted out) tiled in
       record {
         whole = ap (λ (k : ℕ). k % segmentFloats) l ∙ whole;
-        enough = subst (λ (k : ℕ). sum tally ≤ k / segmentFloats) (sym l) (subst (λ (k : ℕ). k ≤ length segs / segmentFloats) (sym all) enough);
+        enough = subst (λ (k : ℕ). sum tally ≤ k / segmentFloats) (sym l) (subst (λ (k : ℕ). k ≤ length (p .segments) / segmentFloats) (sym all) enough);
         straight = λ k h. each k (subst (λ (j : ℕ). k < j) all h);
       }
 

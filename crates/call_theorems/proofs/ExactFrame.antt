@@ -7,6 +7,7 @@ use native.Mathlib.Omega.{arith}
 use lib.ListN.{length, replicate}
 use lib.IntN.{ℤ, pos}
 use lib.Ieee.{Float}
+use Rattle.panel.specs.Pieces.{Pieces}
 use Rattle.lists.specs.Sums.{sum}
 use Rattle.lists.specs.Tally.{zeros}
 use Rattle.lists.specs.Run.{refused}
@@ -51,12 +52,12 @@ use Rattle.call_theorems.proofs.ExactCount.{met-line, count-exact}
 use Rattle.call_theorems.proofs.ExactStages.{backdrop-call-exact}
 use Rattle.call_theorems.proofs.ExactTile.{tile-call-exact}
 
-module _ (nos : List ℕ) (coords : List Float) (paths : List ℕ) (backs : List ℤ) (stored tally refs : List ℕ) (segs : List Float) where
+module _ (nos : List ℕ) (coords : List Float) (paths : List ℕ) (backs : List ℤ) (stored tally refs : List ℕ) (pieces : Pieces) where
   abbrev checksAre : Answer
-  checksAre = checksOf nos coords paths backs stored tally refs segs
+  checksAre = checksOf nos coords paths backs stored tally refs pieces
 
   abbrev first : List Check
-  first = frameRow nos coords backs stored tally refs segs
+  first = frameRow nos coords backs stored tally refs pieces
 
   -- the first checks
   checks-pass : (checksAre ≡ Answer.Done) ↔ Passes first paths (length stored)
@@ -89,19 +90,19 @@ module _ (nos : List ℕ) (coords : List Float) (paths : List ℕ) (backs : List
 
   module _ (ok : checksAre ≡ Answer.Done) where
     -- once the checks pass, the frame is what is drawn
-    is-drawn : drawnOf nos coords paths backs stored tally refs segs ≡ frameOf nos coords paths backs stored tally refs segs
+    is-drawn : drawnOf nos coords paths backs stored tally refs pieces ≡ frameOf nos coords paths backs stored tally refs pieces
     unfolding frameOf
     is-drawn = rw ok
 
     drawn-line : (n : ℕ) (s : Running) (bs : List ℤ) (cs rs : List ℕ) → CountsTo (Counted.Refused n (s .lines) s) bs cs rs
-        → outOf (Framed.Refused Stage.Count n (s .lines) s) bs cs tally rs segs ≡ drawnOf nos coords paths backs stored tally refs segs
+        → outOf (Framed.Refused Stage.Count n (s .lines) s) bs cs tally rs pieces ≡ drawnOf nos coords paths backs stored tally refs pieces
     unfolding drawnOf
-    drawn-line n s bs cs rs m = rw (paired nos coords paths backs stored tally refs segs ok, ← m)
+    drawn-line n s bs cs rs m = rw (paired nos coords paths backs stored tally refs pieces ok, ← m)
 
     drawn-placed : (s : Running) (marks : List ℤ) (cs rs : List ℕ) → CountsTo (Counted.Done s) marks cs rs
-        → placedOf s nos coords paths marks cs tally rs segs ≡ drawnOf nos coords paths backs stored tally refs segs
+        → placedOf s nos coords paths marks cs tally rs pieces ≡ drawnOf nos coords paths backs stored tally refs pieces
     unfolding drawnOf
-    drawn-placed s marks cs rs m = rw (paired nos coords paths backs stored tally refs segs ok, ← m)
+    drawn-placed s marks cs rs m = rw (paired nos coords paths backs stored tally refs pieces ok, ← m)
 
     -- all lines counted: their counts are as many as the tally's words, and sum to the references
     module _ (s : Running) (marks : List ℤ) (cs rs : List ℕ) (m : CountsTo (Counted.Done s) marks cs rs) where
@@ -114,99 +115,99 @@ module _ (nos : List ℕ) (coords : List Float) (paths : List ℕ) (backs : List
       total = sums (length nos) nos coords paths (length stored) refs marks cs rs (s .refs) counted-all .total
 
       long : length cs ≡ length tally
-      long = counts-long (length nos) nos coords paths (length stored) refs marks cs rs (s .refs) counted-all ∙ kept nos coords paths backs stored tally refs segs ok
+      long = counts-long (length nos) nos coords paths (length stored) refs marks cs rs (s .refs) counted-all ∙ kept nos coords paths backs stored tally refs pieces ok
 
       few : length cs ≤ mostTiles
       few =
           omega (
             arith,
             counts-long (length nos) nos coords paths (length stored) refs marks cs rs (s .refs) counted-all,
-            checked paths (length stored) (row nos coords paths backs stored tally refs segs ok .1) .tiled,
+            checked paths (length stored) (row nos coords paths backs stored tally refs pieces ok .1) .tiled,
           )
 
-      hand-over : slotsOf (length segs) < s .refs → HandOut.handOutOf (slotsOf (length segs)) cs tally ≡ HandOut.outOf (Answer.Refused noRoom 0) cs tally
-      hand-over h = go (hand-case (slotsOf (length segs)) cs tally)
+      hand-over : slotsOf (length (pieces .segments)) < s .refs → HandOut.handOutOf (slotsOf (length (pieces .segments))) cs tally ≡ HandOut.outOf (Answer.Refused noRoom 0) cs tally
+      hand-over h = go (hand-case (slotsOf (length (pieces .segments))) cs tally)
         where
-          go : HandCase (slotsOf (length segs)) cs tally → HandOut.handOutOf (slotsOf (length segs)) cs tally ≡ HandOut.outOf (Answer.Refused noRoom 0) cs tally
+          go : HandCase (slotsOf (length (pieces .segments))) cs tally → HandOut.handOutOf (slotsOf (length (pieces .segments))) cs tally ≡ HandOut.outOf (Answer.Refused noRoom 0) cs tally
           go (Cases.unpaired a e) = absurd (a long)
           go (Cases.many a b e) = absurd (omega (arith, few))
           go (Cases.over a b c e) = e
           go (Cases.fine a b c e) = absurd (omega (arith, total))
 
-      hand-fine : s .refs ≤ slotsOf (length segs) → HandOut.handOutOf (slotsOf (length segs)) cs tally ≡ HandOut.outOf Answer.Done (hand 0 cs) cs
-      hand-fine h = go (hand-case (slotsOf (length segs)) cs tally)
+      hand-fine : s .refs ≤ slotsOf (length (pieces .segments)) → HandOut.handOutOf (slotsOf (length (pieces .segments))) cs tally ≡ HandOut.outOf Answer.Done (hand 0 cs) cs
+      hand-fine h = go (hand-case (slotsOf (length (pieces .segments))) cs tally)
         where
-          go : HandCase (slotsOf (length segs)) cs tally → HandOut.handOutOf (slotsOf (length segs)) cs tally ≡ HandOut.outOf Answer.Done (hand 0 cs) cs
+          go : HandCase (slotsOf (length (pieces .segments))) cs tally → HandOut.handOutOf (slotsOf (length (pieces .segments))) cs tally ≡ HandOut.outOf Answer.Done (hand 0 cs) cs
           go (Cases.unpaired a e) = absurd (a long)
           go (Cases.many a b e) = absurd (omega (arith, few))
           go (Cases.over a b c e) = absurd (omega (arith, total))
           go (Cases.fine a b c e) = e
 
-      placed-slots : (bs : List ℤ) → Backdrop.backdropOf paths marks ≡ Backdrop.outOf Answer.Done bs → slotsOf (length segs) < s .refs
-          → outOf (Framed.Refused Stage.HandOut noRoom 0 s) bs cs tally rs segs ≡ placedOf s nos coords paths marks cs tally rs segs
+      placed-slots : (bs : List ℤ) → Backdrop.backdropOf paths marks ≡ Backdrop.outOf Answer.Done bs → slotsOf (length (pieces .segments)) < s .refs
+          → outOf (Framed.Refused Stage.HandOut noRoom 0 s) bs cs tally rs pieces ≡ placedOf s nos coords paths marks cs tally rs pieces
       unfolding placedOf
       placed-slots bs e h = rw (e, hand-over h)
 
-      ends-so : (a : Answer) (bs : List ℤ) (sg : List Float)
+      ends-so : (a : Answer) (bs : List ℤ) (sg : Pieces)
           → outOf (tiledAs a s) bs (hand 0 cs) cs rs sg ≡ goOn a Stage.Tile s (λ f. outOf f bs (hand 0 cs) cs rs sg) (outOf (Framed.Done s) bs (hand 0 cs) cs rs sg)
       ends-so Answer.Done bs sg = refl
       ends-so (Answer.Refused n k) bs sg = refl
 
-      at-tiling : (a : Answer) (bs : List ℤ) (sg : List Float) (t : Tiled) → t ≡ tiled a sg
+      at-tiling : (a : Answer) (bs : List ℤ) (sg : Pieces) (t : Tiled) → t ≡ tiled a sg
           → outOf (tiledAs a s) bs (hand 0 cs) cs rs sg
-          ≡ goOn (answerOn (t .paper)) Stage.Tile s (λ f. outOf f bs (hand 0 cs) cs rs (t .segments)) (outOf (Framed.Done s) bs (hand 0 cs) cs rs (t .segments))
+          ≡ goOn (answerOn (t .paper)) Stage.Tile s (λ f. outOf f bs (hand 0 cs) cs rs (t .pieces)) (outOf (Framed.Done s) bs (hand 0 cs) cs rs (t .pieces))
       at-tiling a bs sg t e = rw (e, answer-on a) (ends-so a bs sg)
 
-      placed-tiled : (a : Answer) (bs : List ℤ) (sg : List Float) → Backdrop.backdropOf paths marks ≡ Backdrop.outOf Answer.Done bs → s .refs ≤ slotsOf (length segs)
-          → tiledOf 0 (s .refs) (lent nos coords paths (hand 0 cs) rs) segs ≡ tiled a sg
-          → outOf (tiledAs a s) bs (hand 0 cs) cs rs sg ≡ placedOf s nos coords paths marks cs tally rs segs
+      placed-tiled : (a : Answer) (bs : List ℤ) (sg : Pieces) → Backdrop.backdropOf paths marks ≡ Backdrop.outOf Answer.Done bs → s .refs ≤ slotsOf (length (pieces .segments))
+          → tiledOf 0 (s .refs) (lent nos coords paths (hand 0 cs) rs) pieces ≡ tiled a sg
+          → outOf (tiledAs a s) bs (hand 0 cs) cs rs sg ≡ placedOf s nos coords paths marks cs tally rs pieces
       unfolding placedOf
-      placed-tiled a bs sg e h t = rw (e, hand-fine h) (at-tiling a bs sg (tiledOf 0 (s .refs) (lent nos coords paths (hand 0 cs) rs) segs) t)
+      placed-tiled a bs sg e h t = rw (e, hand-fine h) (at-tiling a bs sg (tiledOf 0 (s .refs) (lent nos coords paths (hand 0 cs) rs) pieces) t)
 
-  module _ (x : Framed) (bs : List ℤ) (ts ks rs : List ℕ) (sg : List Float) where
-    abbrev Met : Framed → List ℤ → List ℕ → List ℕ → List ℕ → List Float → Type 0
-    Met f a b c d e = FrameMet nos coords paths backs stored tally refs segs f a b c d e
+  module _ (x : Framed) (bs : List ℤ) (ts ks rs : List ℕ) (sg : Pieces) where
+    abbrev Met : Framed → List ℤ → List ℕ → List ℕ → List ℕ → Pieces → Type 0
+    Met f a b c d e = FrameMet nos coords paths backs stored tally refs pieces f a b c d e
 
     abbrev Ended : Type 0
-    Ended = FrameWay nos coords paths backs stored tally refs segs x bs ts ks rs sg
+    Ended = FrameWay nos coords paths backs stored tally refs pieces x bs ts ks rs sg
 
-    told : (n item : ℕ) → checksAre ≡ Answer.Refused n item → Met (Framed.Refused Stage.Lent n item (runningOf 0 0)) backs stored tally refs segs
+    told : (n item : ℕ) → checksAre ≡ Answer.Refused n item → Met (Framed.Refused Stage.Lent n item (runningOf 0 0)) backs stored tally refs pieces
     unfolding frameOf
     told n item e = rw e
 
     why : Met x bs ts ks rs sg → Ended
-    why p = go (ways nos coords paths backs stored tally refs segs)
+    why p = go (ways nos coords paths backs stored tally refs pieces)
       where
         counts-to : (s : Running) (bs′ : List ℤ) (cs rs′ : List ℕ) → (c : Counts nos coords paths (length stored) refs s bs′ cs rs′) → CountsTo (Counted.Done s) (c .marks) cs rs′
         counts-to s bs′ cs rs′ c =
             let z : runningOf (length nos) (s .refs) ≡ s = λ i. record { lines = sym (c .lines) i; refs = s .refs } in
             subst (λ (u : Running). CountsTo (Counted.Done u) (c .marks) cs rs′) z (sym (c .all))
 
-        go : Way nos coords paths backs stored tally refs segs (frameOf nos coords paths backs stored tally refs segs) → Ended
+        go : Way nos coords paths backs stored tally refs pieces (frameOf nos coords paths backs stored tally refs pieces) → Ended
         go (Ends.lent-refused n item q o) =
-            let e = one-frame nos coords paths backs stored tally refs segs x (Framed.Refused Stage.Lent n item (runningOf 0 0)) bs backs ts stored ks tally rs refs sg segs p (sym o) in
+            let e = one-frame nos coords paths backs stored tally refs pieces x (Framed.Refused Stage.Lent n item (runningOf 0 0)) bs backs ts stored ks tally rs refs sg pieces p (sym o) in
             frame-refused n item (e .0) (checks-why n item .0 q) (e .1) (e .2) (e .3) (e .4) (e .5)
         go (Ends.line-refused n s bs′ cs rs′ ok w o) =
-            let e = one-frame nos coords paths backs stored tally refs segs x (Framed.Refused Stage.Count n (s .lines) s) bs bs′ ts cs ks tally rs rs′ sg segs p (sym o) in
+            let e = one-frame nos coords paths backs stored tally refs pieces x (Framed.Refused Stage.Count n (s .lines) s) bs bs′ ts cs ks tally rs rs′ sg pieces p (sym o) in
             let u = stOf bs′ cs rs′ (s .refs) in
             let m : CountsTo (Counted.Refused n (s .lines) s) bs′ cs rs′ =
             met-line (runningOf 0 0) (length nos) nos coords paths (replicate (length stored) (pos 0)) (zeros (length stored)) refs
-            (call-ok nos coords paths backs stored tally refs segs ok) u (refusal n (s .lines))
+            (call-ok nos coords paths backs stored tally refs pieces ok) u (refusal n (s .lines))
             (batch-exact nos coords paths (length refs / refWords) 0 (length nos) (cleared (length stored) refs) u (refusal n (s .lines)) .1 w) in
             count-refused n s (e .0) (checks-pass .0 ok)
             (rw (e .1, e .2, e .4) (counts-exact (Counted.Refused n (s .lines) s) bs′ cs rs′ .0 m))
             (e .3) (e .5)
         go (Ends.slots-refused s bs′ cs rs′ ok c h o) =
-            let e = one-frame nos coords paths backs stored tally refs segs x (Framed.Refused Stage.HandOut noRoom 0 s) bs bs′ ts cs ks tally rs rs′ sg segs p (sym o) in
+            let e = one-frame nos coords paths backs stored tally refs pieces x (Framed.Refused Stage.HandOut noRoom 0 s) bs bs′ ts cs ks tally rs rs′ sg pieces p (sym o) in
             slots-refused s (c .marks) (e .0) (checks-pass .0 ok)
             (rw (e .2, e .4) (counts-exact (Counted.Done s) (c .marks) cs rs′ .0 (counts-to s bs′ cs rs′ c)))
             (rw (e .1) (backdrop-call-exact paths (c .marks) Answer.Done bs′ .0 (sym (c .sums)))) h (e .3) (e .5)
         go (Ends.tiled-out a s bs′ cs rs′ sg′ ok c h t o) =
-            let e = one-frame nos coords paths backs stored tally refs segs x (tiledAs a s) bs bs′ ts (hand 0 cs) ks cs rs rs′ sg sg′ p (sym o) in
+            let e = one-frame nos coords paths backs stored tally refs pieces x (tiledAs a s) bs bs′ ts (hand 0 cs) ks cs rs rs′ sg sg′ p (sym o) in
             frame-tiled a s (c .marks) (e .0) (checks-pass .0 ok)
             (rw (e .3, e .4) (counts-exact (Counted.Done s) (c .marks) cs rs′ .0 (counts-to s bs′ cs rs′ c)))
             (rw (e .1) (backdrop-call-exact paths (c .marks) Answer.Done bs′ .0 (sym (c .sums)))) h (rw (e .3) (e .2))
-            (rw (e .2, e .4, e .5) (tile-call-exact 0 (s .refs) (lent nos coords paths (hand 0 cs) rs′) segs a sg′ .0 (sym t)))
+            (rw (e .2, e .4, e .5) (tile-call-exact 0 (s .refs) (lent nos coords paths (hand 0 cs) rs′) pieces a sg′ .0 (sym t)))
 
     back : Ended → Met x bs ts ks rs sg
     back (frame-refused n item ex w eb et ek er es) = rw (ex, eb, et, ek, er, es) (told n item (checks-why n item .1 w))
@@ -222,10 +223,10 @@ module _ (nos : List ℕ) (coords : List Float) (paths : List ℕ) (backs : List
     back (frame-tiled a s marks ex pass c b h et t) =
         let ok = checks-pass .1 pass in
         let m = counts-exact (Counted.Done s) marks ks rs .1 c in
-        let t′ : TileWay 0 (s .refs) (lent nos coords paths (hand 0 ks) rs) segs a sg = rw et at t in
+        let t′ : TileWay 0 (s .refs) (lent nos coords paths (hand 0 ks) rs) pieces a sg = rw et at t in
         rw (ex, et)
         (placed-tiled ok s marks ks rs m a bs sg (sym (backdrop-call-exact paths marks Answer.Done bs .1 b)) h
-        (sym (tile-call-exact 0 (s .refs) (lent nos coords paths (hand 0 ks) rs) segs a sg .1 t′))
+        (sym (tile-call-exact 0 (s .refs) (lent nos coords paths (hand 0 ks) rs) pieces a sg .1 t′))
         ∙ drawn-placed ok s marks ks rs m ∙ is-drawn ok)
 
     -- A frame is exact

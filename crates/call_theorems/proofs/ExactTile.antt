@@ -9,6 +9,7 @@ use native.Mathlib.Decide.{ℕ-discrete}
 use native.Mathlib.Omega.{arith}
 use lib.ListN.{length}
 use lib.Ieee.{Float}
+use Rattle.panel.specs.Pieces.{Pieces}
 use Rattle.panel.specs.Refusals.{notWhole}
 use Rattle.panel.specs.Paths.{pathsAnswer}
 use Rattle.panel.specs.declared.kinds.Answer.{Answer}
@@ -79,39 +80,39 @@ module _ (L : Lent) (slots : ℕ) where
       go (no s) Empty z f ih = ih f j m (omega arith) (omega arith) d
       go (no s) (Against i) z f ih = no-clash cc
 
-module _ (from to : ℕ) (L : Lent) (segs : List Float) where
+module _ (from to : ℕ) (L : Lent) (lent : Pieces) where
   abbrev slots : ℕ
-  slots = slotsOf (length segs)
+  slots = slotsOf (length (lent .segments))
 
   -- the call over its range, whole and with good paths
-  module _ (w : tileWhole from to L segs ≡ true) (ok : pathsAnswer (L .paths) (length (L .stored)) ≡ Done) where
-    met-range : (a : Answer) → rangeOf L slots (to - from) from .answer ≡ a → TileMet from to L segs a (applied (rangeOf L slots (to - from) from .writes) segs)
-    met-range a e = ap (λ (x : Answer). tiled x (applied (rangeOf L slots (to - from) from .writes) segs)) (sym e) ∙ called from to L segs w ok
+  module _ (w : tileWhole from to L lent ≡ true) (ok : pathsAnswer (L .paths) (length (L .stored)) ≡ Done) where
+    met-range : (a : Answer) → rangeOf L slots (to - from) from .answer ≡ a → TileMet from to L lent a (applied (rangeOf L slots (to - from) from .writes) lent)
+    met-range a e = ap (λ (x : Answer). tiled x (applied (rangeOf L slots (to - from) from .writes) lent)) (sym e) ∙ called from to L lent w ok
 
-    met-ref : (n k : ℕ) → RangeWhy L slots (to - from) from n k → TileMet from to L segs (Refused n k) (applied (rangeOf L slots (k - from) from .writes) segs)
-    met-ref n k r = ap (λ (x : Range). rangeTiled x segs) (sym (writes-before L slots (to - from) from n k r)) ∙ called from to L segs w ok
+    met-ref : (n k : ℕ) → RangeWhy L slots (to - from) from n k → TileMet from to L lent (Refused n k) (applied (rangeOf L slots (k - from) from .writes) lent)
+    met-ref n k r = ap (λ (x : Range). rangeTiled x lent) (sym (writes-before L slots (to - from) from n k r)) ∙ called from to L lent w ok
 
-  module _ (x : Answer) (segs′ : List Float) where
-    why : TileMet from to L segs x segs′ → TileWay from to L segs x segs′
-    why p = go (tileWhole from to L segs) refl (pathsAnswer (L .paths) (length (L .stored))) refl (rangeOf L slots (to - from) from .answer) refl
+  module _ (x : Answer) (left : Pieces) where
+    why : TileMet from to L lent x left → TileWay from to L lent x left
+    why p = go (tileWhole from to L lent) refl (pathsAnswer (L .paths) (length (L .stored))) refl (rangeOf L slots (to - from) from .answer) refl
       where
-        go : (b : Bool) → tileWhole from to L segs ≡ b → (v : Answer) → pathsAnswer (L .paths) (length (L .stored)) ≡ v → (a : Answer) → rangeOf L slots (to - from) from .answer ≡ a
-            → TileWay from to L segs x segs′
-        go false w v q a h = let e = one-tile from to L segs x (Refused notWhole 0) segs′ segs p (not-whole from to L segs w) in unwhole (e .0) w (e .1)
+        go : (b : Bool) → tileWhole from to L lent ≡ b → (v : Answer) → pathsAnswer (L .paths) (length (L .stored)) ≡ v → (a : Answer) → rangeOf L slots (to - from) from .answer ≡ a
+            → TileWay from to L lent x left
+        go false w v q a h = let e = one-tile from to L lent x (Refused notWhole 0) left lent p (not-whole from to L lent w) in unwhole (e .0) w (e .1)
         go true w (Refused n item) q a h =
-            let e = one-tile from to L segs x (Refused n item) segs′ segs p (bad-paths from to L segs n item w q) in
+            let e = one-tile from to L lent x (Refused n item) left lent p (bad-paths from to L lent n item w q) in
             paths-refused n item (e .0) w (paths-exact (L .paths) (length (L .stored)) n item .0 q) (e .1)
         go true w Done q (Refused n k) h =
             let r = range-exact L slots (to - from) from n k .0 h in
-            let e = one-tile from to L segs x (Refused n k) segs′ (applied (rangeOf L slots (k - from) from .writes) segs) p (met-ref w q n k r) in
+            let e = one-tile from to L lent x (Refused n k) left (applied (rangeOf L slots (k - from) from .writes) lent) p (met-ref w q n k r) in
             ref-refused n k (e .0) w q (r .low) (omega (arith, r .low, r .high)) (λ j m a b c. r .before j a b m (look-exact L slots j m .1 c)) (look-exact L slots k n .0 (r .halts)) (e .1)
         go true w Done q Done h =
-            let e = one-tile from to L segs x Done segs′ (applied (rangeOf L slots (to - from) from .writes) segs) p (met-range w q Done h) in
+            let e = one-tile from to L lent x Done left (applied (rangeOf L slots (to - from) from .writes) lent) p (met-range w q Done h) in
             all-tiled (e .0) w q (λ j m a b c. goes-none L slots (to - from) from h j m a (omega arith) (look-exact L slots j m .1 c)) (e .1)
 
-    back : TileWay from to L segs x segs′ → TileMet from to L segs x segs′
-    back (unwhole ex w es) = rw (ex, es) (not-whole from to L segs w)
-    back (paths-refused n item ex w k es) = rw (ex, es) (bad-paths from to L segs n item w (paths-exact (L .paths) (length (L .stored)) n item .1 k))
+    back : TileWay from to L lent x left → TileMet from to L lent x left
+    back (unwhole ex w es) = rw (ex, es) (not-whole from to L lent w)
+    back (paths-refused n item ex w k es) = rw (ex, es) (bad-paths from to L lent n item w (paths-exact (L .paths) (length (L .stored)) n item .1 k))
     back (ref-refused n k ex w ok low high none h es) =
         rw (ex, es)
         (met-ref w ok n k
@@ -120,5 +121,5 @@ module _ (from to : ℕ) (L : Lent) (segs : List Float) where
         rw (ex, es) (met-range w ok Done (range-goes L slots (to - from) from (λ j m p q d. none j m p (omega arith) (look-exact L slots j m .0 d))))
 
     -- Tiling is exact
-    pub tile-call-exact : TileMet from to L segs x segs′ ↔ TileWay from to L segs x segs′
+    pub tile-call-exact : TileMet from to L lent x left ↔ TileWay from to L lent x left
     tile-call-exact = (why, back)

@@ -2,6 +2,7 @@
 --     OneAnswer    one answer only: of the picture's two calls, and of the exported ones
 --     Cheats       no cheat meets a promise: one law, and an instance for each call
 --     Drawn        from counting to the screen: no tile is refused, and the pixels are those of painting
+--     FillTags     every slot of a written FILL carries the beam number of the path that it was written for
 --     ExactCount, ExactStages, ExactTile, ExactLists, ExactFrame, ExactPpm, ExactPixel   exact at the call: a promise is met where one of the call's ways holds, and nowhere else
 pub mod OneAnswer
 pub mod Cheats
@@ -13,3 +14,4 @@ pub mod ExactFrame
 pub mod ExactPpm
 pub mod ExactPixel
 pub mod Drawn
+pub mod FillTags

@@ -5,6 +5,7 @@ use mathlib.Core.List.{List}
 use Prim.Native.Nat.{ℕ}
 use lib.IntN.{ℤ}
 use lib.Ieee.{Float}
+use Rattle.panel.specs.Pieces.{Pieces}
 use Rattle.path_tiling.specs.Look.{Lent}
 use Rattle.write_lists.specs.Pairs.{Tables}
 use Rattle.ppm_write.specs.Write.{Left, WriteMet}
@@ -59,9 +60,9 @@ one-gp-hand room ns kept r s ns₁ ns₂ kept₁ kept₂ p q =
     let e = p ∙ sym q in
     (ap (λ (x : Seen (List ℕ × List ℕ)). x .number) e, ap (λ (x : Seen (List ℕ × List ℕ)). x .lent .0) e, ap (λ (x : Seen (List ℕ × List ℕ)). x .lent .1) e)
 
-pub one-gp-tile : (from to : ℕ) (L : Lent) (segs : List Float) (r s i j : ℕ) (segs₁ segs₂ : List Float) → GpTileMet from to L segs r i segs₁ → GpTileMet from to L segs s j segs₂
-    → (r ≡ s) × (i ≡ j) × (segs₁ ≡ segs₂)
-one-gp-tile from to L segs r s i j segs₁ segs₂ p q = same-seen-at r s i j segs₁ segs₂ _ p q
+pub one-gp-tile : (from to : ℕ) (L : Lent) (lent : Pieces) (r s i j : ℕ) (p₁ p₂ : Pieces) → GpTileMet from to L lent r i p₁ → GpTileMet from to L lent s j p₂
+    → (r ≡ s) × (i ≡ j) × (p₁ ≡ p₂)
+one-gp-tile from to L lent r s i j p₁ p₂ p q = same-seen-at r s i j p₁ p₂ _ p q
 
 pub one-gp-fine : (words : List ℕ) (segs : List Float) (width cols rows from to : ℕ) (pixels : List ℕ) (r s i j : ℕ) (pixels₁ pixels₂ : List ℕ)
     → GpFineMet words segs width cols rows from to pixels r i pixels₁ → GpFineMet words segs width cols rows from to pixels s j pixels₂
@@ -98,8 +99,8 @@ one-gp-recount p lineNos nos coords paths bs cs rs kb kc r s i j m₁ m₂ bs₁
       ap (λ (x : RecountSeen). x .keptCounts) q,
     )
 
-pub one-gp-frame : (nos : List ℕ) (coords : List Float) (paths : List ℕ) (bs : List ℤ) (ts ks rs : List ℕ) (sg : List Float) (r s at₁ at₂ i j l₁ l₂ m₁ m₂ : ℕ)
-    (bs₁ bs₂ : List ℤ) (ts₁ ts₂ ks₁ ks₂ rs₁ rs₂ : List ℕ) (sg₁ sg₂ : List Float)
+pub one-gp-frame : (nos : List ℕ) (coords : List Float) (paths : List ℕ) (bs : List ℤ) (ts ks rs : List ℕ) (sg : Pieces) (r s at₁ at₂ i j l₁ l₂ m₁ m₂ : ℕ)
+    (bs₁ bs₂ : List ℤ) (ts₁ ts₂ ks₁ ks₂ rs₁ rs₂ : List ℕ) (sg₁ sg₂ : Pieces)
     → GpFrameMet nos coords paths bs ts ks rs sg r at₁ i l₁ m₁ bs₁ ts₁ ks₁ rs₁ sg₁ → GpFrameMet nos coords paths bs ts ks rs sg s at₂ j l₂ m₂ bs₂ ts₂ ks₂ rs₂ sg₂
     → (r ≡ s) × (at₁ ≡ at₂) × (i ≡ j) × (l₁ ≡ l₂) × (m₁ ≡ m₂) × (bs₁ ≡ bs₂) × (ts₁ ≡ ts₂) × (ks₁ ≡ ks₂) × (rs₁ ≡ rs₂) × (sg₁ ≡ sg₂)
 one-gp-frame nos coords paths bs ts ks rs sg r s at₁ at₂ i j l₁ l₂ m₁ m₂ bs₁ bs₂ ts₁ ts₂ ks₁ ks₂ rs₁ rs₂ sg₁ sg₂ p q =
@@ -113,7 +114,7 @@ one-gp-frame nos coords paths bs ts ks rs sg r s at₁ at₂ i j l₁ l₂ m₁ 
       ap (λ (x : FrameSeen). x .stored) e,
       ap (λ (x : FrameSeen). x .tally) e,
       ap (λ (x : FrameSeen). x .refs) e,
-      ap (λ (x : FrameSeen). x .segments) e,
+      ap (λ (x : FrameSeen). x .pieces) e,
     )
 
 pub one-gp-lists : (t : Tables) (cols rows room : ℕ) (ws : List ℕ) (r s i j : ℕ) (ws₁ ws₂ : List ℕ) → GpListsMet t cols rows room ws r i ws₁ → GpListsMet t cols rows room ws s j ws₂

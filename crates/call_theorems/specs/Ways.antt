@@ -8,6 +8,7 @@ use Prim.Native.Nat.{ℕ, _+_, _-_, _*_, _/_, _≤_, _<_, min}
 use lib.IntN.{ℤ, pos}
 use lib.ListN.{length, replicate, drop}
 use lib.Ieee.{Float}
+use Rattle.panel.specs.Pieces.{Pieces}
 use Rattle.lists.specs.Run.{done}
 use Rattle.lists.specs.Sums.{sum}
 use Rattle.lists.specs.Tally.{zeros}
@@ -116,26 +117,28 @@ pub data HandWay (room : ℕ) (ns kept : List ℕ) (x : Answer) (ns′ kept′ :
 
 -- ---- tiling
 
-abbrev pub tileWhole : ℕ → ℕ → Lent → List Float → Bool
-tileWhole from to L segs = Tiling.wholeOf from to (length (L .pathNos)) (length (L .coords)) (length (L .paths)) (length (L .refs)) (length segs)
+abbrev pub tileWhole : ℕ → ℕ → Lent → Pieces → Bool
+tileWhole from to L p =
+    Tiling.wholeOf from to (length (L .pathNos)) (length (L .coords)) (length (L .paths)) (length (L .refs))
+    (length (p .segments)) (length (p .tags))
 
 -- no reference of a range is refused
 abbrev pub NoneRefused : Lent → (slots low high : ℕ) → Type 0
 NoneRefused L slots low high = (j m : ℕ) → low ≤ j → j < high → LookWhy L slots j m → ⊥
 
-pub data TileWay (from to : ℕ) (L : Lent) (segs : List Float) (x : Answer) (segs′ : List Float) : Type 0 where
+pub data TileWay (from to : ℕ) (L : Lent) (p : Pieces) (x : Answer) (p′ : Pieces) : Type 0 where
   -- 1: a length or the range
-  unwhole : x ≡ Refused notWhole 0 → tileWhole from to L segs ≡ false → segs′ ≡ segs → TileWay from to L segs x segs′
+  unwhole : x ≡ Refused notWhole 0 → tileWhole from to L p ≡ false → p′ ≡ p → TileWay from to L p x p′
   -- 1 to 4 of the paths
-  paths-refused : (n item : ℕ) → x ≡ Refused n item → tileWhole from to L segs ≡ true → PathsWhy (L .paths) (length (L .stored)) n item → segs′ ≡ segs
-      → TileWay from to L segs x segs′
-  -- reference k is refused, the first: the segments of those before it are written, and no other
-  ref-refused : (n k : ℕ) → x ≡ Refused n k → tileWhole from to L segs ≡ true → pathsAnswer (L .paths) (length (L .stored)) ≡ Done → from ≤ k → k < to
-      → NoneRefused L (slotsOf (length segs)) from k → LookWhy L (slotsOf (length segs)) k n
-      → segs′ ≡ applied (rangeOf L (slotsOf (length segs)) (k - from) from .writes) segs → TileWay from to L segs x segs′
+  paths-refused : (n item : ℕ) → x ≡ Refused n item → tileWhole from to L p ≡ true → PathsWhy (L .paths) (length (L .stored)) n item → p′ ≡ p
+      → TileWay from to L p x p′
+  -- reference k is refused, the first: the segments and tags of those before it are written, and no other
+  ref-refused : (n k : ℕ) → x ≡ Refused n k → tileWhole from to L p ≡ true → pathsAnswer (L .paths) (length (L .stored)) ≡ Done → from ≤ k → k < to
+      → NoneRefused L (slotsOf (length (p .segments))) from k → LookWhy L (slotsOf (length (p .segments))) k n
+      → p′ ≡ applied (rangeOf L (slotsOf (length (p .segments))) (k - from) from .writes) p → TileWay from to L p x p′
   -- none is: all are written
-  all-tiled : x ≡ Done → tileWhole from to L segs ≡ true → pathsAnswer (L .paths) (length (L .stored)) ≡ Done → NoneRefused L (slotsOf (length segs)) from to
-      → segs′ ≡ applied (rangeOf L (slotsOf (length segs)) (to - from) from .writes) segs → TileWay from to L segs x segs′
+  all-tiled : x ≡ Done → tileWhole from to L p ≡ true → pathsAnswer (L .paths) (length (L .stored)) ≡ Done → NoneRefused L (slotsOf (length (p .segments))) from to
+      → p′ ≡ applied (rangeOf L (slotsOf (length (p .segments))) (to - from) from .writes) p → TileWay from to L p x p′
 
 -- ---- coverage
 
@@ -202,30 +205,32 @@ pub data ListsWay (s : Tables) (cols rows room : ℕ) (ws : List ℕ) (x : Answe
 
 -- ---- a frame, by its stages' ways
 
-abbrev pub frameRow : (nos : List ℕ) (coords : List Float) (backs : List ℤ) (stored tally refs : List ℕ) (segs : List Float) → List Check
-frameRow nos coords backs stored tally refs segs = Frame.lentChecks (length nos) (length coords) (length backs) (length stored) (length tally) (length refs) (length segs)
+abbrev pub frameRow : (nos : List ℕ) (coords : List Float) (backs : List ℤ) (stored tally refs : List ℕ) (p : Pieces) → List Check
+frameRow nos coords backs stored tally refs p =
+    Frame.lentChecks (length nos) (length coords) (length backs) (length stored) (length tally) (length refs)
+    (length (p .segments)) (length (p .tags))
 
 -- counting's way, of all lines into n cleared tiles
 abbrev pub FrameCounts : (nos : List ℕ) (coords : List Float) (paths : List ℕ) → ℕ → (refs : List ℕ) → Counted → (bs : List ℤ) (cs rs : List ℕ) → Type 0
 FrameCounts nos coords paths n refs x bs cs rs = CountWay (runningOf 0 0) (length nos) nos coords paths (replicate n (pos 0)) (zeros n) refs x bs cs rs
 
-pub data FrameWay (nos : List ℕ) (coords : List Float) (paths : List ℕ) (backs : List ℤ) (stored tally refs : List ℕ) (segs : List Float)
-    (x : Framed) (bs : List ℤ) (ts ks rs : List ℕ) (sg : List Float) : Type 0 where
+pub data FrameWay (nos : List ℕ) (coords : List Float) (paths : List ℕ) (backs : List ℤ) (stored tally refs : List ℕ) (p : Pieces)
+    (x : Framed) (bs : List ℤ) (ts ks rs : List ℕ) (sg : Pieces) : Type 0 where
   -- 1 to 4: nothing changes
-  frame-refused : (n item : ℕ) → x ≡ Framed.Refused Stage.Lent n item (runningOf 0 0) → FirstWhy (frameRow nos coords backs stored tally refs segs) paths (length stored) n item
-      → bs ≡ backs → ts ≡ stored → ks ≡ tally → rs ≡ refs → sg ≡ segs → FrameWay nos coords paths backs stored tally refs segs x bs ts ks rs sg
+  frame-refused : (n item : ℕ) → x ≡ Framed.Refused Stage.Lent n item (runningOf 0 0) → FirstWhy (frameRow nos coords backs stored tally refs p) paths (length stored) n item
+      → bs ≡ backs → ts ≡ stored → ks ≡ tally → rs ≡ refs → sg ≡ p → FrameWay nos coords paths backs stored tally refs p x bs ts ks rs sg
   -- a line is refused: the lines before it are counted into cleared tiles
-  count-refused : (n : ℕ) (s : Running) → x ≡ Framed.Refused Stage.Count n (s .lines) s → Passes (frameRow nos coords backs stored tally refs segs) paths (length stored)
-      → FrameCounts nos coords paths (length stored) refs (Counted.Refused n (s .lines) s) bs ts rs → ks ≡ tally → sg ≡ segs
-      → FrameWay nos coords paths backs stored tally refs segs x bs ts ks rs sg
+  count-refused : (n : ℕ) (s : Running) → x ≡ Framed.Refused Stage.Count n (s .lines) s → Passes (frameRow nos coords backs stored tally refs p) paths (length stored)
+      → FrameCounts nos coords paths (length stored) refs (Counted.Refused n (s .lines) s) bs ts rs → ks ≡ tally → sg ≡ p
+      → FrameWay nos coords paths backs stored tally refs p x bs ts ks rs sg
   -- 9: all lines are counted and summed, and there are more references than segments lent, or than may be
-  slots-refused : (s : Running) (marks : List ℤ) → x ≡ Framed.Refused Stage.HandOut noRoom 0 s → Passes (frameRow nos coords backs stored tally refs segs) paths (length stored)
-      → FrameCounts nos coords paths (length stored) refs (Counted.Done s) marks ts rs → BackdropWay paths marks Done bs → slotsOf (length segs) < s .refs → ks ≡ tally → sg ≡ segs
-      → FrameWay nos coords paths backs stored tally refs segs x bs ts ks rs sg
+  slots-refused : (s : Running) (marks : List ℤ) → x ≡ Framed.Refused Stage.HandOut noRoom 0 s → Passes (frameRow nos coords backs stored tally refs p) paths (length stored)
+      → FrameCounts nos coords paths (length stored) refs (Counted.Done s) marks ts rs → BackdropWay paths marks Done bs → slotsOf (length (p .segments)) < s .refs → ks ≡ tally → sg ≡ p
+      → FrameWay nos coords paths backs stored tally refs p x bs ts ks rs sg
   -- all lines are counted and summed, the slots are handed out, and the references tiled: all, or those before the one refused
-  frame-tiled : (a : Answer) (s : Running) (marks : List ℤ) → x ≡ tiledAs a s → Passes (frameRow nos coords backs stored tally refs segs) paths (length stored)
-      → FrameCounts nos coords paths (length stored) refs (Counted.Done s) marks ks rs → BackdropWay paths marks Done bs → s .refs ≤ slotsOf (length segs) → ts ≡ hand 0 ks
-      → TileWay 0 (s .refs) (lent nos coords paths ts rs) segs a sg → FrameWay nos coords paths backs stored tally refs segs x bs ts ks rs sg
+  frame-tiled : (a : Answer) (s : Running) (marks : List ℤ) → x ≡ tiledAs a s → Passes (frameRow nos coords backs stored tally refs p) paths (length stored)
+      → FrameCounts nos coords paths (length stored) refs (Counted.Done s) marks ks rs → BackdropWay paths marks Done bs → s .refs ≤ slotsOf (length (p .segments)) → ts ≡ hand 0 ks
+      → TileWay 0 (s .refs) (lent nos coords paths ts rs) p a sg → FrameWay nos coords paths backs stored tally refs p x bs ts ks rs sg
 
 -- ---- a picture, written and read
 

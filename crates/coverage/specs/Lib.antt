@@ -1,8 +1,10 @@
 -- Coverage, a pixel at a time. Definitions only.
 --     Row, Coverage   by parts
 --     Page            the same on one page, beside fine.rs
+--     Rows            all rows of a segment at once, for the functions alone
 pub mod Tile
 pub mod Row
+pub mod Rows
 pub mod Coverage
 pub mod Page
 pub mod Ground

@@ -1,12 +1,16 @@
 // The areas of a tile's pixels, row by row, segment by segment, and what they end as: fine.rs, lines
 // 51 to 109.
 use crate::row::Reach;
+use crate::row::Row;
 use crate::row::Way;
 use crate::row::added;
 use crate::row::reach_of;
-use crate::row::row_of;
 use crate::row::up_to_one;
 use crate::row::way_of;
+use crate::rows::four_clear;
+use crate::rows::no_rows;
+use crate::rows::row_at;
+use crate::rows::rows_of;
 use crate::tile::TILE_HEIGHT;
 use crate::tile::TILE_SIZE;
 use crate::tile::TILE_WIDTH;
@@ -20,7 +24,8 @@ ghost use lib.ListN.{length};
 ghost use Rattle.lists.specs.Grid.{mapi, within};
 ghost use Rattle.panel.specs.Widths.{segmentFloats};
 ghost use Rattle.coverage.specs.Tile.{tileHeight, tileSize, rowStart, rowEnd};
-ghost use Rattle.coverage.specs.Row.{slanted, edged, stepWay};
+ghost use Rattle.coverage.specs.Row.{slanted, edged, stepRow, stepWay};
+ghost use Rattle.coverage.specs.Rows.{stepIn};
 ghost use Rattle.coverage.specs.Coverage.{areaAfter, finishOf, coverageOf};
 
 // Row yi, where the segment goes through it.
@@ -51,12 +56,11 @@ pub fn add_edge(area: &mut [f32], edge: f32, yi: usize)
     }
 }
 
-// Row yi of a segment.
-pub fn add_row(area: &mut [f32], w: Way, yt: f32, yi: usize)
+// Row yi of a segment, which is r.
+pub fn add_row(area: &mut [f32], w: Way, r: Row, yi: usize)
     requires { ⌜ (yi < tileHeight) × (length (now area) ≡ tileSize) ⌝ }
-    ensures { λ _. ⌜ now (area .exit) ≡ mapi (within (rowStart yi) (rowEnd yi) (stepWay w yt)) (now (area .entry)) ⌝ }
+    ensures { λ _. ⌜ now (area .exit) ≡ mapi (within (rowStart yi) (rowEnd yi) (stepRow w r)) (now (area .entry)) ⌝ }
 {
-    let r = row_of(w, yt, yi);
     let dy = r.dy;
     let edge = r.edge;
     if dy != 0.0 {
@@ -66,16 +70,65 @@ pub fn add_row(area: &mut [f32], w: Way, yt: f32, yi: usize)
     }
 }
 
-// All rows of a segment.
+// Four rows of a segment from yi on, whose numbers are these. Most segments are low: four rows that get
+// nothing are passed over by one test.
+pub fn add_four(
+    area: &mut [f32],
+    w: Way,
+    ys: &[f32; TILE_HEIGHT],
+    y0s: &[f32; TILE_HEIGHT],
+    y1s: &[f32; TILE_HEIGHT],
+    dys: &[f32; TILE_HEIGHT],
+    edges: &[f32; TILE_HEIGHT],
+    yi: usize,
+)
+    requires { ⌜ (yi + 4 ≤ tileHeight) × (length (now area) ≡ tileSize) ⌝ }
+    ensures { λ _. ⌜ now (area .exit) ≡ mapi (within (rowStart yi) (rowStart (yi + 4)) (stepIn w (now (ys .entry)) (now (y0s .entry)) (now (y1s .entry)) (now (dys .entry)) (now (edges .entry)))) (now (area .entry)) ⌝ }
+{
+    let nothing = four_clear(dys, edges, yi);
+    if nothing {
+        return;
+    }
+    let mut k = 0usize;
+    while k < 4 {
+        let at = yi + k;
+        add_row(area, w, row_at(ys, y0s, y1s, dys, edges, at), at);
+        k += 1;
+    }
+}
+
+// All rows of a segment, four at a time.
+pub fn add_rows(
+    area: &mut [f32],
+    w: Way,
+    ys: &[f32; TILE_HEIGHT],
+    y0s: &[f32; TILE_HEIGHT],
+    y1s: &[f32; TILE_HEIGHT],
+    dys: &[f32; TILE_HEIGHT],
+    edges: &[f32; TILE_HEIGHT],
+)
+    requires { ⌜ length (now area) ≡ tileSize ⌝ }
+    ensures { λ _. ⌜ now (area .exit) ≡ mapi (stepIn w (now (ys .entry)) (now (y0s .entry)) (now (y1s .entry)) (now (dys .entry)) (now (edges .entry))) (now (area .entry)) ⌝ }
+{
+    let mut yi = 0usize;
+    while yi < TILE_HEIGHT {
+        add_four(area, w, ys, y0s, y1s, dys, edges, yi);
+        yi += 4;
+    }
+}
+
+// A segment: its rows' numbers first, then the rows.
 pub fn add_segment(area: &mut [f32], w: Way, yt: f32)
     requires { ⌜ length (now area) ≡ tileSize ⌝ }
     ensures { λ _. ⌜ now (area .exit) ≡ mapi (stepWay w yt) (now (area .entry)) ⌝ }
 {
-    let mut yi = 0usize;
-    while yi < TILE_HEIGHT {
-        add_row(area, w, yt, yi);
-        yi += 1;
-    }
+    let mut ys = no_rows();
+    let mut y0s = no_rows();
+    let mut y1s = no_rows();
+    let mut dys = no_rows();
+    let mut edges = no_rows();
+    rows_of(w, yt, &mut ys, &mut y0s, &mut y1s, &mut dys, &mut edges);
+    add_rows(area, w, &ys, &y0s, &y1s, &dys, &edges);
 }
 
 // The n segments from the first on, in order.

@@ -3,6 +3,7 @@
 pub mod area;
 pub mod ground;
 pub mod row;
+pub mod rows;
 pub mod tile;
 
 use area::fill_path;

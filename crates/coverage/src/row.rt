@@ -1,13 +1,13 @@
 // What a segment does to one row of pixels, and to one pixel of it: fine.rs, lines 59 to 93. The
 // divisions and signs that are the same in every row stand before the rows.
-use float32::clamp;
 use float32::max;
 use float32::min;
+use float32::pick;
 use float32::signum;
 use panel::segments::Segment;
 ghost use mathlib.Core.Path.{_≡_};
 ghost use Prim.Native.Nat.{_<_};
-ghost use Rattle.float32.specs.Meaning.{minOf, maxOf};
+ghost use Rattle.float32.specs.Meaning.{minOf, maxOf, clampOf};
 ghost use Rattle.util.specs.Constants.{zero, one};
 ghost use Rattle.coverage.specs.Tile.{tileWidth, tileHeight};
 ghost use Rattle.coverage.specs.Row.{wayOf, rowOf, reachOf, addedOf};
@@ -57,15 +57,23 @@ pub fn way_of(s: Segment, xt: f32) -> Way
     }
 }
 
+// x brought within a row, from its top at 0 to 1. Two choices, with no branch: a NaN and -0 stay.
+pub fn in_row(x: f32) -> f32
+    ensures { λ r. ⌜ r ≡ clampOf x zero one ⌝ }
+{
+    let high = pick(x < 0.0, 0.0, x);
+    pick(1.0 < high, 1.0, high)
+}
+
 pub fn row_of(w: Way, yt: f32, yi: usize) -> Row
     requires { ⌜ yi < tileHeight ⌝ }
     ensures { λ r. ⌜ r ≡ rowOf w yt yi ⌝ }
 {
     let top = yt + (yi as f32);
     let y = w.y - top;
-    let y0 = clamp(y, 0.0, 1.0);
-    let y1 = clamp(y + w.dy, 0.0, 1.0);
-    let edge = w.sign * clamp(top - w.edge + 1.0, 0.0, 1.0);
+    let y0 = in_row(y);
+    let y1 = in_row(y + w.dy);
+    let edge = w.sign * in_row(top - w.edge + 1.0);
     Row {
         y,
         y0,

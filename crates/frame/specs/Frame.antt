@@ -11,6 +11,7 @@ use Rattle.panel.specs.Widths.{lineFloats, refWords, segmentFloats}
 use Rattle.panel.specs.Kinds.{runningOf}
 use Rattle.panel.specs.Checks.{Check, check, firstNo, unless}
 use Rattle.panel.specs.Paths.{pathsAnswer}
+use Rattle.panel.specs.Pieces.{Pieces}
 use Rattle.panel.specs.declared.kinds.Running.{Running}
 use Rattle.panel.specs.declared.kinds.Answer.{Answer}
 use Rattle.panel.specs.declared.kinds.Answer.the-variants as Answer
@@ -48,10 +49,10 @@ pub record Out : Type 0 where
   pub stored : List ℕ
   pub tally : List ℕ
   pub refs : List ℕ
-  pub segments : List Float
+  pub pieces : Pieces
 
-abbrev pub outOf : Framed → List ℤ → List ℕ → List ℕ → List ℕ → List Float → Out
-outOf f bs ts ks rs sg = record { paper = paperOf f; backs = bs; stored = ts; tally = ks; refs = rs; segments = sg }
+abbrev pub outOf : Framed → List ℤ → List ℕ → List ℕ → List ℕ → Pieces → Out
+outOf f bs ts ks rs p = record { paper = paperOf f; backs = bs; stored = ts; tally = ks; refs = rs; pieces = p }
 
 -- ---- a stage's answer, read off its paper
 
@@ -78,50 +79,55 @@ goOnCounted (Counted.Refused n item s) ends next = ends (Refused Stage.Count n i
 
 -- ---- the stages
 
--- after counting, with so many lines and references: the sums, the slots as far as there is room for segments, and a segment for each reference
-unfoldable pub placedOf : Running → (nos : List ℕ) (coords : List Float) (paths : List ℕ) (backs : List ℤ) (stored tally refs : List ℕ) (segs : List Float) → Out
-placedOf s nos coords paths backs stored tally refs segs =
+-- after counting, with so many lines and references: the sums, the slots as far as there is room for segments, and a segment and its tag for each
+-- reference
+unfoldable pub placedOf : Running → (nos : List ℕ) (coords : List Float) (paths : List ℕ) (backs : List ℤ) (stored tally refs : List ℕ) (p : Pieces) → Out
+placedOf s nos coords paths backs stored tally refs p =
     let b = Backdrop.backdropOf paths backs in
-    let h = HandOut.handOutOf (slotsOf (length segs)) stored tally in
-    let t = tiledOf 0 (s .refs) (lent nos coords paths (h .stored) refs) segs in
-    goOn (answerOn (b .paper)) Stage.Backdrop s (λ f. outOf f (b .backs) stored tally refs segs)
-    (goOn (answerOn (h .paper)) Stage.HandOut s (λ f. outOf f (b .backs) (h .stored) (h .tally) refs segs)
-    (goOn (answerOn (t .paper)) Stage.Tile s (λ f. outOf f (b .backs) (h .stored) (h .tally) refs (t .segments))
-    (outOf (Done s) (b .backs) (h .stored) (h .tally) refs (t .segments))))
+    let h = HandOut.handOutOf (slotsOf (length (p .segments))) stored tally in
+    let t = tiledOf 0 (s .refs) (lent nos coords paths (h .stored) refs) p in
+    goOn (answerOn (b .paper)) Stage.Backdrop s (λ f. outOf f (b .backs) stored tally refs p)
+    (goOn (answerOn (h .paper)) Stage.HandOut s (λ f. outOf f (b .backs) (h .stored) (h .tally) refs p)
+    (goOn (answerOn (t .paper)) Stage.Tile s (λ f. outOf f (b .backs) (h .stored) (h .tally) refs (t .pieces))
+    (outOf (Done s) (b .backs) (h .stored) (h .tally) refs (t .pieces))))
 
 -- all lines, counted into cleared tiles; then the rest
-unfoldable pub drawnOf : (nos : List ℕ) (coords : List Float) (paths : List ℕ) (backs : List ℤ) (stored tally refs : List ℕ) (segs : List Float) → Out
-drawnOf nos coords paths backs stored tally refs segs =
+unfoldable pub drawnOf : (nos : List ℕ) (coords : List Float) (paths : List ℕ) (backs : List ℤ) (stored tally refs : List ℕ) (p : Pieces) → Out
+drawnOf nos coords paths backs stored tally refs p =
     let c = counted (runningOf 0 0) (length nos) nos coords paths (replicate (length backs) (pos 0)) (replicate (length stored) 0) refs in
-    goOnCounted (countedOn (c .paper)) (λ f. outOf f (c .backs) (c .counts) tally (c .refs) segs)
-    (λ s. placedOf s nos coords paths (c .backs) (c .counts) tally (c .refs) segs)
+    goOnCounted (countedOn (c .paper)) (λ f. outOf f (c .backs) (c .counts) tally (c .refs) p)
+    (λ s. placedOf s nos coords paths (c .backs) (c .counts) tally (c .refs) p)
 
 -- ---- the call
 
--- the lengths lent: path numbers, coordinates, backdrops, stored words, tally, references, segments
-abbrev pub lentChecks : (nn nc nb nt nk nr ns : ℕ) → List Check
-lentChecks nn nc nb nt nk nr ns =
+-- the lengths lent: path numbers, coordinates, backdrops, stored words, tally, references, segments, tags
+abbrev pub lentChecks : (nn nc nb nt nk nr ns ng : ℕ) → List Check
+lentChecks nn nc nb nt nk nr ns ng =
     check (eqb (nc % lineFloats) 0) notWhole
     ∷ check (eqb nn (nc / lineFloats)) notWhole
     ∷ check (eqb nb nt) notWhole
     ∷ check (eqb nt nk) notWhole
     ∷ check (eqb (nr % refWords) 0) notWhole
     ∷ check (eqb (ns % segmentFloats) 0) notWhole
+    ∷ check (eqb ng (ns / segmentFloats)) notWhole
     ∷ []
 
 -- 1 of all stages, then 1, 2, 3 and 4 of the paths
-unfoldable pub checksOf : (nos : List ℕ) (coords : List Float) (paths : List ℕ) (backs : List ℤ) (stored tally refs : List ℕ) (segs : List Float) → Answer
-checksOf nos coords paths backs stored tally refs segs =
-    unless (firstNo (lentChecks (length nos) (length coords) (length backs) (length stored) (length tally) (length refs) (length segs))) 0
+unfoldable pub checksOf : (nos : List ℕ) (coords : List Float) (paths : List ℕ) (backs : List ℤ) (stored tally refs : List ℕ) (p : Pieces) → Answer
+checksOf nos coords paths backs stored tally refs p =
+    unless
+    (firstNo
+    (lentChecks (length nos) (length coords) (length backs) (length stored) (length tally) (length refs) (length (p .segments)) (length (p .tags))))
+    0
     (pathsAnswer paths (length stored))
 
 -- a refusal there changes nothing
-unfoldable pub frameOf : (nos : List ℕ) (coords : List Float) (paths : List ℕ) (backs : List ℤ) (stored tally refs : List ℕ) (segs : List Float) → Out
-frameOf nos coords paths backs stored tally refs segs =
-    goOn (checksOf nos coords paths backs stored tally refs segs) Stage.Lent (runningOf 0 0) (λ f. outOf f backs stored tally refs segs)
-    (drawnOf nos coords paths backs stored tally refs segs)
+unfoldable pub frameOf : (nos : List ℕ) (coords : List Float) (paths : List ℕ) (backs : List ℤ) (stored tally refs : List ℕ) (p : Pieces) → Out
+frameOf nos coords paths backs stored tally refs p =
+    goOn (checksOf nos coords paths backs stored tally refs p) Stage.Lent (runningOf 0 0) (λ f. outOf f backs stored tally refs p)
+    (drawnOf nos coords paths backs stored tally refs p)
 
 -- the call's promise: the answer r, and all that was lent to be changed as it is afterwards, are these
-abbrev pub FrameMet : (nos : List ℕ) (coords : List Float) (paths : List ℕ) (bs : List ℤ) (ts ks rs : List ℕ) (sg : List Float) → Framed
-    → (bs′ : List ℤ) (ts′ ks′ rs′ : List ℕ) (sg′ : List Float) → Type 0
-FrameMet nos coords paths bs ts ks rs sg r bs′ ts′ ks′ rs′ sg′ = outOf r bs′ ts′ ks′ rs′ sg′ ≡ frameOf nos coords paths bs ts ks rs sg
+abbrev pub FrameMet : (nos : List ℕ) (coords : List Float) (paths : List ℕ) (bs : List ℤ) (ts ks rs : List ℕ) (p : Pieces) → Framed
+    → (bs′ : List ℤ) (ts′ ks′ rs′ : List ℕ) (p′ : Pieces) → Type 0
+FrameMet nos coords paths bs ts ks rs p r bs′ ts′ ks′ rs′ p′ = outOf r bs′ ts′ ks′ rs′ p′ ≡ frameOf nos coords paths bs ts ks rs p

@@ -1,6 +1,7 @@
 // The public call, which asks nothing of its caller.
 ghost use mathlib.Core.Path.{_≡_};
 ghost use Rattle.panel.specs.Checks.{firstNo};
+ghost use Rattle.panel.specs.Pieces.{pieces};
 ghost use Rattle.frame.specs.Frame.{lentChecks, FrameMet};
 use super::kinds::Framed;
 use super::kinds::Stage;
@@ -23,8 +24,9 @@ fn check_lent(
     nk: usize,
     nr: usize,
     ns: usize,
+    ng: usize,
 ) -> Verdict
-    ensures { λ r. ⌜ r ≡ firstNo (lentChecks nn nc nb nt nk nr ns) ⌝ }
+    ensures { λ r. ⌜ r ≡ firstNo (lentChecks nn nc nb nt nk nr ns ng) ⌝ }
 {
     if nc % LINE_FLOATS != 0 {
         return Verdict::Against(NOT_WHOLE);
@@ -44,11 +46,15 @@ fn check_lent(
     if ns % SEGMENT_FLOATS != 0 {
         return Verdict::Against(NOT_WHOLE);
     }
+    if ng != ns / SEGMENT_FLOATS {
+        return Verdict::Against(NOT_WHOLE);
+    }
     Verdict::Fine
 }
 
 // A frame: its lines given by their path numbers and coordinates, its tiles by backdrops, counts and
-// tally. The segments afterwards are fine's to paint.
+// tally. The segments afterwards are fine's to paint; each has its tag beside it, the beam number of
+// its path.
 pub fn frame(
     path_nos: &[u32],
     coords: &[f32],
@@ -58,10 +64,11 @@ pub fn frame(
     tally: &mut [u32],
     refs: &mut [u32],
     segments: &mut [f32],
+    tags: &mut [u32],
 ) -> Framed
     ensures { λ r. ⌜ FrameMet (now («path_nos» .entry)) (now (coords .entry)) (now (paths .entry)) (now (backdrops .entry)) (now (stored .entry))
-        (now (tally .entry)) (now (refs .entry)) (now (segments .entry))
-        r (now (backdrops .exit)) (now (stored .exit)) (now (tally .exit)) (now (refs .exit)) (now (segments .exit)) ⌝ }
+        (now (tally .entry)) (now (refs .entry)) (pieces (now (segments .entry)) (now (tags .entry)))
+        r (now (backdrops .exit)) (now (stored .exit)) (now (tally .exit)) (now (refs .exit)) (pieces (now (segments .exit)) (now (tags .exit))) ⌝ }
 {
     let none = Running { lines: 0, refs: 0 };
     let v = check_lent(
@@ -72,6 +79,7 @@ pub fn frame(
         tally.len(),
         refs.len(),
         segments.len(),
+        tags.len(),
     );
     if let Verdict::Against(why) = v {
         return Framed::Refused(Stage::Lent, why, 0, none);
@@ -89,5 +97,6 @@ pub fn frame(
         tally,
         refs,
         segments,
+        tags,
     )
 }

@@ -4,6 +4,7 @@ ghost use Prim.Native.Nat.{_+_, min};
 ghost use lib.ListN.{length};
 ghost use Rattle.panel.specs.Limits.{mostLines};
 ghost use Rattle.panel.specs.Paths.{pathsAnswer};
+ghost use Rattle.panel.specs.Pieces.{pieces};
 ghost use Rattle.panel.specs.declared.kinds.Answer.the-variants.{Done};
 ghost use Rattle.frame.specs.Frame.{outOf, placedOf, drawnOf};
 use super::kinds::Framed;
@@ -27,7 +28,7 @@ fn end_of(lines: usize) -> u32
     }
 }
 
-// Where the lines are counted: the sums, the slots, and a segment for each reference.
+// Where the lines are counted: the sums, the slots, and a segment and its tag for each reference.
 fn place(
     s: Running,
     path_nos: &[u32],
@@ -38,11 +39,12 @@ fn place(
     tally: &mut [u32],
     refs: &[u32],
     segments: &mut [f32],
+    tags: &mut [u32],
 ) -> Framed
     requires { ⌜ (pathsAnswer (now paths) (length (now stored)) ≡ Done) × (length (now backdrops) ≡ length (now stored)) ⌝ }
-    ensures { λ r. ⌜ outOf r (now (backdrops .exit)) (now (stored .exit)) (now (tally .exit)) (now (refs .entry)) (now (segments .exit))
+    ensures { λ r. ⌜ outOf r (now (backdrops .exit)) (now (stored .exit)) (now (tally .exit)) (now (refs .entry)) (pieces (now (segments .exit)) (now (tags .exit)))
         ≡ placedOf s (now («path_nos» .entry)) (now (coords .entry)) (now (paths .entry)) (now (backdrops .entry)) (now (stored .entry)) (now (tally .entry))
-        (now (refs .entry)) (now (segments .entry)) ⌝ }
+        (now (refs .entry)) (pieces (now (segments .entry)) (now (tags .entry))) ⌝ }
 {
     let summed = backdrop::backdrop_checked(paths, backdrops);
     if let Answer::Refused(why, item) = summed {
@@ -62,6 +64,7 @@ fn place(
         stored,
         refs,
         segments,
+        tags,
     );
     if let Answer::Refused(why, item) = tiled {
         return Framed::Refused(Stage::Tile, why, item, s);
@@ -79,11 +82,12 @@ pub(crate) fn draw(
     tally: &mut [u32],
     refs: &mut [u32],
     segments: &mut [f32],
+    tags: &mut [u32],
 ) -> Framed
     requires { ⌜ (pathsAnswer (now paths) (length (now stored)) ≡ Done) × (length (now backdrops) ≡ length (now stored)) ⌝ }
-    ensures { λ r. ⌜ outOf r (now (backdrops .exit)) (now (stored .exit)) (now (tally .exit)) (now (refs .exit)) (now (segments .exit))
+    ensures { λ r. ⌜ outOf r (now (backdrops .exit)) (now (stored .exit)) (now (tally .exit)) (now (refs .exit)) (pieces (now (segments .exit)) (now (tags .exit)))
         ≡ drawnOf (now («path_nos» .entry)) (now (coords .entry)) (now (paths .entry)) (now (backdrops .entry)) (now (stored .entry)) (now (tally .entry))
-        (now (refs .entry)) (now (segments .entry)) ⌝ }
+        (now (refs .entry)) (pieces (now (segments .entry)) (now (tags .entry))) ⌝ }
 {
     // What an older frame left would be counted on.
     let marks = backdrops.len();
@@ -104,6 +108,7 @@ pub(crate) fn draw(
                 tally,
                 refs,
                 segments,
+                tags,
             )
         }
         Counted::Refused(why, item, s) => Framed::Refused(Stage::Count, why, item, s),

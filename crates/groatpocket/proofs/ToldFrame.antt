@@ -3,7 +3,7 @@ use mathlib.Core.Path.{_≡_, refl, ap}
 use mathlib.Core.List.{List}
 use Prim.Native.Nat.{ℕ}
 use lib.IntN.{ℤ}
-use lib.Ieee.{Float}
+use Rattle.panel.specs.Pieces.{Pieces}
 use Rattle.panel.specs.declared.kinds.Running.{Running}
 use Rattle.frame.specs.Frame.{Out, outOf, paperOf}
 use Rattle.frame.specs.declared.kinds.Framed.{Framed}
@@ -14,6 +14,6 @@ on-paper : (r : Framed) → toldOf (numberOn r) (stageOn r) (itemOn r) (runningO
 on-paper (Done s) = refl
 on-paper (Refused at n item s) = refl
 
-pub told-frame : (r : Framed) (s : Running) (n at i : ℕ) (bs : List ℤ) (ts ks rs : List ℕ) (sg : List Float) (o : Out) → n ≡ numberOn r → at ≡ stageOn r
-    → i ≡ itemOn r → s ≡ runningOn r → outOf r bs ts ks rs sg ≡ o → frameLent (toldOf n at i (s .lines) (s .refs)) bs ts ks rs sg ≡ frameSeen o
-told-frame r s n at i bs ts ks rs sg o h k l g e = rw (h, k, l, g, on-paper r) (ap frameSeen e)
+pub told-frame : (r : Framed) (s : Running) (n at i : ℕ) (bs : List ℤ) (ts ks rs : List ℕ) (p : Pieces) (o : Out) → n ≡ numberOn r → at ≡ stageOn r
+    → i ≡ itemOn r → s ≡ runningOn r → outOf r bs ts ks rs p ≡ o → frameLent (toldOf n at i (s .lines) (s .refs)) bs ts ks rs p ≡ frameSeen o
+told-frame r s n at i bs ts ks rs p o h k l g e = rw (h, k, l, g, on-paper r) (ap frameSeen e)

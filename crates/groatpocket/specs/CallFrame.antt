@@ -5,6 +5,7 @@ use mathlib.Core.List.{List, [], _∷_}
 use lib.IntN.{ℤ}
 use lib.Ieee.{Float}
 use Rattle.panel.specs.Refusals.{doneNo}
+use Rattle.panel.specs.Pieces.{Pieces}
 use Rattle.panel.specs.declared.kinds.Running.{Running}
 use Rattle.frame.specs.Frame as Frame
 use Rattle.frame.specs.Frame.{stageNo}
@@ -55,16 +56,16 @@ pub record FrameSeen : Type 0 where
   pub stored : List ℕ
   pub tally : List ℕ
   pub refs : List ℕ
-  pub segments : List Float
+  pub pieces : Pieces
 
-abbrev pub frameLent : Told → List ℤ → List ℕ → List ℕ → List ℕ → List Float → FrameSeen
-frameLent t bs ts ks rs sg = record { told = t; backs = bs; stored = ts; tally = ks; refs = rs; segments = sg }
+abbrev pub frameLent : Told → List ℤ → List ℕ → List ℕ → List ℕ → Pieces → FrameSeen
+frameLent t bs ts ks rs p = record { told = t; backs = bs; stored = ts; tally = ks; refs = rs; pieces = p }
 
 abbrev pub frameSeen : Frame.Out → FrameSeen
-frameSeen o = frameLent (toldOn (o .paper)) (o .backs) (o .stored) (o .tally) (o .refs) (o .segments)
+frameSeen o = frameLent (toldOn (o .paper)) (o .backs) (o .stored) (o .tally) (o .refs) (o .pieces)
 
 -- the call's promise: what a caller sees is what the frame's definition leaves
-abbrev pub GpFrameMet : (nos : List ℕ) (coords : List Float) (paths : List ℕ) (bs : List ℤ) (ts ks rs : List ℕ) (sg : List Float) → ℕ → ℕ → ℕ → ℕ → ℕ
-    → (bs′ : List ℤ) (ts′ ks′ rs′ : List ℕ) (sg′ : List Float) → Type 0
-GpFrameMet nos coords paths bs ts ks rs sg r stage item lines made bs′ ts′ ks′ rs′ sg′ =
-    frameLent (toldOf r stage item lines made) bs′ ts′ ks′ rs′ sg′ ≡ frameSeen (Frame.frameOf nos coords paths bs ts ks rs sg)
+abbrev pub GpFrameMet : (nos : List ℕ) (coords : List Float) (paths : List ℕ) (bs : List ℤ) (ts ks rs : List ℕ) (p : Pieces) → ℕ → ℕ → ℕ → ℕ → ℕ
+    → (bs′ : List ℤ) (ts′ ks′ rs′ : List ℕ) (p′ : Pieces) → Type 0
+GpFrameMet nos coords paths bs ts ks rs p r stage item lines made bs′ ts′ ks′ rs′ p′ =
+    frameLent (toldOf r stage item lines made) bs′ ts′ ks′ rs′ p′ ≡ frameSeen (Frame.frameOf nos coords paths bs ts ks rs p)

@@ -16,6 +16,7 @@ use Rattle.path_count.specs.Count as Count
 use Rattle.path_count.specs.declared.kinds.Counted.{Counted}
 use Rattle.path_count.specs.declared.kinds.Counted.the-variants.{Done, Refused}
 use Rattle.panel.specs.Refusals.{doneNo}
+use Rattle.panel.specs.Pieces.{Pieces}
 use Rattle.panel.specs.Kinds.{runningOf}
 use Rattle.panel.specs.declared.kinds.Running.{Running}
 use Rattle.groatpocket.specs.Seen.{no, item, Seen, seen, SeenAt, seenAt}
@@ -35,9 +36,9 @@ handed n stored tally = seen {L = List ℕ × List ℕ} n (stored, tally)
 abbrev pub handSeen : HandOut.Out → Seen (List ℕ × List ℕ)
 handSeen o = handed (no (o .paper)) (o .stored) (o .tally)
 
--- the segments
-abbrev pub tileSeen : Tiling.Tiled → SeenAt (List Float)
-tileSeen t = seenAt (no (t .paper)) (item (t .paper)) (t .segments)
+-- the segments and their tags
+abbrev pub tileSeen : Tiling.Tiled → SeenAt Pieces
+tileSeen t = seenAt (no (t .paper)) (item (t .paper)) (t .pieces)
 
 -- the pixels
 abbrev pub fineSeen : Fine.Shown → SeenAt (List ℕ)
@@ -92,8 +93,8 @@ GpBackdropMet paths bs r at bs′ = seenAt r at bs′ ≡ backdropSeen (Backdrop
 abbrev pub GpHandMet : ℕ → (ns kept : List ℕ) → ℕ → (ns′ kept′ : List ℕ) → Type 0
 GpHandMet room ns kept r ns′ kept′ = handed r ns′ kept′ ≡ handSeen (HandOut.handOutOf room ns kept)
 
-abbrev pub GpTileMet : ℕ → ℕ → Lent → (segs : List Float) → ℕ → ℕ → (segs′ : List Float) → Type 0
-GpTileMet from to L segs r at segs′ = seenAt r at segs′ ≡ tileSeen (Tiling.tiledOf from to L segs)
+abbrev pub GpTileMet : ℕ → ℕ → Lent → (p : Pieces) → ℕ → ℕ → (p′ : Pieces) → Type 0
+GpTileMet from to L p r at p′ = seenAt r at p′ ≡ tileSeen (Tiling.tiledOf from to L p)
 
 abbrev pub GpFineMet : List ℕ → List Float → ℕ → ℕ → ℕ → ℕ → ℕ → (pixels : List ℕ) → ℕ → ℕ → (pixels′ : List ℕ) → Type 0
 GpFineMet words segs width cols rows from to pixels r at pixels′ = seenAt r at pixels′ ≡ fineSeen (Fine.fineOf words segs width cols rows from to pixels)

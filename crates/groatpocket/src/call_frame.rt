@@ -4,6 +4,7 @@ use frame::stage_no;
 use panel::kinds::Running;
 use panel::refusals::DONE;
 ghost use mathlib.Core.Path.{_≡_};
+ghost use Rattle.panel.specs.Pieces.{pieces};
 ghost use Rattle.groatpocket.specs.CallFrame.{numberOn, stageOn, itemOn, runningOn, GpFrameMet};
 
 // The number that an answer has on paper, the stage's, the item's, and the running numbers.
@@ -53,15 +54,16 @@ pub extern "C" fn gp_frame(
     tally: &mut [u32],
     refs: &mut [u32],
     segments: &mut [f32],
+    tags: &mut [u32],
     stage: &mut u32,
     item: &mut u32,
     lines: &mut u32,
     made: &mut u32,
 ) -> u32
     ensures { λ r. ⌜ GpFrameMet (now («path_nos» .entry)) (now (coords .entry)) (now (paths .entry)) (now (backdrops .entry)) (now (stored .entry))
-        (now (tally .entry)) (now (refs .entry)) (now (segments .entry))
+        (now (tally .entry)) (now (refs .entry)) (pieces (now (segments .entry)) (now (tags .entry)))
         r (now (stage .exit)) (now (item .exit)) (now (lines .exit)) (now (made .exit))
-        (now (backdrops .exit)) (now (stored .exit)) (now (tally .exit)) (now (refs .exit)) (now (segments .exit)) ⌝ }
+        (now (backdrops .exit)) (now (stored .exit)) (now (tally .exit)) (now (refs .exit)) (pieces (now (segments .exit)) (now (tags .exit))) ⌝ }
 {
     let f = frame::frame(
         path_nos,
@@ -72,6 +74,7 @@ pub extern "C" fn gp_frame(
         tally,
         refs,
         segments,
+        tags,
     );
     let after = running_of(f);
     *stage = stage_of(f);

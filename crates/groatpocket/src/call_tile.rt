@@ -1,6 +1,7 @@
-// path_tiling::tile: a segment for each reference of a range.
+// path_tiling::tile: a segment, and its tag, for each reference of a range.
 use panel::kinds::item;
 use panel::kinds::number;
+ghost use Rattle.panel.specs.Pieces.{pieces};
 ghost use Rattle.path_tiling.specs.Look.{lent};
 ghost use Rattle.groatpocket.specs.Calls.{GpTileMet};
 
@@ -14,12 +15,23 @@ pub extern "C" fn gp_tile(
     from: u32,
     to: u32,
     segments: &mut [f32],
+    tags: &mut [u32],
     at: &mut u32,
 ) -> u32
-    ensures { λ r. ⌜ GpTileMet from to (lent (now («path_nos» .entry)) (now (coords .entry)) (now (paths .entry)) (now (stored .entry)) (now (refs .entry))) (now (segments .entry))
-        r (now (at .exit)) (now (segments .exit)) ⌝ }
+    ensures { λ r. ⌜ GpTileMet from to (lent (now («path_nos» .entry)) (now (coords .entry)) (now (paths .entry)) (now (stored .entry)) (now (refs .entry)))
+        (pieces (now (segments .entry)) (now (tags .entry))) r (now (at .exit)) (pieces (now (segments .exit)) (now (tags .exit))) ⌝ }
 {
-    let r = path_tiling::tile(from, to, path_nos, coords, paths, stored, refs, segments);
+    let r = path_tiling::tile(
+        from,
+        to,
+        path_nos,
+        coords,
+        paths,
+        stored,
+        refs,
+        segments,
+        tags,
+    );
     *at = item(r);
     number(r)
 }

@@ -74,10 +74,10 @@ tally-long (suc f) m = let e = tally-long f m in omega arith
 box-from : (n i p : ℕ) → p < n → pathAt (boxes n i) p ≡ boxAt (i + p)
 unfolding boxes
 box-from zero i p h = absurd (omega arith)
-box-from (suc n) i zero h = let z : i ≡ i + 0 = omega arith in path-first (boxAt i) (boxes n (suc i)) ∙ ap boxAt z
+box-from (suc n) i zero h = let z : i ≡ i + 0 = omega arith in path-first (boxAt i) 0 (boxes n (suc i)) ∙ ap boxAt z
 box-from (suc n) i (suc p) h =
     let z : suc i + p ≡ i + suc p = omega arith in
-    path-next (boxAt i) (boxes n (suc i)) p ∙ box-from n (suc i) p (omega arith) ∙ ap boxAt z
+    path-next (boxAt i) 0 (boxes n (suc i)) p ∙ box-from n (suc i) p (omega arith) ∙ ap boxAt z
 
 box-at : (n p : ℕ) → p < n → pathAt (boxes n 0) p ≡ boxAt p
 box-at n p h = let z : 0 + p ≡ p = omega arith in box-from n 0 p h ∙ ap boxAt z
@@ -98,7 +98,7 @@ paint-word (suc n) (suc p) c h k =
 boxes-long : (n i : ℕ) → length (boxes n i) ≡ n * pathWords
 unfolding boxes
 boxes-long zero i = refl
-boxes-long (suc n) i = let e = boxes-long n (suc i) in omega (arith, path-more (boxAt i) (boxes n (suc i)))
+boxes-long (suc n) i = let e = boxes-long n (suc i) in omega (arith, path-more (boxAt i) 0 (boxes n (suc i)))
 
 times-long : (n : ℕ) → length (times n paint) ≡ n * paintWords
 unfolding times

@@ -1,5 +1,5 @@
--- A line's ends from 16 on, in tiles: whole numbers of 2 ^ -23, so that floors, ceilings, spans and where the line starts in its first tile are exact. Assumes nothing.
---     grid-of      a coordinate from 16 on, in tiles
+-- A line's ends in tile 1 or further, from 16 on, in tiles: whole numbers of 2 ^ -23, so that floors, ceilings, spans and where the line starts in its first tile are exact. Assumes nothing.
+--     grid-of      such a coordinate, in tiles
 --     value-less, value-turned, value-apart   differences
 --     floor-at, ceil-at, span-at   floors, ceilings, and the tiles of a span
 use mathlib.Core.Path.{_≡_, refl, sym, ap, _∙_, subst}
@@ -26,6 +26,7 @@ use native.Mathlib.Nat.{
   le-of-mul-le-mul-right,
   lt-of-mul-lt-mul-right,
   div-add-mod',
+  le-div-iff-mul-le,
   mod-lt,
 }
 use native.Mathlib.Omega.{arith}
@@ -33,22 +34,19 @@ use lib.Dec.{T, ltb, lit<, lit≤}
 use lib.IntN.{ℤ, pos, negsuc, _-ℤ_, natAbs}
 use lib.Signed.{ltZ}
 use lib.Pow.{pow-add, pow-pos, pow-lt, pow-mono}
-use lib.Ieee.{Float, nan, inf, fin, binary32, up, down, unlike, round, sum, add, sub, mul, neg, le, lt, eq, fits, ofBits, toUnsigned}
-use lib.Ieee.Bits.{is-true}
+use lib.Ieee.{Float, nan, inf, fin, binary32, up, down, unlike, round, sum, add, sub, mul, neg, lt, eq, fits, ofBits, toUnsigned}
 use lib.Ieee.Fits.{down-pos}
 use lib.Ieee.Exact.{HasValue}
 use lib.Ieee.Nearest.{div-same}
-use lib.Ieee.Order.{round-mono}
 use lib.Ieee.Scale.{round-same, finite}
-use borrow.Author.Tests.{lt-ltb, le-ltb, ltb-false}
+use borrow.Author.Tests.{lt-ltb, le-ltb}
 use Rattle.float32.specs.Meaning.{whole, up-div, floorOf, ceilOf, absOf, unit}
 use Rattle.float32.proofs.Tests.{below-or-not}
-use Rattle.float32.proofs.Order.{not-lt-of-le}
 use Rattle.float32.proofs.Whole.{whole-value}
 use Rattle.float32.proofs.Floors.{few-digits}
 use Rattle.float32.proofs.Same.{round-own}
 use Rattle.float32.proofs.Laws.{up-most}
-use Rattle.util.specs.Constants.{one, tileSide, tileScale}
+use Rattle.util.specs.Constants.{one}
 use Rattle.util.specs.Span.{spanOf}
 use Rattle.exact.specs.Whole.{IsWhole, Small}
 use Rattle.exact.specs.Reach.{inReach, scaled, coordTiles, Near}
@@ -78,9 +76,10 @@ pow-small k h = go (below-or-not 23 k)
 join : (i : ℕ) → i ≤ 23 → 23 - i + i ≡ 23
 join i h = omega arith
 
-one-most : (m : ℕ) (e : ℤ) → le one (fin false m e) ≡ true → down e ≤ m * up e
-unfolding ofBits lt
-one-most m e h = omega (arith, ltb-false (m * up e * 1) (1 * 1 * down e) (not-lt-of-le one (fin false m e) h))
+-- in tile 1 or further
+one-most : (m : ℕ) (e : ℤ) → 1 ≤ toUnsigned 32 (fin false m e) → down e ≤ m * up e
+unfolding toUnsigned
+one-most m e h = le-trans (le-of-eq (sym (one-mul (down e)))) (le-div-iff-mul-le (down-pos e) .0 (omega arith))
 
 wide : (A D S N : ℕ) → 0 < D → A * 8388608 ≡ S * D → D ≤ A → A ≤ N * D → (8388608 ≤ S) × (S ≤ N * 8388608)
 wide A D S N p e l m = (
@@ -88,16 +87,13 @@ wide A D S N p e l m = (
   le-of-mul-le-mul-right (le-trans (le-of-eq (sym e)) (le-trans (mul-le-mul-right 8388608 m) (le-of-eq (mul-right-comm N D 8388608)))) p,
 )
 
-over : (A D : ℕ) → 0 < D → A * 1 + 1 * 1 * D ≤ 0 → ⊥
-over A D p h = omega arith
-
-grid-by : (s : Float) → T (fits binary32 s) → Small s coordTiles → le one s ≡ true → Grid s
+grid-by : (s : Float) → T (fits binary32 s) → Small s coordTiles → 1 ≤ toUnsigned 32 s → Grid s
 grid-by nan h f l = absurd f
 grid-by (inf t) h f l = absurd f
 grid-by (fin true m e) h f l = absurd (none l)
   where
-    none : le one (fin true m e) ≡ true → ⊥
-    none l = unfold ofBits lt in over (m * up e) (down e) (down-pos e) (ltb-false 0 (m * up e * 1 + 1 * 1 * down e) (not-lt-of-le one (fin true m e) l))
+    none : 1 ≤ toUnsigned 32 (fin true m e) → ⊥
+    none l = unfold toUnsigned in omega (arith, l)
 grid-by (fin false m (pos k)) h f l =
     let w = wide (m * 2 ^ k) 1 (m * 2 ^ k * 8388608) coordTiles (lit< tt) (sym (mul-one (m * 2 ^ k * 8388608))) (one-most m (pos k) l) f in
     record { S = m * 2 ^ k * 8388608; is = (refl, sym (mul-one (m * 2 ^ k * 8388608))); least = w .0; most = w .1 }
@@ -109,26 +105,8 @@ grid-by (fin false m (negsuc k)) h f l =
     let w = wide (m * 1) (2 ^ suc k) (m * 2 ^ j) coordTiles (pow-pos (suc k)) e (one-most m (negsuc k) l) f in
     record { S = m * 2 ^ j; is = (refl, e); least = w .0; most = w .1 }
 
--- 16 / 16 is 1
-one-scaled : (p : Float) → le tileSide p ≡ true → Small (scaled p) coordTiles → le one (scaled p) ≡ true
-unfolding ofBits mul lt
-one-scaled nan h f = absurd (unfold le in false≢true h)
-one-scaled (inf s) h f = absurd f
-one-scaled (fin true m e) h f = absurd (none (m * up e) (down e) (down-pos e) (ltb-false 0 (m * up e * 1 + 1 * 16 * down e) (not-lt-of-le tileSide (fin true m e) h)))
-  where
-    none : (A D : ℕ) → 0 < D → A * 1 + 1 * 16 * D ≤ 0 → ⊥
-    none A D p h = omega arith
-one-scaled (fin false m e) h f =
-    let l : 1 * 16 * down e ≤ m * up e * 1 = ltb-false (m * up e * 1) (1 * 16 * down e) (not-lt-of-le tileSide (fin false m e) h) in
-    let w = round binary32 false (m * up e * (1 * 1)) (down e * 16) in
-    subst (λ (y : Float). le y w ≡ true) one-round
-    (is-true (le (round binary32 false 1 1) w) (round-mono binary32 1 1 (m * up e * (1 * 1)) (down e * 16) (lit< tt) (mul-pos (down-pos e) (lit< tt)) (omega arith)))
-  where
-    one-round : round binary32 false 1 1 ≡ fin false 1 (pos 0)
-    one-round = unfold round in refl
-
-pub grid-of : (p : Float) → inReach p ≡ true → le tileSide p ≡ true → Grid (scaled p)
-grid-of p h l = let n = near-of p h in grid-by (scaled p) (n .fit) (n .few) (one-scaled p l (n .few))
+pub grid-of : (p : Float) → inReach p ≡ true → 1 ≤ toUnsigned 32 (scaled p) → Grid (scaled p)
+grid-of p h l = let n = near-of p h in grid-by (scaled p) (n .fit) (n .few) l
 
 -- ---- two values over one denominator
 module _ (A B K n m c : ℕ) (k : 0 < K) (C : 0 < c) (a : A * c ≡ n * K) (b : B * c ≡ m * K) where

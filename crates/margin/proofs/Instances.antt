@@ -1,12 +1,13 @@
--- The premise can be met; and without the margin below, a step is outside. By computation.
+-- The premise can be met; and without the margin below, or on the left, a step is outside. By computation.
 --     met      a line and every box from tile 0 to beyond its ends
 --     unmet    the smallest line that was found whose step leaves its rows: over a box that ends with the line's last row it is refused
+--     unmet-left   a line with no coordinate below 0 that every box refuses: its lower end lies in column 0
 use mathlib.Core.Path.{_≡_, refl, sym, ap, _∙_}
 use mathlib.Core.Bool.{Bool, true, false, _&&_}
 use Prim.Native.Nat.{ℕ, _+_, _≤_, _<_}
 use native.Mathlib.Omega.{arith}
 use lib.Dec.{lit<}
-use lib.IntN.{ℤ, pos}
+use lib.IntN.{ℤ, pos, negsuc}
 use lib.Ieee.{Float, binary32, add, sub, mul, div, neg, round, le, lt, eq, ne, ofInt, ofBits, toSigned, toUnsigned, isNan}
 use lib.Ieee.Scale.{finite}
 use Rattle.float32.specs.Meaning.{floorOf, ceilOf, absOf, minOf, maxOf, signed, signOf}
@@ -38,13 +39,13 @@ start = record { x = ofBits binary32 0x41a0_0000; y = ofBits binary32 0x41a0_000
 abbrev end : Vec2
 end = record { x = ofBits binary32 0x42c8_0000; y = ofBits binary32 0x4270_0000 }
 
-start-tile : (le (ofBits binary32 0x4180_0000) (start .x) ≡ true) × (tileAt (start .x) ≡ 1)
+start-tile : tileAt (start .x) ≡ 1
 unfolding computing
-start-tile = (refl, refl)
+start-tile = refl
 
-end-tile : (le (ofBits binary32 0x4180_0000) (end .x) ≡ true) × (le (ofBits binary32 0x4180_0000) (end .y) ≡ true) × (tileAt (end .x) ≡ 6) × (tileAt (end .y) ≡ 3)
+end-tile : (tileAt (end .x) ≡ 6) × (tileAt (end .y) ≡ 3)
 unfolding computing
-end-tile = (refl, refl, refl, refl)
+end-tile = (refl, refl)
 
 reached : Reached start end
 unfolding computing
@@ -62,12 +63,12 @@ module _ (b : Path) (k : Boxed b) (left : b .x0 ≡ 0) (top : b .y0 ≡ 0) (righ
   inside-start : Inside b start
   inside-start =
       let t = start-tile in
-      record { far-x = t .0; far-y = t .0; left = omega (arith, t .1); right = omega (arith, t .1); top = omega (arith, t .1); bottom = omega (arith, t .1) }
+      record { left = omega arith; right = omega arith; top = omega arith; bottom = omega arith }
 
   inside-end : Inside b end
   inside-end =
       let t = end-tile in
-      record { far-x = t .0; far-y = t .1; left = omega (arith, t .2); right = omega (arith, t .2); top = omega (arith, t .3); bottom = omega (arith, t .3) }
+      record { left = omega (arith, t .0); right = omega (arith, t .0); top = omega (arith, t .1); bottom = omega (arith, t .1) }
 
   -- all its eight steps have their tiles
   pub met : (i : ℕ) → i < 8 → HasTile (lineOf start end .pace) b i
@@ -106,3 +107,32 @@ unmet b e =
     let x = colOf (low .pace .x0) (low .pace .sign) z in
     let y = rowAt (low .pace .y0) 3 z in
     sym (tile-no b x y z (no-third (finite z) (insideOf x (b .x0) (b .x1)) (insideOf y (b .y0) (b .y1)) (ap (λ (v : ℤ). insideOf v (b .y0) (b .y1)) low-row ∙ past-two (b .y0) (b .y1) e)))
+
+-- ---- bits 4380abbd 417fff54 to 00000000 41800002: no coordinate is below 0, and its lower end lies in column 0. Its step 17 lies in column -1
+abbrev west : Walk
+west = lineOf (record { x = ofBits binary32 0x4380_abbd; y = ofBits binary32 0x417f_ff54 }) (record { x = ofBits binary32 0; y = ofBits binary32 0x4180_0002 })
+
+west-column : colOf (west .pace .x0) (west .pace .sign) (zAt (west .pace .a) (west .pace .b) (float 17)) ≡ negsuc 0
+unfolding computing
+west-column = refl
+
+west-count : west .k .count ≡ 18
+unfolding computing
+west-count = refl
+
+no-second : (p q r : Bool) → q ≡ false → (p && (q && r)) ≡ false
+no-second true q r e = rw e refl
+no-second false q r e = refl
+
+before-all : (lo hi : ℕ) → insideOf (negsuc 0) lo hi ≡ false
+unfolding insideOf
+before-all lo hi = refl
+
+-- so it is refused over every box: from 0 on no margin is enough
+pub unmet-left : (b : Path) → stepOf (west .pace) b 17 ≡ Refused
+unfolding stepOf
+unmet-left b =
+    let z = zAt (west .pace .a) (west .pace .b) (float 17) in
+    let x = colOf (west .pace .x0) (west .pace .sign) z in
+    let y = rowAt (west .pace .y0) 17 z in
+    sym (tile-no b x y z (no-second (finite z) (insideOf x (b .x0) (b .x1)) (insideOf y (b .y0) (b .y1)) (ap (λ (v : ℤ). insideOf v (b .x0) (b .x1)) west-column ∙ before-all (b .x0) (b .x1))))

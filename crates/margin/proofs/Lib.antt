@@ -8,7 +8,8 @@
 --     Stays     so every step's z stays within one column and one row: whole numbers only
 --     Margin    the theorem
 --     Clips     such a line isn't clipped
---     Instances the premise met, and the margin below left out
+--     Steps     how many steps it has at most
+--     Instances the premise met, and the margin below, or on the left, left out
 pub mod Chain
 pub mod Between
 pub mod Stays
@@ -18,4 +19,5 @@ pub mod Rises
 pub mod Lines
 pub mod Margin
 pub mod Clips
+pub mod Steps
 pub mod Instances

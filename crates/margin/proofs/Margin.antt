@@ -1,4 +1,4 @@
--- A line whose ends are at 16 or more, over a box that reaches a tile further than the tiles of its ends on every side, is never refused with 10: every step has its tile in the box. Assumes nothing.
+-- A line over a box that reaches a tile further than the tiles of its ends on every side, is never refused with 10: every step has its tile in the box. Assumes nothing.
 --     margin-tile    every step below the line's count
 use mathlib.Core.Path.{_≡_, refl, sym, ap, _∙_, subst}
 use mathlib.Core.Bool.{Bool, true, false, not, cond, _&&_}
@@ -49,7 +49,7 @@ use Rattle.margin.proofs.Rises.{Kept}
 use Rattle.margin.proofs.Lines.{tiles-few, rows-ordered, rising, falling, cols-rising, cols-falling, rows-are, count-is, line-kept}
 
 -- ---- a point's tile, in whole numbers of 2 ^ -23
-cast-at : (x : Float) (n : ℕ) → HasValue x false n 8388608 → n ≤ 4096 * 8388608 → toUnsigned 32 x ≡ n / 8388608
+pub cast-at : (x : Float) (n : ℕ) → HasValue x false n 8388608 → n ≤ 4096 * 8388608 → toUnsigned 32 x ≡ n / 8388608
 unfolding toUnsigned
 cast-at nan n v b = absurd v
 cast-at (inf s) n v b = absurd v
@@ -67,8 +67,8 @@ pub record Roomy (b : Path) (s : Vec2) : Type 0 where
 roomy-of : (b : Path) (p : Vec2) → (inReach (p .x) && inReach (p .y)) ≡ true → Inside b p → Roomy b (scaleOf p tileScale)
 roomy-of b p h k =
     let r = both (inReach (p .x)) (inReach (p .y)) h in
-    let gx = grid-of (p .x) (r .0) (k .far-x) in
-    let gy = grid-of (p .y) (r .1) (k .far-y) in
+    let gx = grid-of (p .x) (r .0) (omega (arith, k .left)) in
+    let gy = grid-of (p .y) (r .1) (omega (arith, k .top)) in
     let ex : tileAt (p .x) ≡ gx .S / 8388608 = cast-at (scaled (p .x)) (gx .S) (gx .is) (omega (arith, gx .most, tiles-few)) in
     let ey : tileAt (p .y) ≡ gy .S / 8388608 = cast-at (scaled (p .y)) (gy .S) (gy .is) (omega (arith, gy .most, tiles-few)) in
     record { gx = gx; gy = gy; left = omega (arith, k .left); right = omega (arith, k .right); top = omega (arith, k .top); bottom = omega (arith, k .bottom) }
@@ -143,7 +143,7 @@ row-at F n i q j u1 q1 lo hi e a b c d f g h =
     let m = neg-minus n in
     (omega arith, omega arith, omega arith)
 
-up-next : (n : ℕ) → up-div n 8388608 ≤ n / 8388608 + 1
+pub up-next : (n : ℕ) → up-div n 8388608 ≤ n / 8388608 + 1
 up-next n = omega arith
 
 up-above : (n m : ℕ) → n < m → n / 8388608 + 1 ≤ up-div m 8388608

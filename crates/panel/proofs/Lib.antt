@@ -5,5 +5,6 @@ pub mod CheckLaws
 pub mod PathLaws
 pub mod KindLaws
 pub mod SegmentLaws
+pub mod PieceLaws
 pub mod RecordLaws
 pub mod HeldLaws

@@ -11,8 +11,8 @@ use lib.Seq.{sets, getD-set-same, getD-set-other}
 use lib.Ieee.{Float, nan}
 use Rattle.lists.specs.Cells.{getD-sets-in, getD-sets-before, getD-sets-after}
 use Rattle.panel.specs.Limits.{mostSteps}
-use Rattle.panel.specs.Widths.{pathWords, lineFloats, refWords, paintWords, placeX0, placeY0, placeX1, placeY1, placeFirst, placeColour, placeRule}
-use Rattle.panel.specs.Paths.{pathAt, pathCount, pathRecord, putPath}
+use Rattle.panel.specs.Widths.{pathWords, lineFloats, refWords, paintWords, placeX0, placeY0, placeX1, placeY1, placeFirst, placeBeam, placeColour, placeRule}
+use Rattle.panel.specs.Paths.{pathAt, beamAt, pathRecord, putPath}
 use Rattle.panel.specs.Lines as Lines
 use Rattle.panel.specs.Refs.{lineAt, packedAt, packed, stepNo, sliceNo, putRef}
 use Rattle.panel.specs.Paints.{paintAt, paintRecord, putPaint}
@@ -25,58 +25,71 @@ use Rattle.panel.proofs.LimitLaws.{step-back, slice-back}
 -- ---- paths
 
 -- word after word
-pub path-stores : (ws : List ℕ) (k : ℕ) (p : Path)
-    → set (set (set (set (set ws (k + placeX0) (p .x0)) (k + placeY0) (p .y0)) (k + placeX1) (p .x1)) (k + placeY1) (p .y1)) (k + placeFirst) (p .first)
-    ≡ sets ws k (pathRecord p)
-path-stores ws k p =
+pub path-stores : (ws : List ℕ) (k : ℕ) (p : Path) (beam : ℕ)
+    → set
+    (set (set (set (set (set ws (k + placeX0) (p .x0)) (k + placeY0) (p .y0)) (k + placeX1) (p .x1)) (k + placeY1) (p .y1)) (k + placeFirst) (p .first))
+    (k + placeBeam) beam
+    ≡ sets ws k (pathRecord p beam)
+path-stores ws k p beam =
     let none : k + 0 ≡ k = omega arith in
     let one : k + 1 ≡ suc k = omega arith in
     let two : k + 2 ≡ suc (suc k) = omega arith in
     let three : k + 3 ≡ suc (suc (suc k)) = omega arith in
     let four : k + 4 ≡ suc (suc (suc (suc k))) = omega arith in
-    rw (none, one, two, three, four)
+    let five : k + 5 ≡ suc (suc (suc (suc (suc k)))) = omega arith in
+    rw (none, one, two, three, four, five)
 
-module _ (k : ℕ) (p : Path) (ws : List ℕ) where
-  pub path-back : k * pathWords + pathWords ≤ length ws → pathAt (putPath k p ws) k ≡ p
+module _ (k : ℕ) (p : Path) (beam : ℕ) (ws : List ℕ) where
+  -- a word of the record, and one of another
+  word-in : k * pathWords + pathWords ≤ length ws → (j : ℕ) → j < pathWords → getD (putPath k p beam ws) (k * pathWords + j) 0 ≡ getD (pathRecord p beam) j 0
+  word-in h j q = getD-sets-in (pathRecord p beam) ws (k * pathWords) j 0 (omega arith) (omega arith)
+
+  word-other : (j : ℕ) → j ≢ k → (c : ℕ) → c < pathWords → getD (putPath k p beam ws) (j * pathWords + c) 0 ≡ getD ws (j * pathWords + c) 0
+  word-other j n c q = go (decLt j k)
+    where
+      go : Dec (j < k) → getD (putPath k p beam ws) (j * pathWords + c) 0 ≡ getD ws (j * pathWords + c) 0
+      go (yes l) = getD-sets-before (pathRecord p beam) ws (k * pathWords) (j * pathWords + c) 0 (omega arith)
+      go (no l) = getD-sets-after (pathRecord p beam) ws (k * pathWords) (j * pathWords + c) 0 (omega arith)
+
+  pub path-back : k * pathWords + pathWords ≤ length ws → pathAt (putPath k p beam ws) k ≡ p
   unfolding pathAt
   path-back h =
-      let a : (j : ℕ) → j < pathWords → getD (putPath k p ws) (k * pathWords + j) 0 ≡ getD (pathRecord p) j 0 =
-      λ j q. getD-sets-in (pathRecord p) ws (k * pathWords) j 0 (omega arith) (omega arith) in
+      let a : (j : ℕ) → j < pathWords → getD (putPath k p beam ws) (k * pathWords + j) 0 ≡ getD (pathRecord p beam) j 0 = word-in h in
       rw (a placeX0 (omega arith), a placeY0 (omega arith), a placeX1 (omega arith), a placeY1 (omega arith), a placeFirst (omega arith))
 
-  pub path-other : (j : ℕ) → j ≢ k → pathAt (putPath k p ws) j ≡ pathAt ws j
+  pub beam-back : k * pathWords + pathWords ≤ length ws → beamAt (putPath k p beam ws) k ≡ beam
+  beam-back h = word-in h placeBeam (omega arith)
+
+  pub path-other : (j : ℕ) → j ≢ k → pathAt (putPath k p beam ws) j ≡ pathAt ws j
   unfolding pathAt
   path-other j n =
-      rw (
-        word placeX0 (omega arith),
-        word placeY0 (omega arith),
-        word placeX1 (omega arith),
-        word placeY1 (omega arith),
-        word placeFirst (omega arith),
-      )
-    where
-      word : (c : ℕ) → c < pathWords → getD (putPath k p ws) (j * pathWords + c) 0 ≡ getD ws (j * pathWords + c) 0
-      word c q = go (decLt j k)
-        where
-          go : Dec (j < k) → getD (putPath k p ws) (j * pathWords + c) 0 ≡ getD ws (j * pathWords + c) 0
-          go (yes l) = getD-sets-before (pathRecord p) ws (k * pathWords) (j * pathWords + c) 0 (omega arith)
-          go (no l) = getD-sets-after (pathRecord p) ws (k * pathWords) (j * pathWords + c) 0 (omega arith)
+      let a : (c : ℕ) → c < pathWords → getD (putPath k p beam ws) (j * pathWords + c) 0 ≡ getD ws (j * pathWords + c) 0 = word-other j n in
+      rw (a placeX0 (omega arith), a placeY0 (omega arith), a placeX1 (omega arith), a placeY1 (omega arith), a placeFirst (omega arith))
+
+  pub beam-other : (j : ℕ) → j ≢ k → beamAt (putPath k p beam ws) j ≡ beamAt ws j
+  beam-other j n = word-other j n placeBeam (omega arith)
 
 -- records one after another: the first, those after it, and how many words they are
-pub path-first : (p : Path) (ws : List ℕ) → pathAt (pathRecord p ++ ws) 0 ≡ p
+pub path-first : (p : Path) (beam : ℕ) (ws : List ℕ) → pathAt (pathRecord p beam ++ ws) 0 ≡ p
 unfolding pathAt
-path-first p ws = refl
+path-first p beam ws = refl
 
-pub path-next : (p : Path) (ws : List ℕ) (k : ℕ) → pathAt (pathRecord p ++ ws) (suc k) ≡ pathAt ws k
-unfolding pathAt
-path-next p ws k =
-    rw (further placeX0, further placeY0, further placeX1, further placeY1, further placeFirst)
-  where
-    further : (c : ℕ) → getD (pathRecord p ++ ws) (suc k * pathWords + c) 0 ≡ getD ws (k * pathWords + c) 0
-    further c = let e : suc k * pathWords + c ≡ suc (suc (suc (suc (suc (k * pathWords + c))))) = omega arith in rw e
+pub beam-first : (p : Path) (beam : ℕ) (ws : List ℕ) → beamAt (pathRecord p beam ++ ws) 0 ≡ beam
+beam-first p beam ws = refl
 
-pub path-more : (p : Path) (ws : List ℕ) → length (pathRecord p ++ ws) ≡ length ws + pathWords
-path-more p ws = omega arith
+module _ (p : Path) (beam : ℕ) (ws : List ℕ) (k : ℕ) where
+  further : (c : ℕ) → getD (pathRecord p beam ++ ws) (suc k * pathWords + c) 0 ≡ getD ws (k * pathWords + c) 0
+  further c = let e : suc k * pathWords + c ≡ suc (suc (suc (suc (suc (suc (k * pathWords + c)))))) = omega arith in rw e
+
+  pub path-next : pathAt (pathRecord p beam ++ ws) (suc k) ≡ pathAt ws k
+  unfolding pathAt
+  path-next = rw (further placeX0, further placeY0, further placeX1, further placeY1, further placeFirst)
+
+  pub beam-next : beamAt (pathRecord p beam ++ ws) (suc k) ≡ beamAt ws k
+  beam-next = further placeBeam
+
+pub path-more : (p : Path) (beam : ℕ) (ws : List ℕ) → length (pathRecord p beam ++ ws) ≡ length ws + pathWords
+path-more p beam ws = omega arith
 
 -- ---- lines
 

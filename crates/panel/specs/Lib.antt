@@ -11,3 +11,4 @@ pub mod Paints
 pub mod Slots
 pub mod Signed
 pub mod Segments
+pub mod Pieces

@@ -8,7 +8,7 @@ use lib.ListN.{length, getD}
 use lib.Seq.{sets}
 use Rattle.panel.specs.Limits.{mostPaths, mostTiles, edgeMost}
 use Rattle.panel.specs.Refusals.{notWhole, tooMany, badBox, badRange}
-use Rattle.panel.specs.Widths.{pathWords, placeX0, placeY0, placeX1, placeY1, placeFirst}
+use Rattle.panel.specs.Widths.{pathWords, placeX0, placeY0, placeX1, placeY1, placeFirst, placeBeam}
 use Rattle.panel.specs.Checks.{Check, check, firstNo, unless}
 use Rattle.panel.specs.declared.kinds.Path.{Path}
 use Rattle.panel.specs.declared.kinds.Answer.{Answer}
@@ -25,20 +25,27 @@ pathAt ws p =
       first = getD ws (p * pathWords + placeFirst) 0;
     }
 
+-- its beam number: any word, and two paths may carry one
+abbrev pub beamAt : List ℕ → ℕ → ℕ
+beamAt ws p = getD ws (p * pathWords + placeBeam) 0
+
 -- a path's words, in the order of their places
-abbrev pub pathRecord : Path → List ℕ
-pathRecord p = p .x0 ∷ p .y0 ∷ p .x1 ∷ p .y1 ∷ p .first ∷ []
+abbrev pub pathRecord : Path → ℕ → List ℕ
+pathRecord p beam = p .x0 ∷ p .y0 ∷ p .x1 ∷ p .y1 ∷ p .first ∷ beam ∷ []
 
--- path p into its place
-abbrev pub putPath : ℕ → Path → List ℕ → List ℕ
-putPath k p ws = sets ws (k * pathWords) (pathRecord p)
+-- path p into its place, with its beam number
+abbrev pub putPath : ℕ → Path → ℕ → List ℕ → List ℕ
+putPath k p beam ws = sets ws (k * pathWords) (pathRecord p beam)
 
--- a path by its numbers, and the words of one that is lent
+-- a path by its numbers, and the words of one that is lent: with a beam number, and with none stamped
 abbrev pub pathOf : (x0 y0 x1 y1 first : ℕ) → Path
 pathOf x0 y0 x1 y1 first = record { x0 = x0; y0 = y0; x1 = x1; y1 = y1; first = first }
 
+abbrev pub stamped : (x0 y0 x1 y1 first beam : ℕ) → List ℕ
+stamped x0 y0 x1 y1 first beam = pathRecord (pathOf x0 y0 x1 y1 first) beam
+
 abbrev pub boxed : (x0 y0 x1 y1 first : ℕ) → List ℕ
-boxed x0 y0 x1 y1 first = pathRecord (pathOf x0 y0 x1 y1 first)
+boxed x0 y0 x1 y1 first = stamped x0 y0 x1 y1 first 0
 
 -- how many paths are lent
 abbrev pub pathCount : List ℕ → ℕ

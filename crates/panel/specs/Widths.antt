@@ -2,9 +2,9 @@
 use mathlib.Core.List.{List, [], _∷_}
 use Prim.Native.Nat.{ℕ}
 
--- words to a path: box x0, y0, x1, y1 in tiles, then its first tile
+-- words to a path: box x0, y0, x1, y1 in tiles, then its first tile, then the beam number stamped on the steel
 abbrev pub pathWords : ℕ
-pathWords = 5
+pathWords = 6
 
 -- floats to a line: p0.x, p0.y, p1.x, p1.y
 abbrev pub lineFloats : ℕ
@@ -42,6 +42,9 @@ placeY1 = 3
 abbrev pub placeFirst : ℕ
 placeFirst = 4
 
+abbrev pub placeBeam : ℕ
+placeBeam = 5
+
 -- the places of a paint's words
 abbrev pub placeColour : ℕ
 placeColour = 0
@@ -63,6 +66,7 @@ widths =
     ∷ placeX1
     ∷ placeY1
     ∷ placeFirst
+    ∷ placeBeam
     ∷ placeColour
     ∷ placeRule
     ∷ []

@@ -3,8 +3,9 @@ ghost use mathlib.Core.Path.{_≡_};
 ghost use Prim.Native.Nat.{_+_, _*_, _≤_};
 ghost use lib.ListN.{length};
 ghost use Rattle.panel.specs.Widths.{pathWords};
-ghost use Rattle.panel.specs.Paths.{pathAt, putPath};
+ghost use Rattle.panel.specs.Paths.{pathAt, beamAt, putPath};
 use super::kinds::Path;
+use super::widths::PATH_BEAM;
 use super::widths::PATH_FIRST;
 use super::widths::PATH_WORDS;
 use super::widths::PATH_X0;
@@ -32,10 +33,20 @@ pub fn path_at(paths: &[u32], k: u32) -> Path
     }
 }
 
-// A path into its place.
-pub fn put_path(paths: &mut [u32], k: u32, p: Path)
+// Its beam number.
+pub fn beam_at(paths: &[u32], k: u32) -> u32
     requires { ⌜ k * pathWords + pathWords ≤ length (now paths) ⌝ }
-    ensures { λ r. ⌜ now (paths .exit) ≡ putPath k p (now (paths .entry)) ⌝ }
+    ensures { λ r. ⌜ r ≡ beamAt (now (paths .entry)) k ⌝ }
+{
+    let at = (k as usize) * PATH_WORDS;
+    let word = paths[at + PATH_BEAM];
+    word
+}
+
+// A path into its place, with its beam number.
+pub fn put_path(paths: &mut [u32], k: u32, p: Path, beam: u32)
+    requires { ⌜ k * pathWords + pathWords ≤ length (now paths) ⌝ }
+    ensures { λ r. ⌜ now (paths .exit) ≡ putPath k p beam (now (paths .entry)) ⌝ }
 {
     let at = (k as usize) * PATH_WORDS;
     paths[at + PATH_X0] = p.x0;
@@ -43,4 +54,5 @@ pub fn put_path(paths: &mut [u32], k: u32, p: Path)
     paths[at + PATH_X1] = p.x1;
     paths[at + PATH_Y1] = p.y1;
     paths[at + PATH_FIRST] = p.first;
+    paths[at + PATH_BEAM] = beam;
 }

@@ -4,7 +4,7 @@
 ghost use mathlib.Core.Path.{_≡_};
 ghost use Rattle.panel.specs.Widths.{widths};
 
-pub const PATH_WORDS: usize = 5;
+pub const PATH_WORDS: usize = 6;
 
 pub const LINE_FLOATS: usize = 4;
 
@@ -17,7 +17,7 @@ pub const SEGMENT_FLOATS: usize = 5;
 
 pub const PAINT_WORDS: usize = 2;
 
-// A path's words: its box's left, top, right and bottom edge, and its first tile.
+// A path's words: its box's left, top, right and bottom edge, its first tile, and its beam number.
 pub const PATH_X0: usize = 0;
 
 pub const PATH_Y0: usize = 1;
@@ -28,13 +28,15 @@ pub const PATH_Y1: usize = 3;
 
 pub const PATH_FIRST: usize = 4;
 
+pub const PATH_BEAM: usize = 5;
+
 // A paint's words: its path's colour, and its fill rule.
 pub const PAINT_COLOUR: usize = 0;
 
 pub const PAINT_RULE: usize = 1;
 
 // All of them.
-pub fn all() -> [usize; 13]
+pub fn all() -> [usize; 14]
     ensures { λ r. ⌜ r ≡ widths ⌝ }
 {
     [
@@ -49,6 +51,7 @@ pub fn all() -> [usize; 13]
         PATH_X1,
         PATH_Y1,
         PATH_FIRST,
+        PATH_BEAM,
         PAINT_COLOUR,
         PAINT_RULE,
     ]

@@ -10,4 +10,4 @@ pub use call::count;
 pub use call::count_checked;
 pub use kinds::Counted;
 pub use kinds::Tallied;
-pub use line::count_line;
+pub use line::count_noted;

@@ -225,7 +225,7 @@ fn unwalked(walked: Walked) -> Tallied
 
 // The line at a place of those lent, as line number line: the two need not be the same. The notes are
 // room to work in.
-pub(crate) fn count_noted(
+pub fn count_noted(
     line: LineNo,
     place: u32,
     made: u32,
@@ -251,37 +251,4 @@ pub(crate) fn count_noted(
         return unwalked(walked);
     };
     count_walk(line, made, walk, path, notes, backs, counts, refs)
-}
-
-// The same with room of its own.
-pub fn count_line(
-    line: LineNo,
-    place: u32,
-    made: u32,
-    path_nos: &[u32],
-    coords: &[f32],
-    paths: &[u32],
-    backs: &mut [i32],
-    counts: &mut [u32],
-    refs: &mut [u32],
-) -> Tallied
-    requires { ⌜ Lent (now paths) (length (now backs)) (length (now counts)) × There place (length (now «path_nos»)) (length (now coords)) ⌝ }
-    ensures { λ r. ⌜ tallyRan r (stOf (now (backs .exit)) (now (counts .exit)) (now (refs .exit))) made
-        ≡ lineRan (lineStep (now («path_nos» .entry)) (now (coords .entry)) (now (paths .entry)) (length (now (refs .entry)) / refWords) (line .0) place
-        (stOf (now (backs .entry)) (now (counts .entry)) (now (refs .entry)) made))
-        (stOf (now (backs .entry)) (now (counts .entry)) (now (refs .entry)) made) ⌝ }
-{
-    let mut notes = [0u32; 256];
-    count_noted(
-        line,
-        place,
-        made,
-        path_nos,
-        coords,
-        paths,
-        &mut notes,
-        backs,
-        counts,
-        refs,
-    )
 }

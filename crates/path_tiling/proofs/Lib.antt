@@ -1,6 +1,7 @@
 -- What the proofs of the crate's functions share, and the crate's laws.
 pub mod LookLaws
 pub mod PutLaws
+pub mod BeamLaws
 pub mod RangeLaws
 pub mod RunLaws
 pub mod CallLaws

@@ -1,26 +1,23 @@
--- A range of references, turn by turn: what is left from here, on the segments as they are now, is what the whole range comes to. Assumes nothing.
+-- What the loops over a range of references lean on. Assumes nothing.
 --     look-is      a reference, by its words and its line as it was found
 --     found-fits   a line that was found has a path that passed its checks
---     goes, halts  a reference that is fine, and one that is not
+--     one-long     a reference leaves as many segments, and as many tags
 --     ends         no reference is left
-use Prim.Native.Nat.{ℕ, suc, _+_, _-_, _*_, _≤_, _<_}
+use Prim.Native.Nat.{ℕ, _-_, _*_, _/_, _≤_, _<_}
 use native.Mathlib.Omega.{arith}
-use native.Mathlib.Numerals.{add-one}
-use mathlib.Core.Path.{_≡_, refl, sym, ap, _∙_}
+use mathlib.Core.Path.{_≡_, refl, sym, ap, subst, _∙_}
 use mathlib.Core.Bool.{Bool, true, false, cond}
 use mathlib.Core.List.{List}
 use lib.ListN.{length, getD}
 use lib.Dec.{ltb}
-use lib.Seq.{length-sets}
 use lib.Ieee.{Float}
 use borrow.Author.Tests.{ltb-true}
 use Rattle.panel.specs.Refusals.{noSuch, coordinate}
 use Rattle.panel.specs.Widths.{segmentFloats}
 use Rattle.panel.specs.Paths.{pathAt, pathCount, pathsAnswer}
 use Rattle.panel.specs.declared.kinds.Path.{Path}
-use Rattle.panel.specs.declared.kinds.Answer.the-variants.{Done, Refused}
+use Rattle.panel.specs.declared.kinds.Answer.the-variants.{Done}
 use Rattle.panel.specs.declared.kinds.Verdict.{Verdict}
-use Rattle.panel.specs.declared.kinds.Verdict.the-variants as Verdict
 use Rattle.panel.proofs.PathLaws.{checked}
 use Rattle.util.specs.declared.Vec2.{Vec2}
 use Rattle.walk.specs.Page.{lineOf}
@@ -31,9 +28,11 @@ use Rattle.walk.specs.declared.kinds.Walked.the-variants as Found
 use Rattle.walk.proofs.Boxes.{fits-boxed}
 use Rattle.walk.proofs.Lines.{skipped}
 use Rattle.walk.proofs.Walks.{line-starts}
-use Rattle.path_tiling.specs.Look.{Lent, lent, lineAt, packedAt, FoundFits, foundOf, foundTo, lookOf}
-use Rattle.panel.specs.Segments.{floatsOf}
-use Rattle.path_tiling.specs.Tiling.{Range, range, lookThen, rangeOf, One, one, oneOf, tiled, rangeTiled, slotsOf}
+use Rattle.path_tiling.specs.Look.{Lent, lineAt, packedAt, FoundFits, foundOf, foundTo, lookOf}
+use Rattle.panel.specs.Pieces.{Pieces, placed}
+use Rattle.panel.specs.declared.segments.Segment.{Segment}
+use Rattle.panel.proofs.PieceLaws.{as-long, as-many}
+use Rattle.path_tiling.specs.Tiling.{rangeOf, One, one, oneOf, tiled, rangeTiled, slotsOf}
 use Rattle.path_tiling.specs.declared.look.Look.{Look}
 use Rattle.path_tiling.specs.declared.look.Look.the-variants.{Put, Empty, Against}
 
@@ -69,56 +68,38 @@ pub look-is : (L : Lent) (slots k : ℕ)
 unfolding lookOf
 look-is L slots k = refl
 
-pub one-length : (l : Look) (v : Verdict) (segs segs′ : List Float) → one v segs′ ≡ oneOf l segs → length segs′ ≡ length segs
-one-length (Put slot s) v segs segs′ e = ap (λ (o : One). length (o .segments)) e ∙ length-sets segs (slot .0 * segmentFloats) (floatsOf s)
-one-length Empty v segs segs′ e = ap (λ (o : One). length (o .segments)) e
-one-length (Against why) v segs segs′ e = ap (λ (o : One). length (o .segments)) e
+-- ---- as many segments, and as many tags
+
+pub record AsLong (p q : Pieces) : Type 0 where
+  pub segments : length (q .segments) ≡ length (p .segments)
+  pub tags : length (q .tags) ≡ length (p .tags)
+
+pub long-self : (p : Pieces) → AsLong p p
+long-self p = record { segments = refl; tags = refl }
+
+pub long-then : {p q r : Pieces} → AsLong p q → AsLong q r → AsLong p r
+long-then a b = record { segments = b .segments ∙ a .segments; tags = b .tags ∙ a .tags }
+
+pub long-placed : (slot : ℕ) (s : Segment) (tag : ℕ) (p : Pieces) → AsLong p (placed slot s tag p)
+long-placed slot s tag p = record { segments = as-long slot s tag p; tags = as-many slot s tag p }
+
+one-then : (tag : ℕ) (l : Look) (p : Pieces) → AsLong p (oneOf tag l p .pieces)
+one-then tag (Put slot s) p = long-placed (slot .0) s tag p
+one-then tag Empty p = long-self p
+one-then tag (Against why) p = long-self p
+
+pub one-long : (tag : ℕ) (l : Look) (v : Verdict) (p q : Pieces) → one v q ≡ oneOf tag l p → AsLong p q
+one-long tag l v p q e = subst (AsLong p) (sym (ap (λ (o : One). o .pieces) e)) (one-then tag l p)
 
 -- ---- a range
 
-module _ (L : Lent) (slots : ℕ) where
-  fine : (k : ℕ) (l : Look) (rest : Range) (segs segs′ : List Float) → one Verdict.Fine segs′ ≡ oneOf l segs
-      → rangeTiled (lookThen L k l rest) segs ≡ rangeTiled rest segs′
-  fine k (Put slot s) rest segs segs′ e = ap (λ (o : One). rangeTiled rest (o .segments)) (sym e)
-  fine k Empty rest segs segs′ e = ap (λ (o : One). rangeTiled rest (o .segments)) (sym e)
-  fine k (Against why) rest segs segs′ e =
-      let v : Verdict.Fine ≡ Verdict.Against why = ap (λ (o : One). o .verdict) e in
-      let z : _≡_ {A = ℕ} 0 1 = cc in absurd (omega arith)
+pub ends : (L : Lent) (slots to k : ℕ) (p : Pieces) → to ≤ k → rangeTiled (rangeOf L slots (to - k) k) p ≡ tiled Done p
+unfolding rangeOf
+ends L slots to k p h = let none-left : to - k ≡ 0 = omega arith in rw none-left
 
-  against : (k : ℕ) (l : Look) (rest : Range) (why : ℕ) (segs segs′ : List Float) → one (Verdict.Against why) segs′ ≡ oneOf l segs
-      → rangeTiled (lookThen L k l rest) segs ≡ tiled (Refused why k) segs′
-  against k (Put slot s) rest why segs segs′ e =
-      let v : Verdict.Against why ≡ Verdict.Fine = ap (λ (o : One). o .verdict) e in
-      let z : _≡_ {A = ℕ} 0 1 = cc in absurd (omega arith)
-  against k Empty rest why segs segs′ e =
-      let v : Verdict.Against why ≡ Verdict.Fine = ap (λ (o : One). o .verdict) e in
-      let z : _≡_ {A = ℕ} 0 1 = cc in absurd (omega arith)
-  against k (Against why′) rest why segs segs′ e =
-      let v : Verdict.Against why ≡ Verdict.Against why′ = ap (λ (o : One). o .verdict) e in
-      let w : why′ ≡ why = cc in
-      let s : segs ≡ segs′ = sym (ap (λ (o : One). o .segments) e) in
-      rw (w, s)
-
-  range-suc : (n k : ℕ) → rangeOf L slots (suc n) k ≡ lookThen L k (lookOf L slots k) (rangeOf L slots n (suc k))
-  unfolding rangeOf
-  range-suc n k = refl
-
-  pub goes : (to k : ℕ) (segs segs′ : List Float) → k < to → one Verdict.Fine segs′ ≡ oneOf (lookOf L slots k) segs
-      → rangeTiled (rangeOf L slots (to - k) k) segs ≡ rangeTiled (rangeOf L slots (to - (k + 1)) (k + 1)) segs′
-  goes to k segs segs′ h e =
-      let one-more : to - k ≡ suc (to - suc k) = omega arith in
-      rw (one-more, add-one, range-suc (to - suc k) k) (fine k (lookOf L slots k) (rangeOf L slots (to - suc k) (suc k)) segs segs′ e)
-
-  pub halts : (to k why : ℕ) (segs segs′ : List Float) → k < to → one (Verdict.Against why) segs′ ≡ oneOf (lookOf L slots k) segs
-      → rangeTiled (rangeOf L slots (to - k) k) segs ≡ tiled (Refused why k) segs′
-  halts to k why segs segs′ h e =
-      let one-more : to - k ≡ suc (to - suc k) = omega arith in
-      rw (one-more, range-suc (to - suc k) k) (against k (lookOf L slots k) (rangeOf L slots (to - suc k) (suc k)) why segs segs′ e)
-
-  pub ends : (to k : ℕ) (segs : List Float) → to ≤ k → rangeTiled (rangeOf L slots (to - k) k) segs ≡ tiled Done segs
-  unfolding rangeOf
-  ends to k segs h = let none-left : to - k ≡ 0 = omega arith in rw none-left
-
--- the slots are within the segments lent
+-- the slots are within the segments lent, and no more than the tags
 pub slots-fit : (floats : ℕ) → slotsOf floats * segmentFloats ≤ floats
 slots-fit floats = omega arith
+
+pub slots-tagged : (floats : ℕ) → slotsOf floats ≤ floats / segmentFloats
+slots-tagged floats = omega arith

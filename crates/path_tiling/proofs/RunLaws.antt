@@ -1,5 +1,5 @@
--- A run of references that name one line, turn by turn; and a range, run by run: what is left from the run's end on, on the segments as it leaves them,
--- is what the whole range comes to. Assumes nothing.
+-- A run of references that name one line, turn by turn; and a range, run by run: what is left from the run's end on, on the segments and tags as it
+-- leaves them, is what the whole range comes to. Assumes nothing.
 --     turned, stopped, other, over   a turn of the loop over a run: a reference that is fine, one that is not, one of another line, none left
 --     run-range                      a range is its first run and then the rest
 --     on, less, halted, done         a turn of the loop over the runs of a range
@@ -7,223 +7,228 @@ use Prim.Native.Nat.{ℕ, zero, suc, _+_, _-_, _*_, _≤_, _<_}
 use native.Mathlib.Omega.{arith}
 use native.Mathlib.Nat.{le-refl}
 use native.Mathlib.Numerals.{add-one}
-use mathlib.Core.Path.{_≡_, refl, sym, ap, _∙_}
+use mathlib.Core.Path.{_≡_, refl, sym, ap, subst, _∙_}
 use mathlib.Core.Bool.{Bool, true, false, cond}
 use mathlib.Core.List.{List}
-use lib.ListN.{length}
+use lib.ListN.{length, getD}
 use lib.Dec.{eqb}
-use lib.Seq.{length-sets}
-use lib.Ieee.{Float}
 use borrow.Author.Tests.{eqb-true, eq-eqb}
-use Rattle.panel.specs.Widths.{segmentFloats}
 use Rattle.panel.specs.declared.kinds.Answer.{Answer}
 use Rattle.panel.specs.declared.kinds.Answer.the-variants.{Done, Refused}
 use Rattle.panel.specs.declared.kinds.Verdict.{Verdict}
 use Rattle.panel.specs.declared.kinds.Verdict.the-variants as Verdict
 use Rattle.walk.specs.declared.kinds.Walked.{Walked}
-use Rattle.path_tiling.specs.Look.{Lent, lineAt, packedAt, foundOf, foundTo, lookOf}
-use Rattle.panel.specs.Segments.{putOf, floatsOf}
+use Rattle.path_tiling.specs.Look.{Lent, lineAt, packedAt, tagOf, foundOf, foundTo, lookOf}
+use Rattle.panel.specs.Paths.{beamAt}
+use Rattle.panel.specs.Pieces.{Pieces, placed}
 use Rattle.path_tiling.specs.Tiling.{Range, range, lookThen, rangeOf, One, one, oneOf, Tiled, tiled, rangeTiled, slotsOf}
 use Rattle.path_tiling.specs.Runs.{Run, run, lookOn, runOf}
 use Rattle.path_tiling.specs.declared.look.Look.{Look}
 use Rattle.path_tiling.specs.declared.look.Look.the-variants.{Put, Empty, Against}
-use Rattle.path_tiling.proofs.RangeLaws.{look-is, one-length, ends}
+use Rattle.path_tiling.proofs.RangeLaws.{look-is, AsLong, long-self, long-then, long-placed, one-long, ends}
 
 -- ---- a reference of a run, by the verdict on it
-fine-on : (k : ℕ) (l : Look) (rest : List Float → Run) (segs segs′ : List Float) → one Verdict.Fine segs′ ≡ oneOf l segs → lookOn k l rest segs ≡ rest segs′
-fine-on k (Put slot s) rest segs segs′ e = ap (λ (o : One). rest (o .segments)) (sym e)
-fine-on k Empty rest segs segs′ e = ap (λ (o : One). rest (o .segments)) (sym e)
-fine-on k (Against why) rest segs segs′ e =
+fine-on : (tag k : ℕ) (l : Look) (rest : Pieces → Run) (p p′ : Pieces) → one Verdict.Fine p′ ≡ oneOf tag l p → lookOn tag k l rest p ≡ rest p′
+fine-on tag k (Put slot s) rest p p′ e = ap (λ (o : One). rest (o .pieces)) (sym e)
+fine-on tag k Empty rest p p′ e = ap (λ (o : One). rest (o .pieces)) (sym e)
+fine-on tag k (Against why) rest p p′ e =
     let v : Verdict.Fine ≡ Verdict.Against why = ap (λ (o : One). o .verdict) e in
     let z : _≡_ {A = ℕ} 0 1 = cc in absurd (omega arith)
 
-against-on : (k : ℕ) (l : Look) (rest : List Float → Run) (why : ℕ) (segs segs′ : List Float) → one (Verdict.Against why) segs′ ≡ oneOf l segs
-    → lookOn k l rest segs ≡ run (Refused why k) k segs′
-against-on k (Put slot s) rest why segs segs′ e =
+against-on : (tag k : ℕ) (l : Look) (rest : Pieces → Run) (why : ℕ) (p p′ : Pieces) → one (Verdict.Against why) p′ ≡ oneOf tag l p
+    → lookOn tag k l rest p ≡ run (Refused why k) k p′
+against-on tag k (Put slot s) rest why p p′ e =
     let v : Verdict.Against why ≡ Verdict.Fine = ap (λ (o : One). o .verdict) e in
     let z : _≡_ {A = ℕ} 0 1 = cc in absurd (omega arith)
-against-on k Empty rest why segs segs′ e =
+against-on tag k Empty rest why p p′ e =
     let v : Verdict.Against why ≡ Verdict.Fine = ap (λ (o : One). o .verdict) e in
     let z : _≡_ {A = ℕ} 0 1 = cc in absurd (omega arith)
-against-on k (Against why′) rest why segs segs′ e =
+against-on tag k (Against why′) rest why p p′ e =
     let v : Verdict.Against why ≡ Verdict.Against why′ = ap (λ (o : One). o .verdict) e in
     let w : why′ ≡ why = cc in
-    let s : segs ≡ segs′ = sym (ap (λ (o : One). o .segments) e) in
+    let s : p ≡ p′ = sym (ap (λ (o : One). o .pieces) e) in
     rw (w, s)
 
 -- ---- the loop over a run
-module _ (stored : List ℕ) (slots : ℕ) (refs : List ℕ) (found : Walked) (line : ℕ) where
-  left-of : ℕ → ℕ → List Float → Run
-  left-of to k segs = runOf stored slots refs found line (to - k) k segs
+module _ (stored : List ℕ) (slots : ℕ) (refs : List ℕ) (found : Walked) (tag line : ℕ) where
+  left-of : ℕ → ℕ → Pieces → Run
+  left-of to k p = runOf stored slots refs found tag line (to - k) k p
 
-  run-suc : (n k : ℕ) (segs : List Float)
-      → runOf stored slots refs found line (suc n) k segs
-      ≡ cond (eqb (lineAt refs k) line) (lookOn k (foundTo stored slots (packedAt refs k) found) (runOf stored slots refs found line n (suc k)) segs) (run Done k segs)
+  run-suc : (n k : ℕ) (p : Pieces)
+      → runOf stored slots refs found tag line (suc n) k p
+      ≡ cond (eqb (lineAt refs k) line) (lookOn tag k (foundTo stored slots (packedAt refs k) found) (runOf stored slots refs found tag line n (suc k)) p) (run Done k p)
   unfolding runOf
-  run-suc n k segs = refl
+  run-suc n k p = refl
 
-  run-none : (k : ℕ) (segs : List Float) → runOf stored slots refs found line 0 k segs ≡ run Done k segs
+  run-none : (k : ℕ) (p : Pieces) → runOf stored slots refs found tag line 0 k p ≡ run Done k p
   unfolding runOf
-  run-none k segs = refl
+  run-none k p = refl
 
   -- what holds at each turn
-  pub record Running (from to : ℕ) (segs₀ segs : List Float) (k : ℕ) : Type 0 where
+  pub record Running (from to : ℕ) (p₀ p : Pieces) (k : ℕ) : Type 0 where
     pub low : from ≤ k
     pub high : k ≤ to
-    pub long : length segs ≡ length segs₀
-    pub left : runOf stored slots refs found line (to - k) k segs ≡ runOf stored slots refs found line (to - from) from segs₀
+    pub long : AsLong p₀ p
+    pub left : runOf stored slots refs found tag line (to - k) k p ≡ runOf stored slots refs found tag line (to - from) from p₀
 
-  module _ (from to : ℕ) (segs₀ segs : List Float) (k : ℕ) (g : Running from to segs₀ segs k) where
-    pub other : k < to → eqb (lineAt refs k) line ≡ false → run Done k segs ≡ runOf stored slots refs found line (to - from) from segs₀
+  module _ (from to : ℕ) (p₀ p : Pieces) (k : ℕ) (g : Running from to p₀ p k) where
+    pub other : k < to → eqb (lineAt refs k) line ≡ false → run Done k p ≡ runOf stored slots refs found tag line (to - from) from p₀
     other h e =
         let one-more : to - k ≡ suc (to - suc k) = omega arith in
-        let here : runOf stored slots refs found line (to - k) k segs ≡ run Done k segs = rw (one-more, run-suc (to - suc k) k segs, e) refl in
+        let here : runOf stored slots refs found tag line (to - k) k p ≡ run Done k p = rw (one-more, run-suc (to - suc k) k p, e) refl in
         sym here ∙ g .left
 
-    pub stopped : (v : Verdict) (segs′ : List Float) (why : ℕ) → k < to → eqb (lineAt refs k) line ≡ true
-        → one v segs′ ≡ oneOf (foundTo stored slots (packedAt refs k) found) segs → v ≡ Verdict.Against why
-        → run (Refused why k) k segs′ ≡ runOf stored slots refs found line (to - from) from segs₀
-    stopped v segs′ why h e o q =
+    pub stopped : (v : Verdict) (p′ : Pieces) (why : ℕ) → k < to → eqb (lineAt refs k) line ≡ true
+        → one v p′ ≡ oneOf tag (foundTo stored slots (packedAt refs k) found) p → v ≡ Verdict.Against why
+        → run (Refused why k) k p′ ≡ runOf stored slots refs found tag line (to - from) from p₀
+    stopped v p′ why h e o q =
         let one-more : to - k ≡ suc (to - suc k) = omega arith in
-        let here : runOf stored slots refs found line (to - k) k segs ≡ run (Refused why k) k segs′ =
-        rw (one-more, run-suc (to - suc k) k segs, e)
-        (against-on k (foundTo stored slots (packedAt refs k) found) (runOf stored slots refs found line (to - suc k) (suc k)) why segs segs′ (rw q at o)) in
+        let here : runOf stored slots refs found tag line (to - k) k p ≡ run (Refused why k) k p′ =
+        rw (one-more, run-suc (to - suc k) k p, e)
+        (against-on tag k (foundTo stored slots (packedAt refs k) found) (runOf stored slots refs found tag line (to - suc k) (suc k)) why p p′ (rw q at o)) in
         sym here ∙ g .left
 
-    pub turned : (v : Verdict) (segs′ : List Float) → k < to → eqb (lineAt refs k) line ≡ true
-        → one v segs′ ≡ oneOf (foundTo stored slots (packedAt refs k) found) segs → v ≡ Verdict.Fine
-        → Running from to segs₀ segs′ (k + 1)
-    turned v segs′ h e o q =
+    pub turned : (v : Verdict) (p′ : Pieces) → k < to → eqb (lineAt refs k) line ≡ true
+        → one v p′ ≡ oneOf tag (foundTo stored slots (packedAt refs k) found) p → v ≡ Verdict.Fine
+        → Running from to p₀ p′ (k + 1)
+    turned v p′ h e o q =
         let one-more : to - k ≡ suc (to - suc k) = omega arith in
-        let here : runOf stored slots refs found line (to - k) k segs ≡ runOf stored slots refs found line (to - (k + 1)) (k + 1) segs′ =
-        rw (one-more, add-one, run-suc (to - suc k) k segs, e)
-        (fine-on k (foundTo stored slots (packedAt refs k) found) (runOf stored slots refs found line (to - suc k) (suc k)) segs segs′ (rw q at o)) in
+        let here : runOf stored slots refs found tag line (to - k) k p ≡ runOf stored slots refs found tag line (to - (k + 1)) (k + 1) p′ =
+        rw (one-more, add-one, run-suc (to - suc k) k p, e)
+        (fine-on tag k (foundTo stored slots (packedAt refs k) found) (runOf stored slots refs found tag line (to - suc k) (suc k)) p p′ (rw q at o)) in
         record {
           low = omega (arith, g .low);
           high = omega arith;
-          long = one-length (foundTo stored slots (packedAt refs k) found) v segs segs′ o ∙ g .long;
+          long = long-then (g .long) (one-long tag (foundTo stored slots (packedAt refs k) found) v p p′ o);
           left = sym here ∙ g .left;
         }
 
-    pub over : to ≤ k → run Done k segs ≡ runOf stored slots refs found line (to - from) from segs₀
+    pub over : to ≤ k → run Done k p ≡ runOf stored slots refs found tag line (to - from) from p₀
     over h =
         let none-left : to - k ≡ 0 = omega arith in
-        let here : runOf stored slots refs found line (to - k) k segs ≡ run Done k segs = rw (none-left, run-none k segs) refl in
+        let here : runOf stored slots refs found tag line (to - k) k p ≡ run Done k p = rw (none-left, run-none k p) refl in
         sym here ∙ g .left
 
-  -- how far a run goes, and that it leaves as many segments
-  pub record Goes (k n : ℕ) (segs : List Float) (r : Run) : Type 0 where
+  -- how far a run goes, and that it leaves as many segments and tags
+  pub record Goes (k n : ℕ) (p : Pieces) (r : Run) : Type 0 where
     pub low : k ≤ r .next
     pub high : r .next ≤ k + n
-    pub long : length (r .segments) ≡ length segs
+    pub long : AsLong p (r .pieces)
 
-  look-long : (k : ℕ) (l : Look) (rest : List Float → Run) (n : ℕ) (segs : List Float)
-      → ((s : List Float) → Goes (suc k) n s (rest s)) → Goes k (suc n) segs (lookOn k l rest segs)
-  look-long k (Put slot s) rest n segs h =
-      let g = h (putOf (slot .0) s segs) in
-      record { low = omega (arith, g .low); high = omega (arith, g .high); long = g .long ∙ length-sets segs (slot .0 * segmentFloats) (floatsOf s) }
-  look-long k Empty rest n segs h =
-      let g = h segs in
+  look-long : (k : ℕ) (l : Look) (rest : Pieces → Run) (n : ℕ) (p : Pieces)
+      → ((q : Pieces) → Goes (suc k) n q (rest q)) → Goes k (suc n) p (lookOn tag k l rest p)
+  look-long k (Put slot s) rest n p h =
+      let g = h (placed (slot .0) s tag p) in
+      record { low = omega (arith, g .low); high = omega (arith, g .high); long = long-then (long-placed (slot .0) s tag p) (g .long) }
+  look-long k Empty rest n p h =
+      let g = h p in
       record { low = omega (arith, g .low); high = omega (arith, g .high); long = g .long }
-  look-long k (Against why) rest n segs h = record { low = le-refl _; high = omega arith; long = refl }
+  look-long k (Against why) rest n p h = record { low = le-refl _; high = omega arith; long = long-self p }
 
-  pub run-goes : (n k : ℕ) (segs : List Float) → Goes k n segs (runOf stored slots refs found line n k segs)
+  pub run-goes : (n k : ℕ) (p : Pieces) → Goes k n p (runOf stored slots refs found tag line n k p)
   unfolding runOf
-  run-goes zero k segs = record { low = le-refl _; high = omega arith; long = refl }
-  run-goes (suc n) k segs = go (λ s. run-goes n (suc k) s) (eqb (lineAt refs k) line)
+  run-goes zero k p = record { low = le-refl _; high = omega arith; long = long-self p }
+  run-goes (suc n) k p = go (λ q. run-goes n (suc k) q) (eqb (lineAt refs k) line)
     where
-      go : ((s : List Float) → Goes (suc k) n s (runOf stored slots refs found line n (suc k) s)) → (t : Bool)
-          → Goes k (suc n) segs (cond t (lookOn k (foundTo stored slots (packedAt refs k) found) (runOf stored slots refs found line n (suc k)) segs) (run Done k segs))
-      go h true = look-long k (foundTo stored slots (packedAt refs k) found) (runOf stored slots refs found line n (suc k)) n segs h
-      go h false = record { low = le-refl _; high = omega arith; long = refl }
+      go : ((q : Pieces) → Goes (suc k) n q (runOf stored slots refs found tag line n (suc k) q)) → (t : Bool)
+          → Goes k (suc n) p (cond t (lookOn tag k (foundTo stored slots (packedAt refs k) found) (runOf stored slots refs found tag line n (suc k)) p) (run Done k p))
+      go h true = look-long k (foundTo stored slots (packedAt refs k) found) (runOf stored slots refs found tag line n (suc k)) n p h
+      go h false = record { low = le-refl _; high = omega arith; long = long-self p }
 
   -- a run whose first reference names the line, and which is not refused, has it
-  pub run-some : (n k : ℕ) (segs : List Float) → eqb (lineAt refs k) line ≡ true → 0 < n
-      → runOf stored slots refs found line n k segs .answer ≡ Done → k < runOf stored slots refs found line n k segs .next
+  pub run-some : (n k : ℕ) (p : Pieces) → eqb (lineAt refs k) line ≡ true → 0 < n
+      → runOf stored slots refs found tag line n k p .answer ≡ Done → k < runOf stored slots refs found tag line n k p .next
   unfolding runOf
-  run-some zero k segs e h a = absurd (omega arith)
-  run-some (suc n) k segs e h a = rw e (go (foundTo stored slots (packedAt refs k) found) (rw e at a))
+  run-some zero k p e h a = absurd (omega arith)
+  run-some (suc n) k p e h a = rw e (go (foundTo stored slots (packedAt refs k) found) (rw e at a))
     where
-      go : (l : Look) → lookOn k l (runOf stored slots refs found line n (suc k)) segs .answer ≡ Done
-          → k < lookOn k l (runOf stored slots refs found line n (suc k)) segs .next
-      go (Put slot s) a = omega (arith, run-goes n (suc k) (putOf (slot .0) s segs) .low)
-      go Empty a = omega (arith, run-goes n (suc k) segs .low)
+      go : (l : Look) → lookOn tag k l (runOf stored slots refs found tag line n (suc k)) p .answer ≡ Done
+          → k < lookOn tag k l (runOf stored slots refs found tag line n (suc k)) p .next
+      go (Put slot s) a = omega (arith, run-goes n (suc k) (placed (slot .0) s tag p) .low)
+      go Empty a = omega (arith, run-goes n (suc k) p .low)
       go (Against why) a = let z : _≡_ {A = ℕ} 0 1 = cc in absurd (omega arith)
 
 -- ---- a range, run by run
 
 -- what is left after a run up to the range's end
-abbrev afterBy : Lent → ℕ → ℕ → Answer → ℕ → List Float → Tiled
-afterBy L slots to Done next segs = rangeTiled (rangeOf L slots (to - next) next) segs
-afterBy L slots to (Refused why item) next segs = tiled (Refused why item) segs
+abbrev afterBy : Lent → ℕ → ℕ → Answer → ℕ → Pieces → Tiled
+afterBy L slots to Done next p = rangeTiled (rangeOf L slots (to - next) next) p
+afterBy L slots to (Refused why item) next p = tiled (Refused why item) p
 
 abbrev after : Lent → ℕ → ℕ → Run → Tiled
-after L slots to r = afterBy L slots to (r .answer) (r .next) (r .segments)
+after L slots to r = afterBy L slots to (r .answer) (r .next) (r .pieces)
 
 module _ (L : Lent) (slots line : ℕ) where
   -- a reference of the run, and then what is left after the rest of it
-  look-after : (to k : ℕ) (l : Look) (r : Range) (rest : List Float → Run) (segs : List Float) → ((s : List Float) → rangeTiled r s ≡ after L slots to (rest s))
-      → rangeTiled (lookThen L k l r) segs ≡ after L slots to (lookOn k l rest segs)
-  look-after to k (Put slot s) r rest segs h = h (putOf (slot .0) s segs)
-  look-after to k Empty r rest segs h = h segs
-  look-after to k (Against why) r rest segs h = refl
+  look-after : (to k tag : ℕ) → tagOf L (lineAt (L .refs) k) ≡ tag → (l : Look) (r : Range) (rest : Pieces → Run) (p : Pieces)
+      → ((q : Pieces) → rangeTiled r q ≡ after L slots to (rest q)) → rangeTiled (lookThen L k l r) p ≡ after L slots to (lookOn tag k l rest p)
+  look-after to k tag e (Put slot s) r rest p h = ap (λ (n : ℕ). rangeTiled r (placed (slot .0) s n p)) e ∙ h (placed (slot .0) s tag p)
+  look-after to k tag e Empty r rest p h = h p
+  look-after to k tag e (Against why) r rest p h = refl
 
-  pub run-range : (n k : ℕ) (segs : List Float)
-      → rangeTiled (rangeOf L slots n k) segs
-      ≡ after L slots (k + n) (runOf (L .stored) slots (L .refs) (foundOf (L .pathNos) (L .coords) (L .paths) line) line n k segs)
+  pub run-range : (n k : ℕ) (p : Pieces)
+      → rangeTiled (rangeOf L slots n k) p
+      ≡ after L slots (k + n) (runOf (L .stored) slots (L .refs) (foundOf (L .pathNos) (L .coords) (L .paths) line) (tagOf L line) line n k p)
   unfolding rangeOf runOf
-  run-range zero k segs = let none : k + 0 - k ≡ 0 = omega arith in rw none refl
-  run-range (suc n) k segs = go (λ s. run-range n (suc k) s) (eqb (lineAt (L .refs) k) line) refl
+  run-range zero k p = let none : k + 0 - k ≡ 0 = omega arith in rw none refl
+  run-range (suc n) k p = go (λ q. run-range n (suc k) q) (eqb (lineAt (L .refs) k) line) refl
     where
-      rest : List Float → Run
-      rest = runOf (L .stored) slots (L .refs) (foundOf (L .pathNos) (L .coords) (L .paths) line) line n (suc k)
+      rest : Pieces → Run
+      rest = runOf (L .stored) slots (L .refs) (foundOf (L .pathNos) (L .coords) (L .paths) line) (tagOf L line) line n (suc k)
 
-      go : ((s : List Float) → rangeTiled (rangeOf L slots n (suc k)) s ≡ after L slots (suc k + n) (rest s)) → (t : Bool) → eqb (lineAt (L .refs) k) line ≡ t
-          → rangeTiled (lookThen L k (lookOf L slots k) (rangeOf L slots n (suc k))) segs
+      go : ((q : Pieces) → rangeTiled (rangeOf L slots n (suc k)) q ≡ after L slots (suc k + n) (rest q)) → (t : Bool) → eqb (lineAt (L .refs) k) line ≡ t
+          → rangeTiled (lookThen L k (lookOf L slots k) (rangeOf L slots n (suc k))) p
           ≡ after L slots (k + suc n)
-          (cond t (lookOn k (foundTo (L .stored) slots (packedAt (L .refs) k) (foundOf (L .pathNos) (L .coords) (L .paths) line)) rest segs) (run Done k segs))
+          (cond t (lookOn (tagOf L line) k (foundTo (L .stored) slots (packedAt (L .refs) k) (foundOf (L .pathNos) (L .coords) (L .paths) line)) rest p) (run Done k p))
       go h true e =
           let same : suc k + n ≡ k + suc n = omega arith in
           let named : lineAt (L .refs) k ≡ line = eqb-true _ _ e in
-          rw (look-is L slots k, named)
-          (look-after (k + suc n) k (foundTo (L .stored) slots (packedAt (L .refs) k) (foundOf (L .pathNos) (L .coords) (L .paths) line))
-          (rangeOf L slots n (suc k)) rest segs (λ s. rw same at (h s)))
+          let found : lookOf L slots k ≡ foundTo (L .stored) slots (packedAt (L .refs) k) (foundOf (L .pathNos) (L .coords) (L .paths) line) =
+          look-is L slots k ∙ ap (λ (l : ℕ). foundTo (L .stored) slots (packedAt (L .refs) k) (foundOf (L .pathNos) (L .coords) (L .paths) l)) named in
+          ap (λ (l : Look). rangeTiled (lookThen L k l (rangeOf L slots n (suc k))) p) found
+          ∙ look-after (k + suc n) k (tagOf L line) (ap (λ (l : ℕ). tagOf L l) named)
+          (foundTo (L .stored) slots (packedAt (L .refs) k) (foundOf (L .pathNos) (L .coords) (L .paths) line))
+          (rangeOf L slots n (suc k)) rest p (λ q. rw same at (h q))
       go h false e = let left : k + suc n - k ≡ suc n = omega arith in rw left refl
 
 -- what holds at each turn of the loop over the runs of a range
-pub record Going (from to : ℕ) (L : Lent) (slots : ℕ) (segs₀ segs : List Float) (k : ℕ) : Type 0 where
+pub record Going (from to : ℕ) (L : Lent) (slots : ℕ) (p₀ p : Pieces) (k : ℕ) : Type 0 where
   pub low : from ≤ k
   pub high : k ≤ to
-  pub long : length segs ≡ length segs₀
-  pub left : rangeTiled (rangeOf L slots (to - k) k) segs ≡ rangeTiled (rangeOf L slots (to - from) from) segs₀
+  pub long : AsLong p₀ p
+  pub left : rangeTiled (rangeOf L slots (to - k) k) p ≡ rangeTiled (rangeOf L slots (to - from) from) p₀
+
+-- a line's tag, read in two steps
+pub tagged : (nos ps : List ℕ) (l path tag : ℕ) → path ≡ getD nos l 0 → tag ≡ beamAt ps path → tag ≡ beamAt ps (getD nos l 0)
+tagged nos ps l path tag e f = f ∙ ap (beamAt ps) e
 
 -- the run from reference k on, whose line was found
-module _ (from to : ℕ) (L : Lent) (slots : ℕ) (segs₀ segs : List Float) (k : ℕ) (g : Going from to L slots segs₀ segs k) where
+module _ (from to : ℕ) (L : Lent) (slots : ℕ) (p₀ p : Pieces) (k : ℕ) (g : Going from to L slots p₀ p k) where
   abbrev runAt : Run
-  runAt = runOf (L .stored) slots (L .refs) (foundOf (L .pathNos) (L .coords) (L .paths) (lineAt (L .refs) k)) (lineAt (L .refs) k) (to - k) k segs
+  runAt = runOf (L .stored) slots (L .refs) (foundOf (L .pathNos) (L .coords) (L .paths) (lineAt (L .refs) k)) (tagOf L (lineAt (L .refs) k)) (lineAt (L .refs) k) (to - k) k p
 
-  whole : slots ≡ slotsOf (length segs₀)
-      → rangeTiled (rangeOf L slots (to - from) from) segs₀ ≡ rangeTiled (rangeOf L (slotsOf (length segs₀)) (to - from) from) segs₀
-  whole s = ap (λ (n : ℕ). rangeTiled (rangeOf L n (to - from) from) segs₀) s
+  whole : slots ≡ slotsOf (length (p₀ .segments))
+      → rangeTiled (rangeOf L slots (to - from) from) p₀ ≡ rangeTiled (rangeOf L (slotsOf (length (p₀ .segments))) (to - from) from) p₀
+  whole s = ap (λ (n : ℕ). rangeTiled (rangeOf L n (to - from) from) p₀) s
 
-  rest : after L slots to runAt ≡ rangeTiled (rangeOf L slots (to - from) from) segs₀
-  rest = let end : k + (to - k) ≡ to = omega (arith, g .high) in sym (rw end at (run-range L slots (lineAt (L .refs) k) (to - k) k segs)) ∙ g .left
+  rest : after L slots to runAt ≡ rangeTiled (rangeOf L slots (to - from) from) p₀
+  rest = let end : k + (to - k) ≡ to = omega (arith, g .high) in sym (rw end at (run-range L slots (lineAt (L .refs) k) (to - k) k p)) ∙ g .left
 
-  pub halted : (r : Run) (why item : ℕ) → r ≡ runAt → r .answer ≡ Refused why item → slots ≡ slotsOf (length segs₀)
-      → tiled (Refused why item) (r .segments) ≡ rangeTiled (rangeOf L (slotsOf (length segs₀)) (to - from) from) segs₀
+  pub halted : (r : Run) (why item : ℕ) → r ≡ runAt → r .answer ≡ Refused why item → slots ≡ slotsOf (length (p₀ .segments))
+      → tiled (Refused why item) (r .pieces) ≡ rangeTiled (rangeOf L (slotsOf (length (p₀ .segments))) (to - from) from) p₀
   halted r why item e a s =
-      let here : after L slots to r ≡ tiled (Refused why item) (r .segments) = ap (λ (x : Answer). afterBy L slots to x (r .next) (r .segments)) a in
+      let here : after L slots to r ≡ tiled (Refused why item) (r .pieces) = ap (λ (x : Answer). afterBy L slots to x (r .next) (r .pieces)) a in
       sym here ∙ ap (after L slots to) e ∙ rest ∙ whole s
 
-  pub on : (r : Run) → k < to → r ≡ runAt → r .answer ≡ Done → Going from to L slots segs₀ (r .segments) (r .next)
+  pub on : (r : Run) → k < to → r ≡ runAt → r .answer ≡ Done → Going from to L slots p₀ (r .pieces) (r .next)
   on r h e a =
-      let far = run-goes (L .stored) slots (L .refs) (foundOf (L .pathNos) (L .coords) (L .paths) (lineAt (L .refs) k)) (lineAt (L .refs) k) (to - k) k segs in
+      let far = run-goes (L .stored) slots (L .refs) (foundOf (L .pathNos) (L .coords) (L .paths) (lineAt (L .refs) k)) (tagOf L (lineAt (L .refs) k)) (lineAt (L .refs) k) (to - k) k p in
       let next : r .next ≡ runAt .next = ap (λ (x : Run). x .next) e in
-      let here : after L slots to r ≡ rangeTiled (rangeOf L slots (to - r .next) (r .next)) (r .segments) = ap (λ (x : Answer). afterBy L slots to x (r .next) (r .segments)) a in
+      let here : after L slots to r ≡ rangeTiled (rangeOf L slots (to - r .next) (r .next)) (r .pieces) = ap (λ (x : Answer). afterBy L slots to x (r .next) (r .pieces)) a in
       record {
         low = omega (arith, far .low, next, g .low);
         high = omega (arith, far .high, next, g .high);
-        long = ap (λ (x : Run). length (x .segments)) e ∙ far .long ∙ g .long;
+        long = long-then (g .long) (subst (AsLong p) (sym (ap (λ (x : Run). x .pieces) e)) (far .long));
         left = sym here ∙ ap (after L slots to) e ∙ rest;
       }
 
@@ -232,11 +237,11 @@ module _ (from to : ℕ) (L : Lent) (slots : ℕ) (segs₀ segs : List Float) (k
   less r h e a =
       let next : r .next ≡ runAt .next = ap (λ (x : Run). x .next) e in
       let some =
-      run-some (L .stored) slots (L .refs) (foundOf (L .pathNos) (L .coords) (L .paths) (lineAt (L .refs) k)) (lineAt (L .refs) k) (to - k) k segs
+      run-some (L .stored) slots (L .refs) (foundOf (L .pathNos) (L .coords) (L .paths) (lineAt (L .refs) k)) (tagOf L (lineAt (L .refs) k)) (lineAt (L .refs) k) (to - k) k p
       (eq-eqb (lineAt (L .refs) k) (lineAt (L .refs) k) refl)
       (omega arith)
       (sym (ap (λ (x : Run). x .answer) e) ∙ a) in
       omega (arith, next, some)
 
-  pub done : to ≤ k → slots ≡ slotsOf (length segs₀) → tiled Done segs ≡ rangeTiled (rangeOf L (slotsOf (length segs₀)) (to - from) from) segs₀
-  done h s = sym (ends L slots to k segs h) ∙ g .left ∙ whole s
+  pub done : to ≤ k → slots ≡ slotsOf (length (p₀ .segments)) → tiled Done p ≡ rangeTiled (rangeOf L (slotsOf (length (p₀ .segments))) (to - from) from) p₀
+  done h s = sym (ends L slots to k p h) ∙ g .left ∙ whole s

@@ -2,26 +2,24 @@
 --     range-made     where each write comes from
 --     range-good     each write's slot is among the slots, and both ends of its segment lie in the tile, for every input
 --     range-append   two ranges one after another are one
---     calls-join     two calls one after another are one; then-tiled says it of the segments
+--     calls-join     two calls one after another are one; then-tiled says it of the segments and tags
 use Prim.Native.Nat.{ℕ, zero, suc, _+_, _-_, _*_, _/_, _≤_, _<_}
 use native.Mathlib.Omega.{arith}
 use mathlib.Core.Path.{_≡_, refl, sym, ap, _∙_}
 use mathlib.Core.Bool.{Bool, true, false, cond, _&&_}
 use mathlib.Core.List.{List, [], _∷_, _++_}
 use lib.ListN.{length}
-use lib.Seq.{length-sets}
 use lib.Dec.{leb, eqb}
-use lib.Ieee.{Float}
 use borrow.Author.Tests.{le-leb}
 use Rattle.lists.specs.Run.{All, actAll-append}
-use Rattle.panel.specs.Widths.{refWords, segmentFloats}
+use Rattle.panel.specs.Widths.{refWords}
 use Rattle.panel.specs.Kinds.{slotNoOf}
 use Rattle.panel.specs.Paths.{pathsAnswer}
 use Rattle.panel.specs.declared.kinds.Answer.{Answer}
 use Rattle.panel.specs.declared.kinds.Answer.the-variants.{Done, Refused}
 use Rattle.panel.specs.declared.segments.Segment.{Segment}
 use Rattle.path_tiling.specs.Look.{Lent, lineAt, packedAt, foundOf, lookOf}
-use Rattle.panel.specs.Segments.{floatsOf, putOf}
+use Rattle.panel.specs.Pieces.{Pieces, placed}
 use Rattle.path_tiling.specs.Tiling.{
   Write,
   writeOf,
@@ -45,7 +43,7 @@ use Rattle.path_tiling.specs.Tiling.{
 use Rattle.path_tiling.specs.declared.look.Look.{Look}
 use Rattle.path_tiling.specs.declared.look.Look.the-variants.{Put, Empty, Against}
 use Rattle.path_tiling.proofs.PutLaws.{Good, put-good}
-use Rattle.path_tiling.proofs.RangeLaws.{look-is}
+use Rattle.path_tiling.proofs.RangeLaws.{look-is, AsLong, long-self, long-then, long-placed}
 
 -- ---- where writes come from
 
@@ -55,7 +53,7 @@ all-more f (x ∷ xs) ps = (f x (ps .0), all-more f xs (ps .1))
 
 module _ (L : Lent) (slots : ℕ) where
   more : (n k : ℕ) (w : Write) → Made L slots n (suc k) w → Made L slots (suc n) k w
-  more n k w m = record { low = omega (arith, m .low); high = omega (arith, m .high); looked = m .looked; line = m .line; path = m .path }
+  more n k w m = record { low = omega (arith, m .low); high = omega (arith, m .high); looked = m .looked; line = m .line; path = m .path; tag = m .tag }
 
   pub range-made : (n k : ℕ) → All (Made L slots n k) (rangeOf L slots n k .writes)
   unfolding rangeOf
@@ -64,7 +62,7 @@ module _ (L : Lent) (slots : ℕ) where
     where
       go : (l : Look) → lookOf L slots k ≡ l → All (Made L slots (suc n) k) (rangeOf L slots n (suc k) .writes)
           → All (Made L slots (suc n) k) (lookThen L k l (rangeOf L slots n (suc k)) .writes)
-      go (Put slot s) e h = (record { low = omega arith; high = omega arith; looked = e; line = refl; path = refl }, h)
+      go (Put slot s) e h = (record { low = omega arith; high = omega arith; looked = e; line = refl; path = refl; tag = refl }, h)
       go Empty e h = h
       go (Against why) e h = tt
 
@@ -101,47 +99,50 @@ module _ (L : Lent) (slots : ℕ) where
 
 -- ---- one call after another
 
-pub length-applied : (ws : List Write) (segs : List Float) → length (applied ws segs) ≡ length segs
-length-applied [] segs = refl
-length-applied (w ∷ ws) segs =
-    length-applied ws (putOf (w .slot) (w .segment) segs) ∙ length-sets segs (w .slot * segmentFloats) (floatsOf (w .segment))
+pub long-applied : (ws : List Write) (p : Pieces) → AsLong p (applied ws p)
+long-applied [] p = long-self p
+long-applied (w ∷ ws) p =
+    long-then (long-placed (w .slot) (w .segment) (w .tag) p) (long-applied ws (placed (w .slot) (w .segment) (w .tag) p))
 
--- where the first is not refused, the second starts from the segments that the first left
-pub then-tiled : (r next : Range) (segs : List Float) → r .answer ≡ Done → rangeTiled (thenRange r next) segs ≡ rangeTiled next (applied (r .writes) segs)
-then-tiled r next segs e =
-    rw e (ap (λ (l : List Float). tiled (next .answer) l) (actAll-append (λ w. putOf (w .slot) (w .segment)) (r .writes) (next .writes) segs))
+pub length-applied : (ws : List Write) (p : Pieces) → length (applied ws p .segments) ≡ length (p .segments)
+length-applied ws p = long-applied ws p .segments
+
+-- where the first is not refused, the second starts from the segments and tags that the first left
+pub then-tiled : (r next : Range) (p : Pieces) → r .answer ≡ Done → rangeTiled (thenRange r next) p ≡ rangeTiled next (applied (r .writes) p)
+then-tiled r next p e =
+    rw e (ap (λ (l : Pieces). tiled (next .answer) l) (actAll-append (λ w. placed (w .slot) (w .segment) (w .tag)) (r .writes) (next .writes) p))
 
 -- and where it is, that is the answer
 pub then-refused : (r next : Range) (why item : ℕ) → r .answer ≡ Refused why item → thenRange r next ≡ range (r .writes) (Refused why item)
 then-refused r next why item e = rw e
 
-module _ (from mid to : ℕ) (L : Lent) (segs : List Float) (p : from ≤ mid) (q : mid ≤ to) (h : to ≤ length (L .refs) / refWords) where
-  checks-first : checksOf from mid L segs ≡ checksOf from to L segs
+module _ (from mid to : ℕ) (L : Lent) (p : Pieces) (f : from ≤ mid) (g : mid ≤ to) (h : to ≤ length (L .refs) / refWords) where
+  checks-first : checksOf from mid L p ≡ checksOf from to L p
   unfolding checksOf wholeOf
   checks-first =
       rw (
-        le-leb from mid p,
+        le-leb from mid f,
         le-leb from to (omega arith),
         le-leb mid (length (L .refs) / refWords) (omega arith),
         le-leb to (length (L .refs) / refWords) h,
       )
 
-  checks-next : (segs′ : List Float) → length segs′ ≡ length segs → checksOf mid to L segs′ ≡ checksOf from to L segs
+  checks-next : (q : Pieces) → AsLong p q → checksOf mid to L q ≡ checksOf from to L p
   unfolding checksOf wholeOf
-  checks-next segs′ e = rw (e, le-leb mid to q, le-leb from to (omega arith))
+  checks-next q e = rw (e .segments, e .tags, le-leb mid to g, le-leb from to (omega arith))
 
-  pub calls-join : callOf from to L segs ≡ thenRange (callOf from mid L segs) (callOf mid to L (applied (callOf from mid L segs .writes) segs))
+  pub calls-join : callOf from to L p ≡ thenRange (callOf from mid L p) (callOf mid to L (applied (callOf from mid L p .writes) p))
   unfolding callOf
   calls-join =
       rw (
         checks-first,
-        checks-next _ (length-applied (checkedThen (checksOf from to L segs) (rangeOf L (slotsOf (length segs)) (mid - from) from) .writes) segs),
-        length-applied (checkedThen (checksOf from to L segs) (rangeOf L (slotsOf (length segs)) (mid - from) from) .writes) segs,
+        checks-next _ (long-applied (checkedThen (checksOf from to L p) (rangeOf L (slotsOf (length (p .segments))) (mid - from) from) .writes) p),
+        length-applied (checkedThen (checksOf from to L p) (rangeOf L (slotsOf (length (p .segments))) (mid - from) from) .writes) p,
       )
-      (go (checksOf from to L segs))
+      (go (checksOf from to L p))
     where
       slots : ℕ
-      slots = slotsOf (length segs)
+      slots = slotsOf (length (p .segments))
 
       go : (a : Answer)
           → checkedThen a (rangeOf L slots (to - from) from)

@@ -9,7 +9,7 @@ use Rattle.panel.specs.Limits.{edgeMost}
 use Rattle.panel.specs.Refusals.{noSuch, noRoom, outside, crooked}
 pub use Rattle.panel.specs.Refs.{lineAt, packedAt, stepNo, sliceNo}
 use Rattle.panel.specs.Kinds.{slotNoOf}
-use Rattle.panel.specs.Paths.{endOf}
+use Rattle.panel.specs.Paths.{endOf, beamAt}
 use Rattle.panel.specs.Slots.{skips, slotOf}
 use Rattle.exact.specs.Reach.{Starts}
 use Rattle.walk.specs.Step.{Boxed, stepOf}
@@ -35,6 +35,10 @@ pub record Lent : Type 0 where
 
 abbrev pub lent : List ℕ → List Float → List ℕ → List ℕ → List ℕ → Lent
 lent ns cs ps xs rs = record { pathNos = ns; coords = cs; paths = ps; stored = xs; refs = rs }
+
+-- a line's tag: the beam number of its path
+abbrev pub tagOf : Lent → ℕ → ℕ
+tagOf L l = beamAt (L .paths) (getD (L .pathNos) l 0)
 
 -- line l, as the walk finds it; no such line is refused
 unfoldable pub foundOf : List ℕ → List Float → List ℕ → ℕ → Walked.Walked

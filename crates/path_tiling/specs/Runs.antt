@@ -4,38 +4,37 @@ use Prim.Native.Nat.{ℕ, zero, suc}
 use mathlib.Core.Bool.{cond}
 use mathlib.Core.List.{List}
 use lib.Dec.{eqb}
-use lib.Ieee.{Float}
 use Rattle.panel.specs.declared.kinds.Answer.{Answer}
 use Rattle.panel.specs.declared.kinds.Answer.the-variants.{Done, Refused}
 use Rattle.walk.specs.declared.kinds.Walked.{Walked}
 use Rattle.path_tiling.specs.Look.{lineAt, packedAt, foundTo}
-use Rattle.panel.specs.Segments.{putOf}
+use Rattle.panel.specs.Pieces.{Pieces, placed}
 use Rattle.path_tiling.specs.declared.Ran.{Ran}
 use Rattle.path_tiling.specs.declared.look.Look.{Look}
 use Rattle.path_tiling.specs.declared.look.Look.the-variants.{Put, Empty, Against}
 
--- how far a run goes: up to `next`, or up to the refusal of `next`; and the segments afterwards
+-- how far a run goes: up to `next`, or up to the refusal of `next`; and the segments and tags afterwards
 pub record Run : Type 0 where
   pub answer : Answer
   pub next : ℕ
-  pub segments : List Float
+  pub pieces : Pieces
 
-abbrev pub run : Answer → ℕ → List Float → Run
-run a k segs = record { answer = a; next = k; segments = segs }
+abbrev pub run : Answer → ℕ → Pieces → Run
+run a k p = record { answer = a; next = k; pieces = p }
 
-abbrev pub ranOf : Ran → List Float → Run
-ranOf r segs = run (r .answer) (r .next) segs
+abbrev pub ranOf : Ran → Pieces → Run
+ranOf r p = run (r .answer) (r .next) p
 
--- reference k, and then the rest, on the segments as they are then; a reference refused ends the run
-abbrev pub lookOn : ℕ → Look → (List Float → Run) → List Float → Run
-lookOn k (Put slot s) rest segs = rest (putOf (slot .0) s segs)
-lookOn k Empty rest segs = rest segs
-lookOn k (Against why) rest segs = run (Refused why k) k segs
+-- reference k, with its line's tag, and then the rest, on the segments and tags as they are then; a reference refused ends the run
+abbrev pub lookOn : ℕ → ℕ → Look → (Pieces → Run) → Pieces → Run
+lookOn tag k (Put slot s) rest p = rest (placed (slot .0) s tag p)
+lookOn tag k Empty rest p = rest p
+lookOn tag k (Against why) rest p = run (Refused why k) k p
 
--- n references from reference k on, up to the first that names another line
-unfoldable pub runOf : (stored : List ℕ) (slots : ℕ) (refs : List ℕ) → Walked → (line n k : ℕ) → List Float → Run
-runOf stored slots refs found line zero k segs = run Done k segs
-runOf stored slots refs found line (suc n) k segs =
+-- n references from reference k on, up to the first that names another line than this, which has this tag
+unfoldable pub runOf : (stored : List ℕ) (slots : ℕ) (refs : List ℕ) → Walked → (tag line n k : ℕ) → Pieces → Run
+runOf stored slots refs found tag line zero k p = run Done k p
+runOf stored slots refs found tag line (suc n) k p =
     cond (eqb (lineAt refs k) line)
-    (lookOn k (foundTo stored slots (packedAt refs k) found) (runOf stored slots refs found line n (suc k)) segs)
-    (run Done k segs)
+    (lookOn tag k (foundTo stored slots (packedAt refs k) found) (runOf stored slots refs found tag line n (suc k)) p)
+    (run Done k p)

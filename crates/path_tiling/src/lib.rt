@@ -1,5 +1,6 @@
-// A segment for each reference of a range, written at its slot: path_tiling.rs. docs/RULES.md,
-// tiling's part of "When the panel says no".
+// A segment for each reference of a range, written at its slot, with its tag beside it: path_tiling.rs.
+// docs/RULES.md, tiling's part of "When the panel says no".
+mod beams;
 pub mod look;
 
 ghost use mathlib.Core.Path.{_≡_};
@@ -7,6 +8,7 @@ ghost use Prim.Native.Nat.{_+_, _-_, _*_, _/_, _≤_};
 ghost use lib.ListN.{length};
 ghost use Rattle.panel.specs.Widths.{refWords, segmentFloats};
 ghost use Rattle.panel.specs.Paths.{pathsAnswer};
+ghost use Rattle.panel.specs.Pieces.{pieces};
 ghost use Rattle.panel.specs.declared.kinds.Answer.the-variants.{Done};
 ghost use Rattle.path_tiling.specs.Look.{lent, FoundFits, foundTo};
 ghost use Rattle.path_tiling.specs.Tiling.{one, oneOf, slotsOf, wholeOf, Ready, rangeOf, tiled, rangeTiled, TileMet};
@@ -26,14 +28,24 @@ use panel::widths::REF_WORDS;
 use panel::widths::SEGMENT_FLOATS;
 use walk::kinds::Walked;
 
-// One reference, whose line is as the walk found it.
-fn tile_one(found: Walked, packed: u32, stored: &[u32], slots: u32, segments: &mut [f32]) -> Verdict
-    requires { ⌜ FoundFits (length (now stored)) found × (slots * segmentFloats ≤ length (now segments)) ⌝ }
-    ensures { λ r. ⌜ one r (now (segments .exit)) ≡ oneOf (foundTo (now (stored .entry)) slots packed found) (now (segments .entry)) ⌝ }
+// One reference, whose line is as the walk found it and has this tag.
+fn tile_one(
+    found: Walked,
+    tag: u32,
+    packed: u32,
+    stored: &[u32],
+    slots: u32,
+    segments: &mut [f32],
+    tags: &mut [u32],
+) -> Verdict
+    requires { ⌜ FoundFits (length (now stored)) found × (slots * segmentFloats ≤ length (now segments)) × (slots ≤ length (now tags)) ⌝ }
+    ensures { λ r. ⌜ one r (pieces (now (segments .exit)) (now (tags .exit)))
+        ≡ oneOf tag (foundTo (now (stored .entry)) slots packed found) (pieces (now (segments .entry)) (now (tags .entry))) ⌝ }
 {
     match look::look_at(found, packed, stored, slots) {
         Look::Put(slot, s) => {
             put(segments, slot, s);
+            tags[slot.0 as usize] = tag;
             Verdict::Fine
         }
         Look::Empty => Verdict::Fine,
@@ -60,9 +72,10 @@ pub struct Ran {
 }
 
 // The references from `from` up to `to`, in order, as long as they name this line, up to the first that
-// is refused. The line's numbers are found once for all of them.
+// is refused. The line's numbers and its tag are found once for all of them.
 fn tile_run(
     found: Walked,
+    tag: u32,
     line: LineNo,
     from: u32,
     to: u32,
@@ -70,9 +83,12 @@ fn tile_run(
     refs: &[u32],
     slots: u32,
     segments: &mut [f32],
+    tags: &mut [u32],
 ) -> Ran
-    requires { ⌜ FoundFits (length (now stored)) found × (slots * segmentFloats ≤ length (now segments)) × (from ≤ to) × (to ≤ length (now refs) / refWords) ⌝ }
-    ensures { λ r. ⌜ ranOf r (now (segments .exit)) ≡ runOf (now (stored .entry)) slots (now (refs .entry)) found (line .0) (to - from) from (now (segments .entry)) ⌝ }
+    requires { ⌜ FoundFits (length (now stored)) found × (slots * segmentFloats ≤ length (now segments)) × (slots ≤ length (now tags))
+        × (from ≤ to) × (to ≤ length (now refs) / refWords) ⌝ }
+    ensures { λ r. ⌜ ranOf r (pieces (now (segments .exit)) (now (tags .exit)))
+        ≡ runOf (now (stored .entry)) slots (now (refs .entry)) found tag (line .0) (to - from) from (pieces (now (segments .entry)) (now (tags .entry))) ⌝ }
 {
     let mut k = from;
     while k < to {
@@ -82,7 +98,7 @@ fn tile_run(
             return Ran { answer, next: k };
         }
         let packed = packed_at(refs, k);
-        let v = tile_one(found, packed, stored, slots, segments);
+        let v = tile_one(found, tag, packed, stored, slots, segments, tags);
         if let Verdict::Against(why) = v {
             let answer = Answer::Refused(why, k);
             return Ran { answer, next: k };
@@ -103,11 +119,12 @@ fn tile_range(
     stored: &[u32],
     refs: &[u32],
     segments: &mut [f32],
+    tags: &mut [u32],
 ) -> Answer
-    requires { ⌜ Ready from to (lent (now «path_nos») (now coords) (now paths) (now stored) (now refs)) ⌝ }
-    ensures { λ r. ⌜ tiled r (now (segments .exit)) ≡ rangeTiled
+    requires { ⌜ Ready from to (lent (now «path_nos») (now coords) (now paths) (now stored) (now refs)) (pieces (now segments) (now tags)) ⌝ }
+    ensures { λ r. ⌜ tiled r (pieces (now (segments .exit)) (now (tags .exit))) ≡ rangeTiled
         (rangeOf (lent (now («path_nos» .entry)) (now (coords .entry)) (now (paths .entry)) (now (stored .entry)) (now (refs .entry)))
-        (slotsOf (length (now (segments .entry)))) (to - from) from) (now (segments .entry)) ⌝ }
+        (slotsOf (length (now (segments .entry)))) (to - from) from) (pieces (now (segments .entry)) (now (tags .entry))) ⌝ }
 {
     let slots = slots_of(segments.len());
     let mut k = from;
@@ -115,7 +132,9 @@ fn tile_range(
         let named = named_at(refs, k);
         let line = LineNo(named);
         let found = look::found_at(path_nos, coords, paths, line);
-        let ran = tile_run(found, line, k, to, stored, refs, slots, segments);
+        let path = beams::path_of(path_nos, line);
+        let tag = beams::tag_of(paths, path);
+        let ran = tile_run(found, tag, line, k, to, stored, refs, slots, segments, tags);
         let answer = ran.answer;
         if let Answer::Refused(why, item) = answer {
             return Answer::Refused(why, item);
@@ -134,14 +153,16 @@ fn whole(
     paths: usize,
     refs: usize,
     segments: usize,
+    tags: usize,
 ) -> bool
-    ensures { λ r. ⌜ r ≡ wholeOf from to lines coords paths refs segments ⌝ }
+    ensures { λ r. ⌜ r ≡ wholeOf from to lines coords paths refs segments tags ⌝ }
 {
     (coords % LINE_FLOATS == 0)
         & (lines == coords / LINE_FLOATS)
         & (paths % PATH_WORDS == 0)
         & (refs % REF_WORDS == 0)
         & (segments % SEGMENT_FLOATS == 0)
+        & (tags == segments / SEGMENT_FLOATS)
         & (from <= to)
         & ((to as usize) <= refs / REF_WORDS)
 }
@@ -156,10 +177,11 @@ pub fn tile_checked(
     stored: &[u32],
     refs: &[u32],
     segments: &mut [f32],
+    tags: &mut [u32],
 ) -> Answer
     requires { ⌜ pathsAnswer (now paths) (length (now stored)) ≡ Done ⌝ }
     ensures { λ r. ⌜ TileMet from to (lent (now («path_nos» .entry)) (now (coords .entry)) (now (paths .entry)) (now (stored .entry)) (now (refs .entry)))
-        (now (segments .entry)) r (now (segments .exit)) ⌝ }
+        (pieces (now (segments .entry)) (now (tags .entry))) r (pieces (now (segments .exit)) (now (tags .exit))) ⌝ }
 {
     if !whole(
         from,
@@ -169,14 +191,25 @@ pub fn tile_checked(
         paths.len(),
         refs.len(),
         segments.len(),
+        tags.len(),
     ) {
         return Answer::Refused(NOT_WHOLE, 0);
     }
-    tile_range(from, to, path_nos, coords, paths, stored, refs, segments)
+    tile_range(
+        from,
+        to,
+        path_nos,
+        coords,
+        paths,
+        stored,
+        refs,
+        segments,
+        tags,
+    )
 }
 
-// A segment for each of the references from `from` up to `to`. It stops before the first refused,
-// with its number. Lines are given by their path numbers and their coordinates, the tiles by what
+// A segment for each of the references from `from` up to `to`, and beside it its tag, the beam number
+// of its line's path. It stops before the first refused, with its number. Lines are given by their path numbers and their coordinates, the tiles by what
 // hand-out left in them.
 pub fn tile(
     from: u32,
@@ -187,9 +220,10 @@ pub fn tile(
     stored: &[u32],
     refs: &[u32],
     segments: &mut [f32],
+    tags: &mut [u32],
 ) -> Answer
     ensures { λ r. ⌜ TileMet from to (lent (now («path_nos» .entry)) (now (coords .entry)) (now (paths .entry)) (now (stored .entry)) (now (refs .entry)))
-        (now (segments .entry)) r (now (segments .exit)) ⌝ }
+        (pieces (now (segments .entry)) (now (tags .entry))) r (pieces (now (segments .exit)) (now (tags .exit))) ⌝ }
 {
     if !whole(
         from,
@@ -199,6 +233,7 @@ pub fn tile(
         paths.len(),
         refs.len(),
         segments.len(),
+        tags.len(),
     ) {
         return Answer::Refused(NOT_WHOLE, 0);
     }
@@ -206,5 +241,15 @@ pub fn tile(
     if let Answer::Refused(why, item) = checked {
         return Answer::Refused(why, item);
     }
-    tile_checked(from, to, path_nos, coords, paths, stored, refs, segments)
+    tile_checked(
+        from,
+        to,
+        path_nos,
+        coords,
+        paths,
+        stored,
+        refs,
+        segments,
+        tags,
+    )
 }

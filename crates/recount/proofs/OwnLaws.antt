@@ -38,14 +38,21 @@ line-part coords k =
     let y1 = getD-drop n coords 3 nan in
     λ i. record { p0 = record { x = x0 i; y = y0 i }; p1 = record { x = x1 i; y = y1 i } }
 
+-- its path number
+first-of : (nos ns : List ℕ) (k : ℕ) → ns ≡ drop k nos → getD ns 0 0 ≡ getD nos k 0
+first-of nos ns k e = ap (λ (xs : List ℕ). getD xs 0 0) e ∙ getD-drop k nos 0 0 ∙ ap (λ (j : ℕ). getD nos j 0) (add-zero k)
+
+-- and why it is refused where it is of another path
+pub other-part : (coords : List Float) (l k : ℕ) (fs : List Float) → fs ≡ drop (k * lineFloats) coords → otherNo l (lineAt fs 0) ≡ otherNo l (lineAt coords k)
+other-part coords l k fs e = ap (otherNo l) (ap (λ (xs : List Float). lineAt xs 0) e ∙ line-part coords k)
+
 module _ (p : ℕ) (nos : List ℕ) (coords : List Float) (paths : List ℕ) (room l k : ℕ) (s : St) where
-  pub own-part : (ns : List ℕ) (fs : List Float) → ns ≡ drop k nos → fs ≡ drop (k * lineFloats) coords
+  own-part : (ns : List ℕ) (fs : List Float) → ns ≡ drop k nos → fs ≡ drop (k * lineFloats) coords
       → ownStep p ns fs paths room l 0 s ≡ ownStep p nos coords paths room l k s
   unfolding ownStep
   own-part ns fs en ef =
       ap₂ (λ (q : ℕ) (e : LineEnds). haltIf (leb mostLines l) lineNumber (walkedStep room l (ownWalk p paths q e) s))
-      (ap (λ (xs : List ℕ). getD xs 0 0) en ∙ getD-drop k nos 0 0 ∙ ap (λ (j : ℕ). getD nos j 0) (add-zero k))
-      (ap (λ (xs : List Float). lineAt xs 0) ef ∙ line-part coords k)
+      (first-of nos ns k en) (ap (λ (xs : List Float). lineAt xs 0) ef ∙ line-part coords k)
 
   -- ---- a line of the path named is counting's own
 
@@ -78,3 +85,10 @@ module _ (p : ℕ) (nos : List ℕ) (coords : List Float) (paths : List ℕ) (ro
   -- and leaves the references within 32 bits
   pub own-made : p < pathCount paths → s .made < 2 ^ 32 → (u : St) → ownStep p nos coords paths room l k s ≡ taken u → u .made < 2 ^ 32
   own-made h m u e = line-made nos coords paths room l k s u m (sym (own-same h (own-taken u e)) ∙ e)
+
+-- ---- a line of the path named is counting's own first line of the lines from it on
+
+module _ (p : ℕ) (nos : List ℕ) (coords : List Float) (paths : List ℕ) (room l k : ℕ) (s : St) where
+  pub own-rest : p < pathCount paths → getD nos k 0 ≡ p → (ns : List ℕ) (fs : List Float) → ns ≡ drop k nos → fs ≡ drop (k * lineFloats) coords
+      → lineStep ns fs paths room l 0 s ≡ ownStep p nos coords paths room l k s
+  own-rest h e ns fs en ef = sym (own-same p ns fs paths room l 0 s h (first-of nos ns k en ∙ e)) ∙ own-part p nos coords paths room l k s ns fs en ef

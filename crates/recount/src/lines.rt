@@ -6,7 +6,8 @@ ghost use Rattle.panel.specs.Paths.{pathCount};
 ghost use Rattle.panel.specs.Widths.{refWords, lineFloats};
 ghost use Rattle.panel.specs.Lines.{lineAt};
 ghost use Rattle.acts.specs.Acts.{stOf};
-ghost use Rattle.path_count.specs.Count.{lineRan, tallyRan, toldOf, Lent};
+ghost use Rattle.path_count.specs.Notes.{noteWords};
+ghost use Rattle.path_count.specs.Count.{lineRan, tallyRan, toldOf, Lent, There};
 ghost use Rattle.recount.specs.Recount.{otherNo, ownStep, linesRan, linesTold, paperOf, madeOf};
 use super::kinds::Recounted;
 use panel::kinds::LineNo;
@@ -17,8 +18,11 @@ use panel::refusals::LINE_NUMBER;
 use panel::refusals::NO_SUCH;
 use panel::widths::LINE_FLOATS;
 use path_count::Tallied;
-use path_count::count_line;
+use path_count::count_noted;
 use walk::setup::reached;
+
+// Counting finds a line by its place, a number of 32 bits: so many lines have one.
+const PLACES: usize = 4_294_967_296;
 
 // Why the first line lent is refused, which is of another path: 5 and 6 come first.
 fn other_no(line: LineNo, coords: &[f32]) -> u32
@@ -37,30 +41,60 @@ fn other_no(line: LineNo, coords: &[f32]) -> u32
     COORDINATE
 }
 
-// The first line lent, as line number line.
+// Line k of those lent, as line number line. One that has no place is the first of the lines from it on.
+// The notes are room to work in.
 fn own_line(
     path: u32,
     line: LineNo,
+    k: usize,
     made: u32,
     path_nos: &[u32],
     coords: &[f32],
     paths: &[u32],
+    notes: &mut [u32],
     backs: &mut [i32],
     counts: &mut [u32],
     refs: &mut [u32],
 ) -> Tallied
     requires { ⌜ Lent (now paths) (length (now backs)) (length (now counts)) × (path < pathCount (now paths))
-        × (0 < length (now «path_nos»)) × (lineFloats ≤ length (now coords)) ⌝ }
+        × There k (length (now «path_nos»)) (length (now coords)) × (length (now notes) ≡ noteWords) ⌝ }
     ensures { λ r. ⌜ tallyRan r (stOf (now (backs .exit)) (now (counts .exit)) (now (refs .exit))) made
-        ≡ lineRan (ownStep path (now («path_nos» .entry)) (now (coords .entry)) (now (paths .entry)) (length (now (refs .entry)) / refWords) (line .0) 0
+        ≡ lineRan (ownStep path (now («path_nos» .entry)) (now (coords .entry)) (now (paths .entry)) (length (now (refs .entry)) / refWords) (line .0) k
         (stOf (now (backs .entry)) (now (counts .entry)) (now (refs .entry)) made))
         (stOf (now (backs .entry)) (now (counts .entry)) (now (refs .entry)) made) ⌝ }
 {
-    let named = path_nos[0];
+    let at = k * LINE_FLOATS;
+    let named = path_nos[k];
     if named != path {
-        return Tallied::Against(other_no(line, coords));
+        return Tallied::Against(other_no(line, &coords[at..]));
     }
-    count_line(line, 0, made, path_nos, coords, paths, backs, counts, refs)
+    if k < PLACES {
+        let place = k as u32;
+        return count_noted(
+            line,
+            place,
+            made,
+            path_nos,
+            coords,
+            paths,
+            notes,
+            backs,
+            counts,
+            refs,
+        );
+    }
+    count_noted(
+        line,
+        0,
+        made,
+        &path_nos[k..],
+        &coords[at..],
+        paths,
+        notes,
+        backs,
+        counts,
+        refs,
+    )
 }
 
 // All of them, as references 0, 1, .. Their numbers are lent beside them.
@@ -80,18 +114,20 @@ pub(crate) fn count_lines(
         ≡ linesTold (now («line_nos» .entry)) (linesRan path (now («line_nos» .entry)) (now («path_nos» .entry)) (now (coords .entry)) (now (paths .entry)) (length (now (refs .entry)) / refWords)
         (stOf (now (backs .entry)) (now (counts .entry)) (now (refs .entry)) 0)) ⌝ }
 {
+    let mut notes = [0u32; 256];
     let mut made: u32 = 0;
     let mut k: usize = 0;
     while k < path_nos.len() {
         let l = line_nos[k];
-        let at = k * LINE_FLOATS;
         let t = own_line(
             path,
             LineNo(l),
+            k,
             made,
-            &path_nos[k..],
-            &coords[at..],
+            path_nos,
+            coords,
             paths,
+            &mut notes,
             backs,
             counts,
             refs,

@@ -1,4 +1,4 @@
-// Kind 4: path_nos, coords, paths, stored, refs, segments*; from, to.
+// Kind 4: path_nos, coords, paths, stored, refs, segments*, tags*; from, to.
 use super::places;
 use super::places::Row;
 use super::rooms;
@@ -13,19 +13,23 @@ struct Parts {
     stored: Row,
     refs: Row,
     segments: Row,
+    tags: Row,
     answer: usize,
     later: Row,
+    tags_later: Row,
 }
 
 fn parts_at(words: &[u32], at: usize) -> Parts {
-    let path_nos = places::first(words, at, 1, 9);
+    let path_nos = places::first(words, at, 1, 10);
     let coords = places::follow(words, at, 2, path_nos);
     let paths = places::follow(words, at, 3, coords);
     let stored = places::follow(words, at, 4, paths);
     let refs = places::follow(words, at, 5, stored);
     let segments = places::follow(words, at, 6, refs);
-    let answer = places::after(words, segments);
-    let later = places::first(words, answer, 2, 3);
+    let tags = places::follow(words, at, 7, segments);
+    let answer = places::after(words, tags);
+    let later = places::first(words, answer, 2, 4);
+    let tags_later = places::follow(words, answer, 3, later);
     Parts {
         path_nos,
         coords,
@@ -33,9 +37,32 @@ fn parts_at(words: &[u32], at: usize) -> Parts {
         stored,
         refs,
         segments,
+        tags,
         answer,
         later,
+        tags_later,
     }
+}
+
+// The rest, filled.
+fn put(
+    words: &[u32],
+    at: Parts,
+    stored: &mut [u32],
+    refs: &mut [u32],
+    segments: &mut [f32],
+    tags: &mut [u32],
+) -> bool {
+    rows::put_words(words, at.stored, stored)
+        & rows::put_words(words, at.refs, refs)
+        & rows::put_floats(words, at.segments, segments)
+        & rows::put_words(words, at.tags, tags)
+}
+
+// What is lent to be changed, compared afterwards.
+fn same(words: &[u32], at: Parts, segments: &[f32], tags: &[u32]) -> bool {
+    rows::same_floats(words, at.segments, at.later, segments)
+        & rows::same_words(words, at.tags, at.tags_later, tags)
 }
 
 // Whether the stage answers so, once path_nos, coords and paths are there.
@@ -49,26 +76,24 @@ fn right(
     stored: &mut [u32],
     refs: &mut [u32],
     segments: &mut [f32],
+    tags: &mut [u32],
 ) -> bool {
-    let whole = rows::put_words(words, at.stored, stored)
-        & rows::put_words(words, at.refs, refs)
-        & rows::put_floats(words, at.segments, segments);
+    let whole = put(words, at, stored, refs, segments, tags);
     let a = path_tiling::tile(
-        word(words, head, 7),
         word(words, head, 8),
+        word(words, head, 9),
         path_nos,
         coords,
         paths,
         stored,
         refs,
         segments,
+        tags,
     );
-    whole
-        & rows::answers(words, at.answer, a)
-        & rows::same_floats(words, at.segments, at.later, segments)
+    whole & rows::answers(words, at.answer, a) & same(words, at, segments, tags)
 }
 
-// The same, with rooms for the other three.
+// The same, with rooms for the other four.
 fn right_of(
     words: &[u32],
     head: usize,
@@ -80,9 +105,11 @@ fn right_of(
     let mut stored = rooms::words();
     let mut refs = rooms::words();
     let mut segments = rooms::floats();
+    let mut tags = rooms::words();
     let ni = rooms::of_words(at.stored, &stored);
     let nr = rooms::of_words(at.refs, &refs);
     let ns = rooms::of_floats(at.segments, &segments);
+    let nt = rooms::of_words(at.tags, &tags);
     right(
         words,
         head,
@@ -93,6 +120,7 @@ fn right_of(
         &mut stored[..ni],
         &mut refs[..nr],
         &mut segments[..ns],
+        &mut tags[..nt],
     )
 }
 
@@ -120,7 +148,7 @@ pub(crate) fn case(words: &[u32], at: usize) -> Seen {
     let nc = rooms::of_floats(p.coords, &coords);
     let np = rooms::of_words(p.paths, &paths);
     Seen {
-        next: places::after(words, p.later),
+        next: places::after(words, p.tags_later),
         equal: lines_right(
             words,
             at,

@@ -1,16 +1,18 @@
-// The scene's paths, in the order of painting: each one's box and first tile, and its colour and fill rule.
+// The scene's paths, in the order of painting: each one's box, first tile and beam, and its colour and fill rule.
 // A colour is multiplied by its alpha, its low byte.
 pub const COLS: u32 = 24;
 
 pub const ROWS: u32 = 14;
 
-// Box x0, y0, x1, y1 in tiles, then the first tile.
-pub const PATHS: [u32; 85] = [
+// Box x0, y0, x1, y1 in tiles, then the first tile, then the beam's number: 0 for what is no gauge's. Both gauges of
+// the sill are on one beam, and so are swing and echo.
+pub const PATHS: [u32; 102] = [
     // ground
     0,
     0,
     24,
     14,
+    0,
     0,
     // fields
     1,
@@ -18,96 +20,112 @@ pub const PATHS: [u32; 85] = [
     18,
     13,
     336,
+    0,
     // alarm bands
     1,
     1,
     18,
     13,
     540,
+    0,
     // grid
     1,
     1,
     18,
     13,
     744,
+    0,
     // treble
     1,
     1,
     18,
     5,
     948,
+    11,
     // tenor
     1,
     1,
     18,
     5,
     1016,
+    12,
     // sill's south
     1,
     5,
     18,
     9,
     1084,
+    13,
     // sill's gap
     1,
     5,
     18,
     9,
     1152,
+    13,
     // swing
     1,
     9,
     18,
     13,
     1220,
+    14,
     // echo
     1,
     9,
     18,
     13,
     1288,
+    14,
     // axes
     0,
     1,
     18,
     13,
     1356,
+    0,
     // dials' faces
     19,
     1,
     23,
     13,
     1572,
+    0,
     // dials' alarm
     19,
     1,
     23,
     13,
     1620,
+    0,
     // dials' rings
     19,
     1,
     23,
     13,
     1668,
+    0,
     // needles
     19,
     1,
     23,
     13,
     1716,
+    0,
     // hubs
     19,
     1,
     23,
     13,
     1764,
+    0,
     // hub of the middle dial
     19,
     1,
     23,
     13,
     1812,
+    0,
 ];
 
 // Colour, red in the high byte; then 0 for non-zero and 1 for even-odd.

@@ -27,6 +27,13 @@ pub fn segments() -> [f32; 10240]
     [0.0; 10240]
 }
 
+// One for each slot.
+pub fn tags() -> [u32; 2048]
+    ensures { λ r. ⌜ 2048 ≡ length r ⌝ }
+{
+    [0; 2048]
+}
+
 // Of commands.
 pub fn words() -> [u32; 24576]
     ensures { λ r. ⌜ 24576 ≡ length r ⌝ }

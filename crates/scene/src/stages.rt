@@ -86,8 +86,19 @@ fn tile(
     tally: &[u32],
     refs: &[u32],
     segments: &mut [f32],
+    tags: &mut [u32],
 ) {
-    let no = number(path_tiling::tile(0, made, path_nos, coords, &PATHS, tiles, refs, segments));
+    let no = number(path_tiling::tile(
+        0,
+        made,
+        path_nos,
+        coords,
+        &PATHS,
+        tiles,
+        refs,
+        segments,
+        tags,
+    ));
     if no != 0 {
         return refused(b"tiling", no);
     }
@@ -113,6 +124,7 @@ fn sum_and_hand_out(
         return refused(b"hand-out", slots);
     }
     let mut segments = rooms::segments();
+    let mut tags = rooms::tags();
     tile(
         made,
         path_nos,
@@ -122,6 +134,7 @@ fn sum_and_hand_out(
         tally,
         refs,
         &mut segments,
+        &mut tags,
     );
 }
 

@@ -26,7 +26,7 @@ use Rattle.path_count.specs.declared.kinds.Counted.the-variants.{Done}
 use Rattle.path_count.proofs.Batches.{batches}
 use Rattle.panel.specs.Kinds as Kinds
 use Rattle.path_tiling.specs.Look.{Lent}
-use Rattle.panel.specs.Segments.{putOf}
+use Rattle.panel.specs.Pieces.{Pieces, placed}
 use Rattle.path_tiling.specs.Tiling.{Range, applied, callOf, Tiled, tiled, rangeTiled, tiledOf, thenOn, thenRange}
 use Rattle.path_tiling.proofs.WriteLaws.{calls-join}
 use Rattle.theorems.specs.Drawn.{Drawn, drawnAt, marksOf}
@@ -63,7 +63,7 @@ same-lengths nos coords paths n p room a b s u e =
 -- ---- what a call checks, of a batch and of the next
 
 module _ (nos : List ℕ) (coords : List Float) (paths : List ℕ) (a b c : ℕ) (h : a ≤ b) (k : b ≤ c) (there : c ≤ length coords / lineFloats) where
-  answer-first : (s : St) → callAnswer nos coords paths a b s ≡ callAnswer nos coords paths a c s
+  pub answer-first : (s : St) → callAnswer nos coords paths a b s ≡ callAnswer nos coords paths a c s
   unfolding callAnswer
   answer-first s =
       rw (le-leb a b h, le-leb b (length coords / lineFloats) (omega arith), le-leb a c (omega arith), le-leb c (length coords / lineFloats) there)
@@ -148,36 +148,36 @@ many-batches nos coords paths a e (f ∷ es) h k made bs cs rs =
 
 -- ---- tiling
 
-on-range : (r : Range) (segs : List Float) (k f : List Float → Tiled) → (k (applied (r .writes) segs) ≡ f (applied (r .writes) segs))
-    → onTiled (rangeTiled r segs .paper) (rangeTiled r segs) k ≡ onTiled (rangeTiled r segs .paper) (rangeTiled r segs) f
-on-range r segs k f e = go (r .answer)
+on-range : (r : Range) (p : Pieces) (k f : Pieces → Tiled) → (k (applied (r .writes) p) ≡ f (applied (r .writes) p))
+    → onTiled (rangeTiled r p .paper) (rangeTiled r p) k ≡ onTiled (rangeTiled r p .paper) (rangeTiled r p) f
+on-range r p k f e = go (r .answer)
   where
-    go : (v : Answer) → onTiled (Kinds.paperOf v) (tiled v (applied (r .writes) segs)) k ≡ onTiled (Kinds.paperOf v) (tiled v (applied (r .writes) segs)) f
+    go : (v : Answer) → onTiled (Kinds.paperOf v) (tiled v (applied (r .writes) p)) k ≡ onTiled (Kinds.paperOf v) (tiled v (applied (r .writes) p)) f
     go Answer.Done = e
     go (Answer.Refused n item) = refl
 
-then-on : (r next : Range) (segs : List Float)
-    → onTiled (rangeTiled r segs .paper) (rangeTiled r segs) (λ segs′. rangeTiled next segs′) ≡ rangeTiled (thenRange r next) segs
-then-on r next segs = go (r .answer) refl
+then-on : (r next : Range) (p : Pieces)
+    → onTiled (rangeTiled r p .paper) (rangeTiled r p) (λ p′. rangeTiled next p′) ≡ rangeTiled (thenRange r next) p
+then-on r next p = go (r .answer) refl
   where
     go : (v : Answer) → r .answer ≡ v
-        → onTiled (Kinds.paperOf v) (tiled v (applied (r .writes) segs)) (λ segs′. rangeTiled next segs′) ≡ rangeTiled (thenOn v (r .writes) next) segs
-    go Answer.Done e = ap (λ (l : List Float). tiled (next .answer) l) (sym (actAll-append (λ w. putOf (w .slot) (w .segment)) (r .writes) (next .writes) segs))
+        → onTiled (Kinds.paperOf v) (tiled v (applied (r .writes) p)) (λ p′. rangeTiled next p′) ≡ rangeTiled (thenOn v (r .writes) next) p
+    go Answer.Done e = ap (λ (l : Pieces). tiled (next .answer) l) (sym (actAll-append (λ w. placed (w .slot) (w .segment) (w .tag)) (r .writes) (next .writes) p))
     go (Answer.Refused n item) e = refl
 
 -- Ranges: references tiled in ranges, cut anywhere, leave the segments and the answer of one call up to the last end
-pub many-ranges : (L : Lent) (a e : ℕ) (es : List ℕ) → Rising a (e ∷ es) → lastOf e es ≤ length (L .refs) / refWords → (segs : List Float)
-    → inRanges a (e ∷ es) L segs ≡ tiledOf a (lastOf e es) L segs
-many-ranges L a e [] h k segs = go (callOf a e L segs .answer)
+pub many-ranges : (L : Lent) (a e : ℕ) (es : List ℕ) → Rising a (e ∷ es) → lastOf e es ≤ length (L .refs) / refWords → (p : Pieces)
+    → inRanges a (e ∷ es) L p ≡ tiledOf a (lastOf e es) L p
+many-ranges L a e [] h k p = go (callOf a e L p .answer)
   where
-    go : (v : Answer) → onTiled (Kinds.paperOf v) (tiled v (applied (callOf a e L segs .writes) segs)) (λ segs′. tiled Answer.Done segs′)
-        ≡ tiled v (applied (callOf a e L segs .writes) segs)
+    go : (v : Answer) → onTiled (Kinds.paperOf v) (tiled v (applied (callOf a e L p .writes) p)) (λ p′. tiled Answer.Done p′)
+        ≡ tiled v (applied (callOf a e L p .writes) p)
     go Answer.Done = refl
     go (Answer.Refused n item) = refl
-many-ranges L a e (f ∷ es) h k segs =
-    let r = callOf a e L segs in
+many-ranges L a e (f ∷ es) h k p =
+    let r = callOf a e L p in
     let c = lastOf f es in
-    on-range r segs (λ segs′. inRanges e (f ∷ es) L segs′) (λ segs′. rangeTiled (callOf e c L (applied (r .writes) segs)) segs′)
-    (many-ranges L e f es (h .1) k (applied (r .writes) segs))
-    ∙ then-on r (callOf e c L (applied (r .writes) segs)) segs
-    ∙ ap (λ (x : Range). rangeTiled x segs) (sym (calls-join a e c L segs (h .0) (rising-last e (f ∷ es) (h .1)) k))
+    on-range r p (λ p′. inRanges e (f ∷ es) L p′) (λ p′. rangeTiled (callOf e c L (applied (r .writes) p)) p′)
+    (many-ranges L e f es (h .1) k (applied (r .writes) p))
+    ∙ then-on r (callOf e c L (applied (r .writes) p)) p
+    ∙ ap (λ (x : Range). rangeTiled x p) (sym (calls-join a e c L p (h .0) (rising-last e (f ∷ es) (h .1)) k))

@@ -13,7 +13,7 @@ use lib.IntN.{ℤ, pos, negsuc, _+ℤ_}
 use lib.Signed.{mag}
 use lib.Ieee.{Float}
 use borrow.Author.Tests.{le-leb}
-use Rattle.lists.specs.Run.{Step, taken, halted, done, run, run-cons-done, actAll}
+use Rattle.lists.specs.Run.{taken, done, run, run-cons-done, actAll}
 use Rattle.lists.specs.Sums.{from}
 use Rattle.lists.specs.Occ.{is, is-same, is-other}
 use Rattle.panel.specs.Limits.{mostLines, mostSteps, edgeMost}
@@ -35,10 +35,10 @@ use Rattle.walk.specs.declared.kinds.Walked.{Walked}
 use Rattle.walk.specs.declared.kinds.Walked.the-variants.{Refused, Skipped, Line}
 use Rattle.clip.specs.Page.{clippedOf}
 use Rattle.acts.specs.Acts.{St, stOf, Act, mark, visit, stop, deltaOf}
-use Rattle.acts.specs.Line.{planActs, tooFar, atLine, batchOf}
+use Rattle.acts.specs.Line.{planActs, atLine, batchOf}
 use Rattle.acts.proofs.Once as Once
 use Rattle.acts.proofs.Once.{Free, Once}
-use Rattle.acts.proofs.Plans.{plan-marks}
+use Rattle.acts.proofs.Plans.{plan-marks, plan-visits}
 use Rattle.path_count.specs.Count.{planOf, planBy, lineStep, batch, Lent}
 use Rattle.path_count.proofs.StepLaws.{apart}
 use Rattle.path_count.proofs.Lines.{not-far, starts, walkable, on-tiles, left}
@@ -46,6 +46,7 @@ use Rattle.theorems.specs.Drawn.{drawnAt, drawn, actsBy, deltaBy, marksI
 use Rattle.theorems.specs.Refs.{AllCounted}
 use Rattle.theorems.proofs.Acts.{walk-is}
 use Rattle.theorems.proofs.Own.{took, NearWalk}
+use Rattle.theorems.proofs.Counting.{at-taken}
 use Rattle.theorems.proofs.Isolation.{addIf, marksAt, back-seen, zero-at}
 use Rattle.theorems.proofs.BatchLaws.{same-lengths}
 use Rattle.theorems.proofs.SumLaws.{passed, went, counted-all, startOf}
@@ -71,7 +72,7 @@ one-mark t δ (mark u ∷ xs) o w = go (native.Mathlib.Decide.ℕ-discrete u t) 
 one-mark t δ (visit u i ∷ xs) o w = one-mark t δ xs o w
 one-mark t δ (stop n ∷ xs) o w = one-mark t δ xs o w
 
-delta-one : (b : Bool) → mag (deltaOf b) ≤ 1
+pub delta-one : (b : Bool) → mag (deltaOf b) ≤ 1
 delta-one true = omega arith
 delta-one false = omega arith
 
@@ -85,15 +86,19 @@ mag-of t b xs o w = go (one-mark t (deltaOf b) xs o w)
 -- ---- lines that are taken
 
 module _ (nos : List ℕ) (coords : List Float) (paths : List ℕ) (n : ℕ) (ok : pathsAnswer paths n ≡ Done) where
-  plan-once : (l : ℕ) (w : Walk) (b : Path) → walkAt nos coords paths l ≡ Line w b → tooFar (planOf w b) ≡ false → Once (Once.marksOf (planActs (planOf w b)))
+  -- a line whose step numbers are within the limit marks no tile twice, and visits none twice
+  pub plan-once : (l : ℕ) (w : Walk) (b : Path) → walkAt nos coords paths l ≡ Line w b → (planOf w b .imin < planOf w b .imax → planOf w b .imax ≤ mostSteps)
+      → Once (Once.marksOf (planActs (planOf w b))) × Once (Once.visitsOf (planActs (planOf w b)))
   unfolding planOf
   plan-once l w b e f =
       let lent : Lent paths n n = record { paired = refl; passed = ok } in
       let g = walkable nos coords paths l w b e n n lent in
       let o = on-tiles nos coords paths l w b e n n lent in
-      plan-marks (planBy (not (w .e .«is_down»)) (w .pace) b (clippedOf w b)) stepRange (apart (w .pace) b (starts w b g) (o .boxed))
-      (λ p. le-trans (not-far (clippedOf w b .imin) (clippedOf w b .imax) f p) (packs .steps))
-      (omega (arith, g .wide)) (left w b (clippedOf w b) refl .top)
+      let p = planBy (not (w .e .«is_down»)) (w .pace) b (clippedOf w b) in
+      let a = apart (w .pace) b (starts w b g) (o .boxed) in
+      let few : clippedOf w b .imin < clippedOf w b .imax → clippedOf w b .imax ≤ stepRange = λ q. le-trans (f q) (packs .steps) in
+      let wide : 0 < widthOf b = omega (arith, g .wide) in
+      (plan-marks p stepRange a few wide (left w b (clippedOf w b) refl .top), plan-visits p stepRange a few wide)
 
   line-mag : (room l t : ℕ) (s u : St) → lineStep nos coords paths room l l s ≡ taken u → (w : ℤ) → mag (marksAt t (marksOf paths (drawnAt nos coords l)) w) ≤ mag w + 2
   line-mag room l t s u e w =
@@ -103,11 +108,7 @@ module _ (nos : List ℕ) (coords : List Float) (paths : List ℕ) (n : ℕ) (ok
       go : (x : Walked) → walkAt nos coords paths l ≡ x → NearWalk x → mag (marksAt t (marksIn (deltaBy x) (actsBy x)) w) ≤ mag w + 2
       go (Refused m) q f = omega arith
       go Skipped q f = omega arith
-      go (Line v b) q f = mag-of t (planOf v b .up) (planActs (planOf v b)) (plan-once l v b q f) w
-
-  at-taken : (l : ℕ) (o : Step St ℕ) (u : St) → atLine l o ≡ taken u → o ≡ taken u
-  at-taken l (taken s) u e = let q : s ≡ u = cc in ap taken q
-  at-taken l (halted m) u e = let z : _≡_ {A = ℕ} 0 1 = cc in absurd (omega arith)
+      go (Line v b) q f = mag-of t (planOf v b .up) (planActs (planOf v b)) (plan-once l v b q (not-far (planOf v b .imin) (planOf v b .imax) f) .0) w
 
   lines-mag : (room t : ℕ) (ls : List ℕ) (s u : St) → run (λ l v. atLine l (lineStep nos coords paths room l l v)) ls s ≡ done u → (w : ℤ)
       → mag (actAll (λ d. marksAt t (marksOf paths d)) (map (drawnAt nos coords) ls) w) ≤ mag w + 2 * length ls
@@ -175,7 +176,7 @@ module _ (ws : List ℕ) (n : ℕ) (c : Checked ws n) where
 -- after counting from zeroed tiles, no backdrop is far from 0
 module _ (b : ℕ) (nos : List ℕ) (coords : List Float) (paths : List ℕ) (n : ℕ) (refs : List ℕ) (bs : List ℤ) (cs rs : List ℕ) (m : ℕ)
     (all : AllCounted b nos coords paths n refs bs cs rs m) where
-  back-mag : (t : ℕ) → t < n → mag (backdropAt bs t) ≤ 2 ^ 17
+  pub back-mag : (t : ℕ) → t < n → mag (backdropAt bs t) ≤ 2 ^ 17
   back-mag t h =
       let ok = passed b nos coords paths n refs bs cs rs m all in
       let r = counted-all b nos coords paths n refs bs cs rs m all in
@@ -186,7 +187,7 @@ module _ (b : ℕ) (nos : List ℕ) (coords : List Float) (paths : List ℕ) (n 
       let q = batch-mag nos coords paths n ok (length refs / refWords) b t (startOf n refs) (stOf bs cs rs m) (went b nos coords paths n refs bs cs rs m all .ran) in
       rw e (omega (arith, q, small .lines))
 
-  backs-long : length bs ≡ n
+  pub backs-long : length bs ≡ n
   backs-long =
       same-lengths nos coords paths n (passed b nos coords paths n refs bs cs rs m all) (length refs / refWords) 0 b (startOf n refs) (stOf bs cs rs m)
       (went b nos coords paths n refs bs cs rs m all .ran) .backs

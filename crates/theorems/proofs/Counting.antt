@@ -80,6 +80,11 @@ moved-append xs ys s t u p q =
 
 -- ---- a line
 
+-- a line that a batch takes is taken
+pub at-taken : (l : ℕ) (o : Step St ℕ) (u : St) → atLine l o ≡ taken u → o ≡ taken u
+at-taken l (taken s) u e = let q : s ≡ u = cc in ap taken q
+at-taken l (halted n) u e = let z : _≡_ {A = ℕ} 0 1 = cc in absurd (omega arith)
+
 module _ (nos : List ℕ) (coords : List Float) (paths : List ℕ) (tiles : ℕ) (passed : pathsAnswer paths tiles ≡ Done) where
   own-events : (l : ℕ) (w : Walk) (b : Path) → walkAt nos coords paths l ≡ Line w b → l < mostLines → (xs : List Act) → All (ActOwn w b) xs
       → All (EventOwn nos coords paths) (eventsIn l xs)
@@ -163,10 +168,6 @@ module _ (nos : List ℕ) (coords : List Float) (paths : List ℕ) (tiles : ℕ)
     pub backs : u .backs ≡ actAll (λ d. Order.mark (marksOf paths d)) (map (drawnAt nos coords) ls) (s .backs)
     pub lines : All (OwnLine paths) (map (drawnAt nos coords) ls)
     pub fits : s .made ≤ min room mostSlots → u .made ≤ min room mostSlots
-
-  at-taken : (l : ℕ) (o : Step St ℕ) (u : St) → atLine l o ≡ taken u → o ≡ taken u
-  at-taken l (taken s) u e = let q : s ≡ u = cc in ap taken q
-  at-taken l (halted n) u e = let z : _≡_ {A = ℕ} 0 1 = cc in absurd (omega arith)
 
   lines-counted : (room : ℕ) (ls : List ℕ) (s u : St) → run (λ l t. atLine l (lineStep nos coords paths room l l t)) ls s ≡ done u → Counted room ls s u
   lines-counted room [] s u e =

@@ -149,7 +149,7 @@ run-why δ l xs s u n e =
     let w = run-refused (act δ l) xs s u n e in
     (w .culprit, record { before = w .before; after = w .after; split = w .split; ran = w .ran }, act-why δ l (w .culprit) u n (w .halts))
 
-run-halts : (δ : ℤ) (l : ℕ) (xs : List Act) (s u : St) (n : ℕ) (a : Act) → StopsAt δ l xs s u a → ActWhy δ u a n → runActs δ l xs s ≡ refused u n
+pub run-halts : (δ : ℤ) (l : ℕ) (xs : List Act) (s u : St) (n : ℕ) (a : Act) → StopsAt δ l xs s u a → ActWhy δ u a n → runActs δ l xs s ≡ refused u n
 unfolding runActs
 run-halts δ l xs s u n a w k =
     run-stopped (act δ l) xs s u n

@@ -10,6 +10,7 @@ use lib.Dec.{leb, eqb}
 use lib.ListN.{length}
 use lib.IntN.{ℤ}
 use lib.Ieee.{Float}
+use Rattle.panel.specs.Pieces.{Pieces}
 use borrow.Author.Tests.{le-leb, lt-leb, leb-true, leb-false, eq-eqb, ne-eqb}
 use Rattle.panel.specs.Limits.{mostPaths, mostTiles, edgeMost}
 use Rattle.panel.specs.Refusals.{notWhole, tooMany, badBox, badRange}
@@ -211,22 +212,22 @@ call-exact nos coords paths a b s n item = (why (firstNo row) refl, halts)
 
 -- ---- what tiling checks before its first reference: 1 of the lengths lent and of the range, then the paths
 
-pub tiling-exact : (from to : ℕ) (L : Lent) (segs : List Float) (n item : ℕ)
-    → (checksOf from to L segs ≡ Refused n item)
-    ↔ (((Whole from to L segs ≡ false) × (n ≡ notWhole) × (item ≡ 0)) ⊎ ((Whole from to L segs ≡ true) × PathsWhy (L .paths) (length (L .stored)) n item))
+pub tiling-exact : (from to : ℕ) (L : Lent) (p : Pieces) (n item : ℕ)
+    → (checksOf from to L p ≡ Refused n item)
+    ↔ (((Whole from to L p ≡ false) × (n ≡ notWhole) × (item ≡ 0)) ⊎ ((Whole from to L p ≡ true) × PathsWhy (L .paths) (length (L .stored)) n item))
 unfolding checksOf
-tiling-exact from to L segs n item = (why (Whole from to L segs) refl, halts)
+tiling-exact from to L p n item = (why (Whole from to L p) refl, halts)
   where
-    why : (b : Bool) → Whole from to L segs ≡ b → cond b (pathsAnswer (L .paths) (length (L .stored))) (Refused notWhole 0) ≡ Refused n item
-        → ((Whole from to L segs ≡ false) × (n ≡ notWhole) × (item ≡ 0)) ⊎ ((Whole from to L segs ≡ true) × PathsWhy (L .paths) (length (L .stored)) n item)
+    why : (b : Bool) → Whole from to L p ≡ b → cond b (pathsAnswer (L .paths) (length (L .stored))) (Refused notWhole 0) ≡ Refused n item
+        → ((Whole from to L p ≡ false) × (n ≡ notWhole) × (item ≡ 0)) ⊎ ((Whole from to L p ≡ true) × PathsWhy (L .paths) (length (L .stored)) n item)
     why true q e = inr (q, paths-exact (L .paths) (length (L .stored)) n item .0 e)
     why false q e =
         let w : notWhole ≡ n = cc in
         let z : 0 ≡ item = cc in
         inl (q, sym w, sym z)
 
-    halts : ((Whole from to L segs ≡ false) × (n ≡ notWhole) × (item ≡ 0)) ⊎ ((Whole from to L segs ≡ true) × PathsWhy (L .paths) (length (L .stored)) n item)
-        → cond (Whole from to L segs) (pathsAnswer (L .paths) (length (L .stored))) (Refused notWhole 0) ≡ Refused n item
+    halts : ((Whole from to L p ≡ false) × (n ≡ notWhole) × (item ≡ 0)) ⊎ ((Whole from to L p ≡ true) × PathsWhy (L .paths) (length (L .stored)) n item)
+        → cond (Whole from to L p) (pathsAnswer (L .paths) (length (L .stored))) (Refused notWhole 0) ≡ Refused n item
     halts (inl h) = rw (h .0, h .1, h .2)
     halts (inr h) = rw (h .0) (paths-exact (L .paths) (length (L .stored)) n item .1 (h .1))
 

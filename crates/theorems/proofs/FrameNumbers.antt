@@ -7,6 +7,7 @@ use native.Mathlib.Omega.{arith}
 use lib.ListN.{length, getD}
 use lib.IntN.{ℤ}
 use lib.Ieee.{Float}
+use Rattle.panel.specs.Pieces.{Pieces}
 use Rattle.lists.specs.Run.{All, all-append}
 use Rattle.lists.specs.Sums.{from, first-within}
 use Rattle.panel.specs.Refusals.{crooked}
@@ -165,26 +166,26 @@ crooked-alone b nos coords paths n refs bs cs rs m all slots room k q why h =
 
 -- ---- a frame
 
-module _ (nos : List ℕ) (coords : List Float) (paths : List ℕ) (backs : List ℤ) (stored tally refs : List ℕ) (segs : List Float)
-    (bs : List ℤ) (ts ks rs : List ℕ) (sg : List Float) (s : Running) where
+module _ (nos : List ℕ) (coords : List Float) (paths : List ℕ) (backs : List ℤ) (stored tally refs : List ℕ) (p : Pieces)
+    (bs : List ℤ) (ts ks rs : List ℕ) (sg : Pieces) (s : Running) where
   -- A frame is refused in tiling: with 12, at the first reference whose segment has an end outside its tile
-  pub frame-crooked : (why k : ℕ) → frameOf nos coords paths backs stored tally refs segs ≡ outOf (Refused Stage.Tile why k s) bs ts ks rs sg
-      → (why ≡ crooked) × RangeWhy (lent nos coords paths ts rs) (slotsOf (length segs)) (s .refs) 0 why k
+  pub frame-crooked : (why k : ℕ) → frameOf nos coords paths backs stored tally refs p ≡ outOf (Refused Stage.Tile why k s) bs ts ks rs sg
+      → (why ≡ crooked) × RangeWhy (lent nos coords paths ts rs) (slotsOf (length (p .segments))) (s .refs) 0 why k
   frame-crooked why k e =
-      let f = frame-refused nos coords paths backs stored tally refs segs bs ts ks rs sg s why k e in
+      let f = frame-refused nos coords paths backs stored tally refs p bs ts ks rs sg s why k e in
       let c = f .counts in
-      let r = frame-why nos coords paths backs stored tally refs segs bs ts ks rs sg s why k e in
-      let h : LookWhy (lent nos coords paths (hand 0 ks) rs) (slotsOf (length segs)) k why = rw (f .handed) at
-      (look-exact (lent nos coords paths ts rs) (slotsOf (length segs)) k why .0 (r .halts)) in
-      (crooked-alone (length nos) nos coords paths (length stored) refs (c .marks) ks rs (s .refs) (c .all) (slotsOf (length segs)) (f .room) k (omega (arith, r .high)) why h, r)
+      let r = frame-why nos coords paths backs stored tally refs p bs ts ks rs sg s why k e in
+      let h : LookWhy (lent nos coords paths (hand 0 ks) rs) (slotsOf (length (p .segments))) k why = rw (f .handed) at
+      (look-exact (lent nos coords paths ts rs) (slotsOf (length (p .segments))) k why .0 (r .halts)) in
+      (crooked-alone (length nos) nos coords paths (length stored) refs (c .marks) ks rs (s .refs) (c .all) (slotsOf (length (p .segments))) (f .room) k (omega (arith, r .high)) why h, r)
 
   -- 1 to 4 come from the checks of what is lent alone
-  pub late-numbers : (at : Stage) (why item : ℕ) → frameOf nos coords paths backs stored tally refs segs ≡ outOf (Refused at why item s) bs ts ks rs sg → (at ≡ Stage.Lent) ⊎ (4 < why)
+  pub late-numbers : (at : Stage) (why item : ℕ) → frameOf nos coords paths backs stored tally refs p ≡ outOf (Refused at why item s) bs ts ks rs sg → (at ≡ Stage.Lent) ⊎ (4 < why)
   late-numbers Stage.Lent why item e = inl refl
   late-numbers Stage.Count why item e =
-      let b = frame-line nos coords paths backs stored tally refs segs bs ts ks rs sg s why item e .1 in
+      let b = frame-line nos coords paths backs stored tally refs p bs ts ks rs sg s why item e .1 in
       let w = line-exact nos coords paths (length refs / refWords) (s .lines) (stOf bs ts rs (s .refs)) why .0 (b .halts) in
       inr (line-number nos coords paths (length refs / refWords) (s .lines) (stOf bs ts rs (s .refs)) why w .0)
-  late-numbers Stage.Backdrop why item e = absurd (frame-no-sums nos coords paths backs stored tally refs segs bs ts ks rs sg s why item e)
-  late-numbers Stage.HandOut why item e = let w = frame-slots nos coords paths backs stored tally refs segs bs ts ks rs sg s why item e .0 in inr (omega arith)
+  late-numbers Stage.Backdrop why item e = absurd (frame-no-sums nos coords paths backs stored tally refs p bs ts ks rs sg s why item e)
+  late-numbers Stage.HandOut why item e = let w = frame-slots nos coords paths backs stored tally refs p bs ts ks rs sg s why item e .0 in inr (omega arith)
   late-numbers Stage.Tile why item e = let w = frame-crooked why item e .0 in inr (omega arith)

@@ -14,12 +14,12 @@
 --     Exact, ExactRuns, ExactLooks, ExactPaths, ExactStops, ExactCommands   refusals are exact
 --     Together              these put together
 --     Framing               the call for a frame: its ways, what it leaves, isolation between frames, one answer
+--     Tags                  every slot carries its own path's beam number
 --     FrameNumbers          which numbers each part of a frame refuses with
 --     FrameTraces           frames of one line, computed
 --     Refuted               statements near the theorems' that are false, refuted by instances
 --     StepLaws              step numbers stay exact in a float
 --     Margins               a line in a box with a margin isn't refused with 10
---     EvenOdd               even-odd coverage of the segments that a fill takes
 pub mod Acts
 pub mod Own
 pub mod Counting
@@ -42,9 +42,9 @@ pub mod ExactStops
 pub mod ExactCommands
 pub mod Together
 pub mod Framing
+pub mod Tags
 pub mod FrameNumbers
 pub mod FrameTraces
 pub mod Refuted
 pub mod StepLaws
-pub mod EvenOdd
 pub mod Margins

@@ -1,4 +1,5 @@
 -- A line in a box with a margin is never refused with 10, when counting. Assumes nothing.
+--     walked-few      its last step number is its count at most
 --     margin-line     one line, whatever was counted before it
 --     margin-batch    so no batch of such lines stops with 10
 use mathlib.Core.Path.{_≡_, refl, sym, subst}
@@ -81,19 +82,27 @@ module _ (nos : List ℕ) (coords : List Float) (paths : List ℕ) (l : ℕ) (k 
   tile-clash : (w : Walk) (b : Path) (i : ℕ) → stepOf (w .pace) b i ≡ On.Refused → (t : TileNo) (x y : ℕ) (z : Float) → stepOf (w .pace) b i ≡ On.Tile t x y z → ⊥
   tile-clash w b i p t x y z q = let c : _≡_ {A = ℕ} 0 1 = cc in omega arith
 
+  -- it isn't clipped: its last step number is its count at most
+  pub walked-few : (w : Walk) (b : Path) → walkAt nos coords paths l ≡ Line w b → planOf w b .imax ≤ w .k .count
+  walked-few w b e =
+      let t = line-told nos coords paths l w b e in
+      let ew : own ≡ w = sym (t .walk-is) in
+      let eb : box ≡ b = sym (t .path-is) in
+      let c : clippedOf w b .imax ≤ w .k .count =
+      subst (λ (v : Walk). clippedOf v b .imax ≤ v .k .count) ew
+      (subst (λ (x : Path). clippedOf own x .imax ≤ own .k .count) eb (clip-few (lineAt coords l .p0) (lineAt coords l .p1) box k (t .reached) (m .0) (m .1))) in
+      omega (arith, plan-is w b)
+
   walked-tile : (w : Walk) (b : Path) → walkAt nos coords paths l ≡ Line w b → (i : ℕ) → i < planOf w b .imax → stepOf (w .pace) b i ≡ On.Refused → ⊥
   walked-tile w b e i h r =
       let t = line-told nos coords paths l w b e in
       let f = not-flat nos coords paths l w b e in
       let ew : own ≡ w = sym (t .walk-is) in
       let eb : box ≡ b = sym (t .path-is) in
-      let c : clippedOf w b .imax ≤ w .k .count =
-      subst (λ (v : Walk). clippedOf v b .imax ≤ v .k .count) ew
-      (subst (λ (x : Path). clippedOf own x .imax ≤ own .k .count) eb (clip-few (lineAt coords l .p0) (lineAt coords l .p1) box k (t .reached) (m .0) (m .1))) in
       let g : i < w .k .count → HasTile (w .pace) b i =
       subst (λ (v : Walk). i < v .k .count → HasTile (v .pace) b i) ew
       (subst (λ (x : Path). i < own .k .count → HasTile (own .pace) x i) eb (margin-tile (lineAt coords l .p0) (lineAt coords l .p1) box k (t .reached) (m .0) (m .1) f i)) in
-      let q = g (omega (arith, plan-is w b)) in
+      let q = g (omega (arith, walked-few w b e)) in
       tile-clash w b i r (q .t) (q .x) (q .y) (q .z) (q .is)
 
   -- line l, counted after whatever was counted before, isn't refused with 10

@@ -9,6 +9,7 @@ use native.Mathlib.Omega.{arith}
 use lib.ListN.{replicate}
 use lib.IntN.{ℤ, pos, negsuc}
 use lib.Ieee.{Float}
+use Rattle.panel.specs.Pieces.{Pieces}
 use Rattle.lists.specs.Sums.{sum}
 use Rattle.lists.specs.Tally.{zeros}
 use Rattle.panel.specs.Paths.{boxed}
@@ -50,11 +51,11 @@ pub one-hand : (room : ℕ) (ns kept : List ℕ) (a b : Answer) (ns₁ ns₂ kep
     → (a ≡ b) × (ns₁ ≡ ns₂) × (kept₁ ≡ kept₂)
 one-hand room ns kept a b ns₁ ns₂ kept₁ kept₂ p q = HandOut.out-once a b ns₁ ns₂ kept₁ kept₂ (p ∙ sym q)
 
-pub one-tile : (from to : ℕ) (L : Lent) (segs : List Float) (a b : Answer) (segs₁ segs₂ : List Float) → TileMet from to L segs a segs₁ → TileMet from to L segs b segs₂
-    → (a ≡ b) × (segs₁ ≡ segs₂)
-one-tile from to L segs a b segs₁ segs₂ p q =
+pub one-tile : (from to : ℕ) (L : Lent) (lent : Pieces) (a b : Answer) (p₁ p₂ : Pieces) → TileMet from to L lent a p₁ → TileMet from to L lent b p₂
+    → (a ≡ b) × (p₁ ≡ p₂)
+one-tile from to L lent a b p₁ p₂ p q =
     let e = p ∙ sym q in
-    (paper-once a b (ap (λ (t : Tiled). t .paper) e), ap (λ (t : Tiled). t .segments) e)
+    (paper-once a b (ap (λ (t : Tiled). t .paper) e), ap (λ (t : Tiled). t .pieces) e)
 
 pub one-fill : (segs : List Float) (first n : ℕ) (evenOdd : Bool) (backdrop : ℤ) (x y : Float) (area : List Float) (a b : Answer) (area₁ area₂ : List Float)
     → FillMet segs first n evenOdd backdrop x y area a area₁ → FillMet segs first n evenOdd backdrop x y area b area₂ → (a ≡ b) × (area₁ ≡ area₂)

@@ -16,6 +16,7 @@ use Rattle.panel.specs.Paths.{boxed}
 use Rattle.panel.specs.Limits.{coordMost}
 use Rattle.panel.specs.Refusals.{noRoom}
 use Rattle.panel.specs.Widths.{lineFloats}
+use Rattle.panel.specs.Pieces.{Pieces, pieces}
 use Rattle.panel.specs.Kinds.{runningOf}
 use Rattle.panel.specs.declared.kinds.Running.{Running}
 use Rattle.panel.specs.declared.kinds.Answer.the-variants as Answer
@@ -141,9 +142,9 @@ past-a-refused-line f =
 
 abbrev PathOfReference : Type 0
 PathOfReference =
-    (b : ℕ) (nos : List ℕ) (coords : List Float) (paths : List ℕ) (n : ℕ) (refs : List ℕ) (bs : List ℤ) (cs rs : List ℕ) (m room : ℕ) (kept ws tl : List ℕ) (segs : List Float)
+    (b : ℕ) (nos : List ℕ) (coords : List Float) (paths : List ℕ) (n : ℕ) (refs : List ℕ) (bs : List ℤ) (cs rs : List ℕ) (m room : ℕ) (kept ws tl : List ℕ) (p : Pieces)
     → AllCounted b nos coords paths n refs bs cs rs m → HandOut.handOutOf room cs kept ≡ HandOut.outOf Answer.Done ws tl
-    → All (λ w. w .path ≡ getD nos (w .ref) 0) (callOf 0 m (lent nos coords paths ws rs) segs .writes)
+    → All (λ w. w .path ≡ getD nos (w .ref) 0) (callOf 0 m (lent nos coords paths ws rs) p .writes)
 
 -- a point of path 1, then (8,8)-(8,24) of path 0
 two-paths : AllCounted 2 (1 ∷ 0 ∷ []) pointThenDown (boxed 0 0 2 2 0 ++ boxed 0 0 1 1 4) 5 none
@@ -159,15 +160,15 @@ pub path-of-the-line : PathOfReference → ⊥
 unfolding computing
 path-of-the-line f =
     let h = f 2 (1 ∷ 0 ∷ []) pointThenDown (boxed 0 0 2 2 0 ++ boxed 0 0 1 1 4) 5 none (pos 0 ∷ pos 0 ∷ pos 0 ∷ negsuc 0 ∷ pos 0 ∷ []) (1 ∷ 0 ∷ 1 ∷ 0 ∷ 0 ∷ [])
-    (1 ∷ 0 ∷ 1 ∷ 1 ∷ []) 2 2 (0 ∷ 0 ∷ 0 ∷ 0 ∷ 0 ∷ []) (4294967295 ∷ 0 ∷ 4294967294 ∷ 0 ∷ 0 ∷ []) (1 ∷ 0 ∷ 1 ∷ 0 ∷ 0 ∷ []) (replicate 10 (ofBits binary32 0)) two-paths two-handed in
+    (1 ∷ 0 ∷ 1 ∷ 1 ∷ []) 2 2 (0 ∷ 0 ∷ 0 ∷ 0 ∷ 0 ∷ []) (4294967295 ∷ 0 ∷ 4294967294 ∷ 0 ∷ 0 ∷ []) (1 ∷ 0 ∷ 1 ∷ 0 ∷ 0 ∷ []) (pieces (replicate 10 (ofBits binary32 0)) (0 ∷ 0 ∷ [])) two-paths two-handed in
     let z : _≡_ {A = ℕ} 0 1 = h .0 in omega arith
 
 -- ---- a frame that hand-out refuses has more references than segments, and not fewer
 
 abbrev RoomTheOtherWay : Type 0
 RoomTheOtherWay =
-    (nos : List ℕ) (coords : List Float) (paths : List ℕ) (backs : List ℤ) (stored tally refs : List ℕ) (segs : List Float) (s : Running) (bs : List ℤ) (ts ks rs : List ℕ) (sg : List Float)
-    → frameOf nos coords paths backs stored tally refs segs ≡ outOf (Refused Stage.HandOut noRoom 0 s) bs ts ks rs sg → s .refs < slotsOf (length segs)
+    (nos : List ℕ) (coords : List Float) (paths : List ℕ) (backs : List ℤ) (stored tally refs : List ℕ) (p : Pieces) (s : Running) (bs : List ℤ) (ts ks rs : List ℕ) (sg : Pieces)
+    → frameOf nos coords paths backs stored tally refs p ≡ outOf (Refused Stage.HandOut noRoom 0 s) bs ts ks rs sg → s .refs < slotsOf (length (p .segments))
 
 pub room-this-way : RoomTheOtherWay → ⊥
 room-this-way f = let h : 2 < 1 = f _ _ _ _ _ _ _ _ _ _ _ _ _ _ no-slot in omega arith

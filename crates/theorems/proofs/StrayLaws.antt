@@ -6,8 +6,8 @@ use mathlib.Core.List.{List, [], _∷_, map}
 use Prim.Native.Nat.{ℕ, zero, suc, _+_, _-_, _*_, _/_, _≤_, _<_}
 use native.Mathlib.Omega.{arith}
 use lib.Dec.{ltb}
-use lib.ListN.{length, getD, length-replicate}
-use lib.Seq.{length-sets}
+use lib.ListN.{length, getD, length-replicate, length-set}
+use lib.Seq.{length-sets, getD-set-same, getD-set-other}
 use lib.IntN.{ℤ}
 use lib.Ieee.{Float}
 use Rattle.lists.specs.Run.{All}
@@ -37,7 +37,8 @@ use Rattle.panel.specs.declared.segments.Segment.{Segment}
 use Rattle.segment.specs.declared.Piece.{Piece}
 use Rattle.segment.specs.declared.Piece.the-variants.{Kept, Crooked}
 use Rattle.path_tiling.specs.Look.{Lent, lent, lineAt, packedAt, stepNo, sliceNo, pieceTo, wordTo, stepTo, foundTo, foundOf, lookOf}
-use Rattle.panel.specs.Segments.{floatsOf, putOf, segmentAt}
+use Rattle.panel.specs.Segments.{floatsOf, segmentAt}
+use Rattle.panel.specs.Pieces.{Pieces, placed}
 use Rattle.panel.proofs.SegmentLaws.{reads-put, reads-other}
 use Rattle.path_tiling.specs.Tiling.{Write, Range, range, lookThen, rangeOf, slotsOf, applied, checksOf, checkedThen, callOf, Made}
 use Rattle.path_tiling.specs.declared.look.Look as L
@@ -47,7 +48,7 @@ use Rattle.path_tiling.proofs.CallLaws as CallLaws
 use Rattle.path_tiling.proofs.WriteLaws.{range-made, range-good}
 use Rattle.theorems.specs.Events.{Event, tilesEv, sliceOf, slotOf}
 use Rattle.theorems.specs.Refs.{stepTile, walkTile, AllCounted}
-use Rattle.theorems.specs.Stray.{writtenTo, writtenFrom, OwnWrite, NoStray}
+use Rattle.theorems.specs.Stray.{tagAt, writtenTo, writtenFrom, OwnWrite, NoStray}
 use Rattle.theorems.proofs.Slots.{slice-below, slots-once, slots-differ}
 use Rattle.theorems.proofs.SumLaws.{sums, passed, events, whole, Whole, tiles-below, ref-line, ref-step, ref-slice, ref-tile, owned, event-tile, eventAt}
 use Rattle.theorems.proofs.Counting.{length-tiles}
@@ -104,30 +105,50 @@ found-put xs slots packed first t (Found.Line w b) e o h g =
 -- ---- writes at slots that differ
 
 -- a slot that none of them goes to
-applied-other : (ws : List Write) (segs : List Float) (k : ℕ) → All (λ w. k ≢ w .slot) ws → segmentAt (applied ws segs) k ≡ segmentAt segs k
-applied-other [] segs k h = refl
-applied-other (w ∷ ws) segs k h =
-    applied-other ws (putOf (w .slot) (w .segment) segs) k (h .1) ∙ reads-other (w .slot) (w .segment) segs k (h .0)
+applied-other : (ws : List Write) (p : Pieces) (k : ℕ) → All (λ w. k ≢ w .slot) ws → segmentAt (applied ws p .segments) k ≡ segmentAt (p .segments) k
+applied-other [] p k h = refl
+applied-other (w ∷ ws) p k h =
+    applied-other ws (placed (w .slot) (w .segment) (w .tag) p) k (h .1) ∙ reads-other (w .slot) (w .segment) (p .segments) k (h .0)
+
+other-tag : (ws : List Write) (p : Pieces) (k : ℕ) → All (λ w. k ≢ w .slot) ws → tagAt (applied ws p) k ≡ tagAt p k
+other-tag [] p k h = refl
+other-tag (w ∷ ws) p k h =
+    other-tag ws (placed (w .slot) (w .segment) (w .tag) p) k (h .1) ∙ getD-set-other (p .tags) (w .slot) k (w .tag) 0 (h .0)
 
 none-later : (ws : List Write) (k : ℕ) → All (λ u. u ≢ k) (writtenTo ws) → All (λ w. k ≢ w .slot) ws
 none-later [] k h = tt
 none-later (w ∷ ws) k h = ((λ e. h .0 (sym e)), none-later ws k (h .1))
 
 -- the slots written hold what was written there
-applied-kept : (ws : List Write) (segs : List Float) → Distinct (writtenTo ws) → All (λ w. w .slot < length segs / segmentFloats) ws
-    → All (λ w. segmentAt (applied ws segs) (w .slot) ≡ w .segment) ws
-applied-kept [] segs d h = tt
-applied-kept (w ∷ ws) segs d h = (
-  applied-other ws segs′ (w .slot) (none-later ws (w .slot) (d .0)) ∙ reads-put (w .slot) (w .segment) segs (omega (arith, h .0)),
-  applied-kept ws segs′ (d .1) (grown ws (h .1)),
+applied-kept : (ws : List Write) (p : Pieces) → Distinct (writtenTo ws) → All (λ w. w .slot < length (p .segments) / segmentFloats) ws
+    → All (λ w. segmentAt (applied ws p .segments) (w .slot) ≡ w .segment) ws
+applied-kept [] p d h = tt
+applied-kept (w ∷ ws) p d h = (
+  applied-other ws p′ (w .slot) (none-later ws (w .slot) (d .0)) ∙ reads-put (w .slot) (w .segment) (p .segments) (omega (arith, h .0)),
+  applied-kept ws p′ (d .1) (grown ws (h .1)),
 )
   where
-    segs′ : List Float
-    segs′ = putOf (w .slot) (w .segment) segs
+    p′ : Pieces
+    p′ = placed (w .slot) (w .segment) (w .tag) p
 
-    grown : (us : List Write) → All (λ u. u .slot < length segs / segmentFloats) us → All (λ u. u .slot < length segs′ / segmentFloats) us
+    grown : (us : List Write) → All (λ u. u .slot < length (p .segments) / segmentFloats) us → All (λ u. u .slot < length (p′ .segments) / segmentFloats) us
     grown [] k = tt
-    grown (u ∷ us) k = (omega (arith, k .0, length-sets segs (w .slot * segmentFloats) (floatsOf (w .segment))), grown us (k .1))
+    grown (u ∷ us) k = (omega (arith, k .0, length-sets (p .segments) (w .slot * segmentFloats) (floatsOf (w .segment))), grown us (k .1))
+
+kept-tags : (ws : List Write) (p : Pieces) → Distinct (writtenTo ws) → All (λ w. w .slot < length (p .tags)) ws
+    → All (λ w. tagAt (applied ws p) (w .slot) ≡ w .tag) ws
+kept-tags [] p d h = tt
+kept-tags (w ∷ ws) p d h = (
+  other-tag ws p′ (w .slot) (none-later ws (w .slot) (d .0)) ∙ getD-set-same (p .tags) (w .slot) (w .tag) 0 (h .0),
+  kept-tags ws p′ (d .1) (grown ws (h .1)),
+)
+  where
+    p′ : Pieces
+    p′ = placed (w .slot) (w .segment) (w .tag) p
+
+    grown : (us : List Write) → All (λ u. u .slot < length (p .tags)) us → All (λ u. u .slot < length (p′ .tags)) us
+    grown [] k = tt
+    grown (u ∷ us) k = (omega (arith, k .0, length-set (p .tags) (w .slot) (w .tag)), grown us (k .1))
 
 -- ---- hand-out that was done
 
@@ -240,6 +261,7 @@ module _ (b : ℕ) (nos : List ℕ) (coords : List Float) (paths : List ℕ) (n 
         counted = p;
         line = d .line;
         path = d .path;
+        tag = d .tag;
         path-there = rw path (o .path-in);
         tile-low = rw tile (held .0);
         tile-high = rw tile (held .1);
@@ -253,9 +275,10 @@ module _ (b : ℕ) (nos : List ℕ) (coords : List Float) (paths : List ℕ) (n 
   all-both slots j k q [] d g = tt
   all-both slots j k q (w ∷ us) d g = (own-write slots j k q w (d .0) (g .0), all-both slots j k q us (d .1) (g .1))
 
-  range-stray : (segs : List Float) → NoStray nos coords paths cs rs m segs (rangeOf lentNow (slotsOf (length segs)) (m - 0) 0)
-  range-stray segs =
-      let slots = slotsOf (length segs) in
+  range-stray : (pieces : Pieces) → length (pieces .tags) ≡ length (pieces .segments) / segmentFloats
+      → NoStray nos coords paths cs rs m pieces (rangeOf lentNow (slotsOf (length (pieces .segments))) (m - 0) 0)
+  range-stray pieces tags =
+      let slots = slotsOf (length (pieces .segments)) in
       let r = rangeOf lentNow slots (m - 0) 0 in
       let t = range-tiled slots (m - 0) 0 (omega arith) in
       let g = range-good lentNow slots (m - 0) 0 in
@@ -269,16 +292,23 @@ module _ (b : ℕ) (nos : List ℕ) (coords : List Float) (paths : List ℕ) (n 
         once = λ e k q.
             let f : length (r .writes) ≡ length (tilesEv es) = omega (arith, t .whole e, long) in
             rw (t .to, f) (slots-once n (tilesEv es) box k (omega (arith, long)));
-        kept = applied-kept (r .writes) segs d (within (r .writes) g);
-        others = λ k f. applied-other (r .writes) segs k f;
+        kept = applied-kept (r .writes) pieces d (within (r .writes) g);
+        tagged = kept-tags (r .writes) pieces d (tags-within (r .writes) g);
+        others = λ k f. applied-other (r .writes) pieces k f;
+        other-tags = λ k f. other-tag (r .writes) pieces k f;
       }
     where
-      within : (us : List Write) → All (λ w. Good (slotsOf (length segs)) (w .slot) (w .segment)) us → All (λ w. w .slot < length segs / segmentFloats) us
+      within : (us : List Write) → All (λ w. Good (slotsOf (length (pieces .segments))) (w .slot) (w .segment)) us
+          → All (λ w. w .slot < length (pieces .segments) / segmentFloats) us
       within [] k = tt
       within (u ∷ us) k = (omega (arith, k .0 .among), within us (k .1))
 
-  nothing : (segs : List Float) (why : ℕ) → NoStray nos coords paths cs rs m segs (range [] (Refused why 0))
-  nothing segs why =
+      tags-within : (us : List Write) → All (λ w. Good (slotsOf (length (pieces .segments))) (w .slot) (w .segment)) us → All (λ w. w .slot < length (pieces .tags)) us
+      tags-within [] k = tt
+      tags-within (u ∷ us) k = (omega (arith, k .0 .among, tags), tags-within us (k .1))
+
+  nothing : (pieces : Pieces) (why : ℕ) → NoStray nos coords paths cs rs m pieces (range [] (Refused why 0))
+  nothing pieces why =
       record {
         each = tt;
         in-order = refl;
@@ -287,25 +317,28 @@ module _ (b : ℕ) (nos : List ℕ) (coords : List Float) (paths : List ℕ) (n 
         apart = tt;
         once = λ e k q. let z : _≡_ {A = ℕ} 0 1 = cc in absurd (omega arith);
         kept = tt;
+        tagged = tt;
         others = λ k f. refl;
+        other-tags = λ k f. refl;
       }
 
-  call-stray : (segs : List Float) → NoStray nos coords paths cs rs m segs (callOf 0 m lentNow segs)
+  call-stray : (pieces : Pieces) → NoStray nos coords paths cs rs m pieces (callOf 0 m lentNow pieces)
   unfolding callOf checksOf
-  call-stray segs = go (CallLaws.Whole 0 m lentNow segs)
+  call-stray pieces = go (CallLaws.Whole 0 m lentNow pieces) refl
     where
       same : pathsAnswer paths (length (hand 0 cs)) ≡ Done
       same = rw (length-hand 0 cs, cs-long) (passed b nos coords paths n refs bs cs rs m all)
 
-      go : (w : Bool) → NoStray nos coords paths cs rs m segs (checkedThen (cond w (pathsAnswer paths (length (hand 0 cs))) (Refused notWhole 0)) (rangeOf lentNow (slotsOf (length segs)) (m - 0) 0))
-      go true = rw same (range-stray segs)
-      go false = nothing segs notWhole
+      go : (w : Bool) → CallLaws.Whole 0 m lentNow pieces ≡ w
+          → NoStray nos coords paths cs rs m pieces (checkedThen (cond w (pathsAnswer paths (length (hand 0 cs))) (Refused notWhole 0)) (rangeOf lentNow (slotsOf (length (pieces .segments))) (m - 0) 0))
+      go true q = rw same (range-stray pieces (CallLaws.ready 0 m lentNow pieces q same .tagged))
+      go false q = nothing pieces notWhole
 
 -- No stray piece: the first b lines are counted into n zeroed tiles with no refusal, their slots are handed out, and all m references are tiled in one
 -- call: whatever is lent
 pub no-stray : (b : ℕ) (nos : List ℕ) (coords : List Float) (paths : List ℕ) (n : ℕ) (refs : List ℕ) (bs : List ℤ) (cs rs : List ℕ) (m : ℕ)
-    (room : ℕ) (kept ws tl : List ℕ) (segs : List Float) → AllCounted b nos coords paths n refs bs cs rs m → handOutOf room cs kept ≡ outOf Done ws tl
-    → NoStray nos coords paths cs rs m segs (callOf 0 m (lent nos coords paths ws rs) segs)
-no-stray b nos coords paths n refs bs cs rs m room kept ws tl segs all e =
+    (room : ℕ) (kept ws tl : List ℕ) (pieces : Pieces) → AllCounted b nos coords paths n refs bs cs rs m → handOutOf room cs kept ≡ outOf Done ws tl
+    → NoStray nos coords paths cs rs m pieces (callOf 0 m (lent nos coords paths ws rs) pieces)
+no-stray b nos coords paths n refs bs cs rs m room kept ws tl pieces all e =
     rw (handed-is room cs kept ws tl e .0)
-    (call-stray b nos coords paths n refs bs cs rs m all (events b nos coords paths n refs bs cs rs m all) (whole b nos coords paths n refs bs cs rs m all) segs)
+    (call-stray b nos coords paths n refs bs cs rs m all (events b nos coords paths n refs bs cs rs m all) (whole b nos coords paths n refs bs cs rs m all) pieces)

@@ -7,6 +7,7 @@ use Prim.Native.Nat.{ℕ, _+_, _<_}
 use native.Mathlib.Decide.{ℕ-discrete}
 use native.Mathlib.Omega.{arith}
 use lib.Ieee.{Float}
+use Rattle.panel.specs.Pieces.{Pieces}
 use Rattle.lists.specs.Run.{All}
 use Rattle.lists.specs.Occ.{is, occ, is-other}
 use Rattle.panel.specs.Segments.{segmentAt, Straight}
@@ -26,6 +27,6 @@ module _ (nos : List ℕ) (coords : List Float) (paths cs rs : List ℕ) (m : �
       go (yes e) ih = subst (λ (i : ℕ). Straight (segmentAt l i)) e (subst Straight (sym (kept .0)) (own .0 .straight))
       go (no e) ih = ih (omega (arith, is-other (w .slot) k e, h))
 
-  pub tiled-straight : (segs : List Float) (r : Range) → NoStray nos coords paths cs rs m segs r → r .answer ≡ Done
-      → (k : ℕ) → k < m → Straight (segmentAt (applied (r .writes) segs) k)
-  tiled-straight segs r s e k h = among (r .writes) (applied (r .writes) segs) k (s .each) (s .kept) (omega (arith, s .once e k h))
+  pub tiled-straight : (p : Pieces) (r : Range) → NoStray nos coords paths cs rs m p r → r .answer ≡ Done
+      → (k : ℕ) → k < m → Straight (segmentAt (applied (r .writes) p .segments) k)
+  tiled-straight p r s e k h = among (r .writes) (applied (r .writes) p .segments) k (s .each) (s .kept) (omega (arith, s .once e k h))

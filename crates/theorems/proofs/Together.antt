@@ -8,6 +8,7 @@ use lib.IntN.{ℤ, pos, negsuc}
 use lib.Ieee.{Float}
 use Rattle.lists.specs.Tally.{zeros}
 use Rattle.panel.specs.Widths.{lineFloats, refWords}
+use Rattle.panel.specs.Pieces.{Pieces}
 use Rattle.panel.specs.Kinds.{runningOf}
 use Rattle.panel.specs.Paths.{boxed, pathAt, pathCount, tileOf}
 use Rattle.panel.specs.declared.kinds.Answer.the-variants as Answer
@@ -42,14 +43,14 @@ batches-counted nos coords paths n refs bs cs rs m e es h k d =
 -- No stray piece, with the references tiled in ranges, cut anywhere: the segments and the answer afterwards are those of one call, whose writes are
 -- all their own path's
 pub no-stray-cut : (b : ℕ) (nos : List ℕ) (coords : List Float) (paths : List ℕ) (n : ℕ) (refs : List ℕ) (bs : List ℤ) (cs rs : List ℕ) (m : ℕ)
-    (room : ℕ) (kept ws tl : List ℕ) (segs : List Float) → AllCounted b nos coords paths n refs bs cs rs m → HandOut.handOutOf room cs kept ≡ HandOut.outOf Answer.Done ws tl
+    (room : ℕ) (kept ws tl : List ℕ) (p : Pieces) → AllCounted b nos coords paths n refs bs cs rs m → HandOut.handOutOf room cs kept ≡ HandOut.outOf Answer.Done ws tl
     → (e : ℕ) (es : List ℕ) → Rising 0 (e ∷ es) → lastOf e es ≡ m
-    → (inRanges 0 (e ∷ es) (lent nos coords paths ws rs) segs ≡ rangeTiled (callOf 0 m (lent nos coords paths ws rs) segs) segs)
-    × NoStray nos coords paths cs rs m segs (callOf 0 m (lent nos coords paths ws rs) segs)
-no-stray-cut b nos coords paths n refs bs cs rs m room kept ws tl segs all d e es h q =
+    → (inRanges 0 (e ∷ es) (lent nos coords paths ws rs) p ≡ rangeTiled (callOf 0 m (lent nos coords paths ws rs) p) p)
+    × NoStray nos coords paths cs rs m p (callOf 0 m (lent nos coords paths ws rs) p)
+no-stray-cut b nos coords paths n refs bs cs rs m room kept ws tl p all d e es h q =
     let there : lastOf e es ≤ length rs / refWords = omega (arith, sums b nos coords paths n refs bs cs rs m all .there) in (
-      many-ranges (lent nos coords paths ws rs) 0 e es h there segs ∙ ap (λ (k : ℕ). rangeTiled (callOf 0 k (lent nos coords paths ws rs) segs) segs) q,
-      no-stray b nos coords paths n refs bs cs rs m room kept ws tl segs all d,
+      many-ranges (lent nos coords paths ws rs) 0 e es h there p ∙ ap (λ (k : ℕ). rangeTiled (callOf 0 k (lent nos coords paths ws rs) p) p) q,
+      no-stray b nos coords paths n refs bs cs rs m room kept ws tl p all d,
     )
 
 -- Beam isolation after the sums: they are never refused, and path p's tiles are alike

@@ -4,6 +4,7 @@ use Prim.Native.Nat.{ℕ, _≤_}
 use lib.IntN.{ℤ}
 use lib.Ieee.{Float}
 use Rattle.panel.specs.Kinds.{runningOf}
+use Rattle.panel.specs.Pieces.{Pieces}
 use Rattle.panel.specs.declared.kinds.Running.{Running}
 use Rattle.acts.specs.Acts.{stOf}
 use Rattle.path_count.specs.Count.{Told, toldOf, paperOf, counted}
@@ -42,16 +43,16 @@ inBatches [] r nos coords paths bs cs rs = toldOf (paperOf (Done r)) (stOf bs cs
 inBatches (e ∷ es) r nos coords paths bs cs rs =
     andTold (counted r e nos coords paths bs cs rs) (λ r′ bs′ cs′ rs′. inBatches es r′ nos coords paths bs′ cs′ rs′)
 
--- ---- tiling: the range up to each end, over the segments that the one before left
+-- ---- tiling: the range up to each end, over the segments and tags that the one before left
 
-abbrev pub onTiled : List ℕ → Tiled → (List Float → Tiled) → Tiled
+abbrev pub onTiled : List ℕ → Tiled → (Pieces → Tiled) → Tiled
 onTiled [] t k = t
-onTiled (n ∷ []) t k = k (t .segments)
+onTiled (n ∷ []) t k = k (t .pieces)
 onTiled (n ∷ item ∷ more) t k = t
 
-abbrev pub inRanges : ℕ → List ℕ → Lent → List Float → Tiled
-inRanges from [] L segs = Rattle.path_tiling.specs.Tiling.tiled Answer.Done segs
-inRanges from (e ∷ es) L segs = onTiled (tiledOf from e L segs .paper) (tiledOf from e L segs) (λ segs′. inRanges e es L segs′)
+abbrev pub inRanges : ℕ → List ℕ → Lent → Pieces → Tiled
+inRanges from [] L p = Rattle.path_tiling.specs.Tiling.tiled Answer.Done p
+inRanges from (e ∷ es) L p = onTiled (tiledOf from e L p .paper) (tiledOf from e L p) (λ p′. inRanges e es L p′)
 
 -- ---- fine: the screen tiles up to each end, over the pixels that the call before left
 

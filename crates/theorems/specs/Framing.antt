@@ -9,6 +9,7 @@ use Rattle.lists.specs.Tally.{zeros}
 use Rattle.panel.specs.Refusals.{noRoom}
 use Rattle.panel.specs.Widths.{refWords}
 use Rattle.panel.specs.Kinds.{runningOf}
+use Rattle.panel.specs.Pieces.{Pieces}
 use Rattle.panel.specs.declared.kinds.Running.{Running}
 use Rattle.panel.specs.declared.kinds.Answer.{Answer}
 use Rattle.panel.specs.declared.kinds.Answer.the-variants as Answer
@@ -47,30 +48,30 @@ refusal n l = record { no = n; line = l }
 
 -- the ways in which a frame ends, with its ground and what is left: what is lent is refused; a line is; there are more references than segments; or
 -- all of them are tiled, or those before the one refused. The sums of backdrop have no way of their own: they are never refused
-pub data Way (nos : List ℕ) (coords : List Float) (paths : List ℕ) (backs : List ℤ) (stored tally refs : List ℕ) (segs : List Float) (o : Out) : Type 0 where
-  lent-refused : (n item : ℕ) → checksOf nos coords paths backs stored tally refs segs ≡ Answer.Refused n item
-      → o ≡ outOf (Refused Stage.Lent n item (runningOf 0 0)) backs stored tally refs segs → Way nos coords paths backs stored tally refs segs o
-  line-refused : (n : ℕ) (s : Running) (bs : List ℤ) (cs rs : List ℕ) → checksOf nos coords paths backs stored tally refs segs ≡ Answer.Done
+pub data Way (nos : List ℕ) (coords : List Float) (paths : List ℕ) (backs : List ℤ) (stored tally refs : List ℕ) (p : Pieces) (o : Out) : Type 0 where
+  lent-refused : (n item : ℕ) → checksOf nos coords paths backs stored tally refs p ≡ Answer.Refused n item
+      → o ≡ outOf (Refused Stage.Lent n item (runningOf 0 0)) backs stored tally refs p → Way nos coords paths backs stored tally refs p o
+  line-refused : (n : ℕ) (s : Running) (bs : List ℤ) (cs rs : List ℕ) → checksOf nos coords paths backs stored tally refs p ≡ Answer.Done
       → BatchWhy nos coords paths (length refs / refWords) 0 (length nos) (cleared (length stored) refs) (stOf bs cs rs (s .refs)) (refusal n (s .lines))
-      → o ≡ outOf (Refused Stage.Count n (s .lines) s) bs cs tally rs segs → Way nos coords paths backs stored tally refs segs o
-  slots-refused : (s : Running) (bs : List ℤ) (cs rs : List ℕ) → checksOf nos coords paths backs stored tally refs segs ≡ Answer.Done
-      → Counts nos coords paths (length stored) refs s bs cs rs → slotsOf (length segs) < s .refs
-      → o ≡ outOf (Refused Stage.HandOut noRoom 0 s) bs cs tally rs segs → Way nos coords paths backs stored tally refs segs o
-  tiled-out : (a : Answer) (s : Running) (bs : List ℤ) (cs rs : List ℕ) (sg : List Float) → checksOf nos coords paths backs stored tally refs segs ≡ Answer.Done
-      → Counts nos coords paths (length stored) refs s bs cs rs → s .refs ≤ slotsOf (length segs)
-      → tiledOf 0 (s .refs) (lent nos coords paths (hand 0 cs) rs) segs ≡ tiled a sg
-      → o ≡ outOf (tiledAs a s) bs (hand 0 cs) cs rs sg → Way nos coords paths backs stored tally refs segs o
+      → o ≡ outOf (Refused Stage.Count n (s .lines) s) bs cs tally rs p → Way nos coords paths backs stored tally refs p o
+  slots-refused : (s : Running) (bs : List ℤ) (cs rs : List ℕ) → checksOf nos coords paths backs stored tally refs p ≡ Answer.Done
+      → Counts nos coords paths (length stored) refs s bs cs rs → slotsOf (length (p .segments)) < s .refs
+      → o ≡ outOf (Refused Stage.HandOut noRoom 0 s) bs cs tally rs p → Way nos coords paths backs stored tally refs p o
+  tiled-out : (a : Answer) (s : Running) (bs : List ℤ) (cs rs : List ℕ) (sg : Pieces) → checksOf nos coords paths backs stored tally refs p ≡ Answer.Done
+      → Counts nos coords paths (length stored) refs s bs cs rs → s .refs ≤ slotsOf (length (p .segments))
+      → tiledOf 0 (s .refs) (lent nos coords paths (hand 0 cs) rs) p ≡ tiled a sg
+      → o ≡ outOf (tiledAs a s) bs (hand 0 cs) cs rs sg → Way nos coords paths backs stored tally refs p o
 
--- what stands after a frame over n tiles whose tiling answered a: backdrops bs, words ts, tally ks, references rs, segments sg
-pub record Framing (nos : List ℕ) (coords : List Float) (paths : List ℕ) (n : ℕ) (refs : List ℕ) (segs : List Float) (s : Running) (bs : List ℤ)
-    (ts ks rs : List ℕ) (sg : List Float) (a : Answer) : Type 0 where
+-- what stands after a frame over n tiles whose tiling answered a: backdrops bs, words ts, tally ks, references rs, segments and tags sg
+pub record Framing (nos : List ℕ) (coords : List Float) (paths : List ℕ) (n : ℕ) (refs : List ℕ) (p : Pieces) (s : Running) (bs : List ℤ)
+    (ts ks rs : List ℕ) (sg : Pieces) (a : Answer) : Type 0 where
   -- all lines are counted, and the tally keeps their counts
   pub counts : Counts nos coords paths n refs s bs ks rs
   pub sums : Sums nos coords paths n ks rs (s .refs)
   -- the tiles hold their first slots, and there is a segment for each reference
   pub handed : ts ≡ hand 0 ks
-  pub room : s .refs ≤ slotsOf (length segs)
-  -- no stray piece: the writes, in order, and the segments with them applied
+  pub room : s .refs ≤ slotsOf (length (p .segments))
+  -- no stray piece: the writes, in order, and the segments and tags with them applied
   pub writes : List Write
-  pub stray : NoStray nos coords paths ks rs (s .refs) segs (range writes a)
-  pub segments : sg ≡ applied writes segs
+  pub stray : NoStray nos coords paths ks rs (s .refs) p (range writes a)
+  pub pieces : sg ≡ applied writes p

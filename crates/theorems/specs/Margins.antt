@@ -7,6 +7,6 @@ use Rattle.panel.specs.Paths.{pathAt}
 use Rattle.walk.specs.Lent.{lineAt}
 use Rattle.margin.specs.Room.{Inside}
 
--- both ends of line l lie at 16 or more, and its path's box reaches a tile further than their tiles on every side
+-- the box of line l's path reaches a tile further than the tiles of its ends on every side
 abbrev pub MarginLine : (nos : List ℕ) (coords : List Float) (paths : List ℕ) (l : ℕ) → Type 0
 MarginLine nos coords paths l = Inside (pathAt paths (getD nos l 0)) (lineAt coords l .p0) × Inside (pathAt paths (getD nos l 0)) (lineAt coords l .p1)

@@ -3,13 +3,15 @@
 use mathlib.Core.Path.{_≡_}
 use mathlib.Core.Bool.{Bool, true, false}
 use mathlib.Core.List.{List, [], _∷_, _++_, map}
-use Prim.Native.Nat.{ℕ}
+use Prim.Native.Nat.{ℕ, _*_}
 use lib.IntN.{ℤ, pos, negsuc}
 use lib.ListN.{replicate}
 use lib.Ieee.{Float, binary32, ofBits}
 use Rattle.float32.specs.Meaning.{roundOf}
 use Rattle.util.specs.Constants as Number
-use Rattle.panel.specs.Paths.{boxed}
+use Rattle.panel.specs.Paths.{boxed, stamped}
+use Rattle.panel.specs.Pieces.{pieces}
+use Rattle.panel.specs.Widths.{segmentFloats}
 use Rattle.panel.specs.Refusals.{doneNo, countOver}
 use Rattle.panel.specs.Kinds.{runningOf}
 use Rattle.panel.specs.declared.kinds.Answer.the-variants.{Done}
@@ -32,8 +34,8 @@ pub data Row : Type 0 where
   counts : (box ends before : List ℕ) → Told → Row
   -- counts handed out, with that room
   hands : (room : ℕ) (counts : List ℕ) → Out → Row
-  -- the first n references of one line tiled: the tiles' words, the references, and so many floats of segments, all 0
-  tiles : (n : ℕ) (box ends words refs : List ℕ) (floats : ℕ) → Tiled → Row
+  -- the first n references of one line tiled: the tiles' words, the references, and so many slots, with segments and tags that are all 0
+  tiles : (n : ℕ) (box ends words refs : List ℕ) (slots : ℕ) → Tiled → Row
   -- a pixel, whichever, of a tile with no segments: the rule, the backdrop, the coverage
   covers : (evenOdd : Bool) (backdrop : ℤ) → Float → Row
   -- a float rounded; a float packed into a byte
@@ -50,7 +52,7 @@ abbrev pub Claim : Row → Type 0
 Claim (counts box ends before told) =
     counted (runningOf 0 0) 1 (0 ∷ []) (floatsOf ends) box (pos 0 ∷ pos 0 ∷ pos 0 ∷ pos 0 ∷ []) before (0 ∷ 0 ∷ 0 ∷ 0 ∷ []) ≡ told
 Claim (hands room ns out) = handOutOf room ns (0 ∷ 0 ∷ 0 ∷ 0 ∷ []) ≡ out
-Claim (tiles n box ends words refs m out) = tiledOf 0 n (lent (0 ∷ []) (floatsOf ends) box words refs) (replicate m (ofBits binary32 0)) ≡ out
+Claim (tiles n box ends words refs m out) = tiledOf 0 n (lent (0 ∷ []) (floatsOf ends) box words refs) (pieces (replicate (m * segmentFloats) (ofBits binary32 0)) (replicate m 0)) ≡ out
 Claim (covers evenOdd backdrop area) = (k : ℕ) → pixelOf [] 0 0 evenOdd backdrop Number.zero Number.zero k ≡ area
 Claim (rounds x y) = roundOf x ≡ y
 Claim (packs x n) = byteOf x ≡ n
@@ -82,13 +84,13 @@ bits ns = map (ofBits binary32) ns
 
 abbrev pub table : List Row
 table =
-    -- (8,8)-(8,24): references (0,0), (0,1); counts 1,0,1,0; backdrops 0,0,0,-1; hand-out; segments
+    -- (8,8)-(8,24): references (0,0), (0,1); counts 1,0,1,0; backdrops 0,0,0,-1; hand-out; segments, and the tags of a beam stamped 7
     counts two (8 ∷ 8 ∷ 8 ∷ 24 ∷ []) none
     (record { paper = went 2; backs = pos 0 ∷ pos 0 ∷ pos 0 ∷ negsuc 0 ∷ []; counts = 1 ∷ 0 ∷ 1 ∷ 0 ∷ []; refs = 0 ∷ 0 ∷ 0 ∷ 1 ∷ [] })
     ∷ hands 100 (1 ∷ 0 ∷ 1 ∷ 0 ∷ []) (HandOut.outOf Done (4294967295 ∷ 0 ∷ 4294967294 ∷ 0 ∷ []) (1 ∷ 0 ∷ 1 ∷ 0 ∷ []))
-    ∷ tiles 2 two (8 ∷ 8 ∷ 8 ∷ 24 ∷ []) (4294967295 ∷ 0 ∷ 4294967294 ∷ 0 ∷ []) (0 ∷ 0 ∷ 0 ∷ 1 ∷ []) 10
+    ∷ tiles 2 (stamped 0 0 2 2 0 7) (8 ∷ 8 ∷ 8 ∷ 24 ∷ []) (4294967295 ∷ 0 ∷ 4294967294 ∷ 0 ∷ []) (0 ∷ 0 ∷ 0 ∷ 1 ∷ []) 2
     (tiled Done
-    (bits (0x40ff_fffe ∷ 0x4100_0000 ∷ 0x40ff_fffe ∷ 0x4180_0000 ∷ 0x4e6e_6b28 ∷ 0x40ff_fffe ∷ 0 ∷ 0x40ff_fffe ∷ 0x4100_0000 ∷ 0x4e6e_6b28 ∷ [])))
+    (pieces (bits (0x40ff_fffe ∷ 0x4100_0000 ∷ 0x40ff_fffe ∷ 0x4180_0000 ∷ 0x4e6e_6b28 ∷ 0x40ff_fffe ∷ 0 ∷ 0x40ff_fffe ∷ 0x4100_0000 ∷ 0x4e6e_6b28 ∷ [])) (7 ∷ 7 ∷ [])))
     -- (0,16)-(32,16) and (5,5)-(5,5): nothing. (0,8)-(32,8): counts 1,1,0,0, no backdrop
     ∷ counts two (0 ∷ 16 ∷ 32 ∷ 16 ∷ []) none (record { paper = went 0; backs = flat; counts = none; refs = none })
     ∷ counts two (5 ∷ 5 ∷ 5 ∷ 5 ∷ []) none (record { paper = went 0; backs = flat; counts = none; refs = none })

@@ -40,6 +40,13 @@ fn show_words(w: [u32; 4]) {
     line();
 }
 
+// The tags of the two slots.
+fn show_tags(w: [u32; 2]) {
+    show(w[0]);
+    show(w[1]);
+    line();
+}
+
 fn show_ints(w: [i32; 4]) {
     show_int(w[0]);
     show_int(w[1]);
@@ -93,16 +100,20 @@ fn answer(c: Counted) -> u32 {
     }
 }
 
+// The beam number of path 0.
+const BEAM: u32 = 7;
+
 // One line of path 0, whose box starts at column x0.
 fn trace(px: f32, py: f32, qx: f32, qy: f32, x0: u32) {
     let path_nos = [0u32; 1];
     let coords = [px, py, qx, qy];
-    let paths = [x0, 0, x0 % EDGE_MOST + 2, 2, 0];
+    let paths = [x0, 0, x0 % EDGE_MOST + 2, 2, 0, BEAM];
     let mut backs = [0i32; 4];
     let mut counts = [0u32; 4];
     let mut tally = [0u32; 4];
     let mut refs = [0u32; 8];
     let mut segs = [0.0f32; 10];
+    let mut tags = [0u32; 2];
     let from = Running { lines: 0, refs: 0 };
     let c = path_count::count(
         from,
@@ -152,6 +163,7 @@ fn trace(px: f32, py: f32, qx: f32, qy: f32, x0: u32) {
         &counts,
         &kept,
         &mut segs,
+        &mut tags,
     );
     io::write_all(STDOUT_FILENO, b"  tile");
     show(number(t));
@@ -160,6 +172,8 @@ fn trace(px: f32, py: f32, qx: f32, qy: f32, x0: u32) {
     show_segment(&segs, false);
     io::write_all(STDOUT_FILENO, b"  slot 1:");
     show_segment(&segs, true);
+    io::write_all(STDOUT_FILENO, b"  tags");
+    show_tags(tags);
 }
 
 fn main() {

@@ -2,6 +2,7 @@
 use crate::raw;
 use crate::refusal::{answered, Refused, UNTOLD};
 use crate::stages::Running;
+use crate::{Reference, REF_WORDS};
 use core::fmt;
 
 /// The part of a frame that refused.
@@ -55,7 +56,9 @@ impl FrameStopped {
         let item = self.refused.item as usize;
         match self.stage {
             Stage::Count => Some(item),
-            Stage::Tile => refs.get(crate::REF_WORDS * item).map(|line| *line as usize),
+            Stage::Tile => {
+                refs.chunks_exact(REF_WORDS).nth(item).map(|words| Reference::of(words).line as usize)
+            }
             _ => None,
         }
     }
@@ -66,29 +69,34 @@ impl core::error::Error for FrameStopped {}
 /// Draws all lines into tiles and segments: backdrops and counts are cleared, the lines counted, the
 /// backdrops summed, slots handed out with room for the segments lent, and every reference tiled.
 /// Afterwards `backdrops` are the sums, `stored` what hand-out left, `tally` the counts, and the
-/// segments below `references` are written.
+/// segments below `references` are written, each with its tag: the beam number of its line's path. There are as many tags
+/// as segments, else 1.
 ///
 /// ```
-/// use groatpocket::{frame, Refusal, Stage};
-/// let (path_nos, coords, paths) = ([0], [8.0, 8.0, 8.0, 24.0], [0, 0, 2, 2, 0]);
+/// use groatpocket::{frame, Path, Refusal, Segment, Stage, REF_WORDS, SEGMENT_FLOATS};
+/// let (path_nos, coords) = ([0], [8.0, 8.0, 8.0, 24.0]);
+/// let paths = Path { x0: 0, y0: 0, x1: 2, y1: 2, first: 0, beam: 7 }.words();
 /// let (mut backdrops, mut stored, mut tally) = ([7; 4], [7; 4], [7; 4]);
-/// let (mut refs, mut segments) = ([0; 8], [0.0; 10]);
+/// let (mut refs, mut segments, mut tags) = ([0; 4 * REF_WORDS], [0.0; 2 * SEGMENT_FLOATS], [0; 2]);
 /// let done = frame(
-///     &path_nos, &coords, &paths, &mut backdrops, &mut stored, &mut tally, &mut refs, &mut segments,
+///     &path_nos, &coords, &paths, &mut backdrops, &mut stored, &mut tally, &mut refs, &mut segments, &mut tags,
 /// ).unwrap();
 /// assert_eq!((done.lines, done.references), (1, 2));
 /// assert_eq!((backdrops, tally), ([0, 0, 0, -1], [1, 0, 1, 0]));
-/// assert_eq!(segments[5..10], [7.999999, 0.0, 7.999999, 8.0, 1e9]);
+/// let second = Segment::of(&segments[SEGMENT_FLOATS..]);
+/// assert_eq!((second.point0, second.point1), ([7.999999, 0.0], [7.999999, 8.0]));
+/// assert_eq!(tags, [7, 7]);
 ///
 /// // Room for one segment only: hand-out refuses, and what was counted stands.
 /// let stopped = frame(
-///     &path_nos, &coords, &paths, &mut backdrops, &mut stored, &mut tally, &mut refs, &mut segments[..5],
+///     &path_nos, &coords, &paths, &mut backdrops, &mut stored, &mut tally, &mut refs, &mut segments[..SEGMENT_FLOATS],
+///     &mut tags[..1],
 /// ).unwrap_err();
 /// assert_eq!((stopped.stage, stopped.refused.refusal), (Stage::HandOut, Refusal::NoRoom));
 ///
 /// // A coordinate that is no number: counting stops, and says at which line.
 /// let stopped = frame(
-///     &path_nos, &[8.0, 8.0, f32::NAN, 24.0], &paths, &mut backdrops, &mut stored, &mut tally, &mut refs, &mut segments,
+///     &path_nos, &[8.0, 8.0, f32::NAN, 24.0], &paths, &mut backdrops, &mut stored, &mut tally, &mut refs, &mut segments, &mut tags,
 /// ).unwrap_err();
 /// assert_eq!(stopped.to_string(), "counting stopped at line 0: refusal 6: a coordinate not finite, or over 65,536 in size");
 /// assert_eq!(stopped.line(&refs), Some(0));
@@ -103,6 +111,7 @@ pub fn frame(
     tally: &mut [u32],
     refs: &mut [u32],
     segments: &mut [f32],
+    tags: &mut [u32],
 ) -> Result<Running, FrameStopped> {
     let (mut stage, mut item, mut lines, mut made) = (UNTOLD, UNTOLD, UNTOLD, UNTOLD);
     // SAFETY: as for `count`.
@@ -117,6 +126,7 @@ pub fn frame(
             tally.as_mut_ptr(), tally.len(),
             refs.as_mut_ptr(), refs.len(),
             segments.as_mut_ptr(), segments.len(),
+            tags.as_mut_ptr(), tags.len(),
             &mut stage, &mut item, &mut lines, &mut made,
         )
     };

@@ -10,22 +10,24 @@
 //!
 #![cfg_attr(all(feature = "frame", feature = "lists"), doc = "```")]
 #![cfg_attr(not(all(feature = "frame", feature = "lists")), doc = "```ignore")]
-//! use groatpocket::{fine, frame, words_needed, write_lists, Screen, PATH_WORDS};
+//! use groatpocket::{fine, frame, words_needed, write_lists, Paint, Path, Screen, REF_WORDS, SEGMENT_FLOATS};
 //!
 //! // One beam's trace, a triangle, as path 0, whose box is the whole screen: two by two tiles from tile 0 on.
 //! let screen = Screen { width: 32, cols: 2, rows: 2 };
 //! let path_nos = [0, 0, 0];
 //! let coords = [4.0, 28.0, 16.0, 4.0, 16.0, 4.0, 28.0, 28.0, 28.0, 28.0, 4.0, 28.0];
-//! let mut paths = [0; PATH_WORDS];
-//! paths[..4].copy_from_slice(&[0, 0, 2, 2]);
+//! // Its beam has the number 7 stamped on it.
+//! let paths = Path { x0: 0, y0: 0, x1: 2, y1: 2, first: 0, beam: 7 }.words();
 //! // Opaque orange, red in the high byte and multiplied by alpha; the rule non-zero.
-//! let paints = [0xff8000ff, 0];
+//! let paints = Paint { colour: 0xff8000ff, even_odd: false }.words();
 //!
 //! let (mut backdrops, mut stored, mut tally) = ([0; 4], [0; 4], [0; 4]);
-//! let (mut refs, mut segments) = ([0; 2 * 16], [0.0; 5 * 16]);
+//! let (mut refs, mut segments, mut tags) = ([0; 16 * REF_WORDS], [0.0; 16 * SEGMENT_FLOATS], [0; 16]);
 //! let done = frame(
-//!     &path_nos, &coords, &paths, &mut backdrops, &mut stored, &mut tally, &mut refs, &mut segments,
+//!     &path_nos, &coords, &paths, &mut backdrops, &mut stored, &mut tally, &mut refs, &mut segments, &mut tags,
 //! ).unwrap();
+//! // Every segment is the beam's own.
+//! assert!(tags[..done.references as usize].iter().all(|tag| *tag == 7));
 //!
 //! let mut words = vec![0; words_needed(2, 2, 1)];
 //! write_lists(&paths, &paints, &backdrops, &stored, &tally, 2, 2, done.references, &mut words).unwrap();
@@ -44,12 +46,12 @@
 //! their alpha, and nothing refuses one that isn't; a paint has red in its highest byte and a pixel in its lowest.
 //!
 //! ```
-//! use groatpocket::{count, hand_out, Running};
+//! use groatpocket::{count, hand_out, Path, Running, REF_WORDS};
 //!
 //! // One line, (8,8) to (8,24), of path 0, whose box is two by two tiles from tile 0 on.
 //! let (path_nos, coords) = ([0], [8.0, 8.0, 8.0, 24.0]);
-//! let paths = [0, 0, 2, 2, 0];
-//! let (mut backdrops, mut counts, mut refs) = ([0; 4], [0; 4], [0; 8]);
+//! let paths = Path { x0: 0, y0: 0, x1: 2, y1: 2, first: 0, beam: 7 }.words();
+//! let (mut backdrops, mut counts, mut refs) = ([0; 4], [0; 4], [0; 4 * REF_WORDS]);
 //! let running = count(
 //!     Running::default(), 1, &path_nos, &coords, &paths, &mut backdrops, &mut counts, &mut refs,
 //! ).unwrap();
@@ -73,6 +75,7 @@ mod picture;
 #[cfg(feature = "pixel")]
 mod pixel;
 pub mod raw;
+mod records;
 #[cfg(feature = "recount")]
 mod recount;
 mod refusal;
@@ -89,6 +92,7 @@ pub use lists::{words_needed, write_lists};
 pub use picture::{ppm_read, ppm_write};
 #[cfg(feature = "pixel")]
 pub use pixel::{pixel, pixel_area};
+pub use records::{Paint, Path, Reference, Segment, STEP_RANGE};
 #[cfg(feature = "recount")]
 pub use recount::{recount, RecountStopped};
 pub use refusal::{Refusal, Refused};
@@ -109,8 +113,8 @@ extern "C" {
     fn gp_version() -> u32;
 }
 
-/// Words to a path: box x0, y0, x1, y1 in tiles, then its first tile.
-pub const PATH_WORDS: usize = 5;
+/// Words to a path: box x0, y0, x1, y1 in tiles, its first tile, its beam number.
+pub const PATH_WORDS: usize = 6;
 /// Floats to a line: p0.x, p0.y, p1.x, p1.y in pixels.
 pub const LINE_FLOATS: usize = 4;
 /// Words to a reference: line number; slice number times 65,536 plus step number.

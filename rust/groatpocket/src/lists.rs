@@ -4,15 +4,16 @@ use crate::refusal::{answered, Refused, UNTOLD};
 use crate::TILE_WORDS;
 
 /// Writes a list of commands for each tile of a screen of `cols` by `rows` tiles, for the paths in
-/// their order, each with its paint (two words: colour, then rule). `backdrops`, `stored` and `tally`
-/// are what [`frame`](crate::frame) leaves in `backdrops`, `tiles` and `tally`; `room` is the number
+/// their order, each with its [`Paint`](crate::Paint). `backdrops`, `stored` and `tally`
+/// are what [`frame`](crate::frame) leaves there; `room` is the number
 /// of segments that [`fine`](crate::fine) will be lent. A refusal writes no word: 15 with the first
 /// screen tile that has too many commands; 9 where the words lent or the room don't suffice.
 ///
 /// ```
-/// use groatpocket::{fine, write_lists, words_needed, Screen};
+/// use groatpocket::{fine, write_lists, words_needed, Paint, Path, Screen};
 /// // A path over one tile that its backdrop covers whole, in the colour 0x204060ff.
-/// let (paths, paints) = ([0, 0, 1, 1, 0], [0x204060ff, 0]);
+/// let paths = Path { x0: 0, y0: 0, x1: 1, y1: 1, first: 0, beam: 7 }.words();
+/// let paints = Paint { colour: 0x204060ff, even_odd: false }.words();
 /// let mut words = vec![0; words_needed(1, 1, 1)];
 /// write_lists(&paths, &paints, &[1], &[0], &[0], 1, 1, 0, &mut words).unwrap();
 /// assert_eq!(words[1..5], [2, 3, 0x204060ff, 0]);

@@ -6,9 +6,9 @@ use crate::screen::Fill;
 /// The coverage of the pixel in that column and row, 0 to 15 each: what [`fill`](crate::fill) leaves there.
 ///
 /// ```
-/// use groatpocket::{pixel_area, Fill};
+/// use groatpocket::{pixel_area, Fill, Segment};
 /// // x from 8 on, all the way down
-/// let segment = [8.0, 0.0, 8.0, 16.0, 1e9];
+/// let segment = Segment { point0: [8.0, 0.0], point1: [8.0, 16.0], y_edge: Segment::NO_EDGE }.floats();
 /// let edge = Fill { first: 0, number: 1, even_odd: false, backdrop: 0, x_tile: 0.0, y_tile: 0.0 };
 /// assert!(pixel_area(&segment, edge, 6, 3).unwrap() < 0.01);
 /// assert!(pixel_area(&segment, edge, 9, 3).unwrap() > 0.99);

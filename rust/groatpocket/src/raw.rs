@@ -37,6 +37,7 @@ extern "C" {
         refs: *const u32, refs_len: usize,
         from: u32, to: u32,
         segments: *mut f32, segments_len: usize,
+        tags: *mut u32, tags_len: usize,
         item: &mut u32,
     ) -> u32;
 
@@ -63,6 +64,7 @@ extern "C" {
         tally: *mut u32, tally_len: usize,
         refs: *mut u32, refs_len: usize,
         segments: *mut f32, segments_len: usize,
+        tags: *mut u32, tags_len: usize,
         stage: &mut u32, item: &mut u32, lines: &mut u32, made: &mut u32,
     ) -> u32;
 

@@ -27,11 +27,10 @@ impl core::error::Error for RecountStopped {}
 /// the path's range, and hold afterwards what it held; where a line is refused, the range gets it back.
 ///
 /// ```
-/// use groatpocket::{count, recount, Refusal, Running, PATH_WORDS};
+/// use groatpocket::{count, recount, Path, Refusal, Running, REF_WORDS};
 /// // Path 0: a box of two by two tiles, from tile 0 on.
-/// let mut paths = [0; PATH_WORDS];
-/// paths[..4].copy_from_slice(&[0, 0, 2, 2]);
-/// let (mut backdrops, mut counts, mut refs) = ([0; 4], [0; 4], [0; 8]);
+/// let paths = Path { x0: 0, y0: 0, x1: 2, y1: 2, first: 0, beam: 7 }.words();
+/// let (mut backdrops, mut counts, mut refs) = ([0; 4], [0; 4], [0; 4 * REF_WORDS]);
 /// count(
 ///     Running::default(), 1, &[0], &[8.0, 8.0, 8.0, 24.0], &paths, &mut backdrops, &mut counts, &mut refs,
 /// ).unwrap();

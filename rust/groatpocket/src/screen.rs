@@ -24,14 +24,14 @@ pub struct Fill {
 /// 0 to 16, or with a y_edge that is not finite, are refused (20).
 ///
 /// ```
-/// use groatpocket::{fill, Fill};
+/// use groatpocket::{fill, Fill, Segment};
 /// let mut area = [0.0; 256];
 /// let whole = Fill { first: 0, number: 0, even_odd: false, backdrop: 2, x_tile: 0.0, y_tile: 0.0 };
 /// fill(&[], whole, &mut area).unwrap();
 /// assert!(area.iter().all(|a| *a == 1.0));
 /// fill(&[], Fill { even_odd: true, ..whole }, &mut area).unwrap();
 /// assert!(area.iter().all(|a| *a == 0.0));
-/// let crooked = [8.0, 0.0, 8.0, 16.1, 1e9];
+/// let crooked = Segment { point0: [8.0, 0.0], point1: [8.0, 16.1], y_edge: Segment::NO_EDGE }.floats();
 /// assert_eq!(fill(&crooked, Fill { number: 1, ..whole }, &mut area).unwrap_err().refusal.number(), 20);
 /// ```
 pub fn fill(segments: &[f32], fill: Fill, area: &mut [f32]) -> Result<(), Refused> {

@@ -37,11 +37,12 @@ impl core::error::Error for Stopped {}
 /// references. It stops before the first line refused.
 ///
 /// ```
-/// use groatpocket::{count, Refusal, Running};
+/// use groatpocket::{count, Path, Refusal, Running, REF_WORDS};
+/// let paths = Path { x0: 0, y0: 0, x1: 2, y1: 2, first: 0, beam: 7 }.words();
 /// // x is no number: the line is refused with 6, and nothing changes.
 /// let stopped = count(
-///     Running::default(), 1, &[0], &[f32::NAN, 0.0, 8.0, 24.0], &[0, 0, 2, 2, 0],
-///     &mut [0; 4], &mut [0; 4], &mut [0; 8],
+///     Running::default(), 1, &[0], &[f32::NAN, 0.0, 8.0, 24.0], &paths,
+///     &mut [0; 4], &mut [0; 4], &mut [0; 4 * REF_WORDS],
 /// ).unwrap_err();
 /// assert_eq!(stopped.refused.refusal, Refusal::Coordinate);
 /// assert_eq!(stopped.running, Running::default());
@@ -79,8 +80,10 @@ pub fn count(
 /// leave an `i32`.
 ///
 /// ```
+/// use groatpocket::{backdrop, Path};
+/// let paths = Path { x0: 0, y0: 0, x1: 2, y1: 2, first: 0, beam: 7 }.words();
 /// let mut backdrops = [1, 2, -5, 4];
-/// groatpocket::backdrop(&[0, 0, 2, 2, 0], &mut backdrops).unwrap();
+/// backdrop(&paths, &mut backdrops).unwrap();
 /// assert_eq!(backdrops, [1, 3, -5, -1]);
 /// ```
 pub fn backdrop(paths: &[u32], backdrops: &mut [i32]) -> Result<(), Refused> {
@@ -112,8 +115,19 @@ pub fn hand_out(counts: &mut [u32], tally: &mut [u32], room: u32) -> Result<(), 
     answered(number, 0)
 }
 
-/// Writes the segments of the references `from..to`, each at its slot, relative to its tile. It stops
-/// before the first refused. `stored` is what [`hand_out`] left in the counts.
+/// Writes the segments of the references `from..to`, each at its slot, relative to its tile, and beside each its tag: the
+/// beam number of its line's path. It stops before the first refused. `stored` is what [`hand_out`] left in the counts. There are
+/// as many tags as segments, else 1; where nothing is written, segment and tag stay.
+///
+/// ```
+/// use groatpocket::{tile, Path, Reference, SEGMENT_FLOATS};
+/// // Step 0 of the one line of beam 7, in a tile whose slot is 1.
+/// let paths = Path { x0: 0, y0: 0, x1: 1, y1: 1, first: 0, beam: 7 }.words();
+/// let refs = Reference { line: 0, slice: 0, step: 0 }.words();
+/// let (mut segments, mut tags) = ([0.0; 3 * SEGMENT_FLOATS], [9; 3]);
+/// tile(0, 1, &[0], &[8.5, 2.0, 8.5, 6.0], &paths, &[!1], &refs, &mut segments, &mut tags).unwrap();
+/// assert_eq!(tags, [9, 7, 9]);
+/// ```
 #[allow(clippy::too_many_arguments)]
 pub fn tile(
     from: u32,
@@ -124,6 +138,7 @@ pub fn tile(
     stored: &[u32],
     refs: &[u32],
     segments: &mut [f32],
+    tags: &mut [u32],
 ) -> Result<(), Refused> {
     let mut item = UNTOLD;
     // SAFETY: as for `count`.
@@ -137,6 +152,7 @@ pub fn tile(
             refs.as_ptr(), refs.len(),
             from, to,
             segments.as_mut_ptr(), segments.len(),
+            tags.as_mut_ptr(), tags.len(),
             &mut item,
         )
     };

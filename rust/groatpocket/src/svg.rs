@@ -26,12 +26,12 @@ impl core::error::Error for TextRefused {}
 /// none writes a line.
 ///
 /// ```
-/// use groatpocket::{svg_lines, Refusal};
-/// let (mut path_nos, mut coords) = ([7; 4], [0.0; 16]);
+/// use groatpocket::{svg_lines, Refusal, LINE_FLOATS};
+/// let (mut path_nos, mut coords) = ([7; 4], [0.0; 4 * LINE_FLOATS]);
 /// // two sides of a triangle: the third closes it
 /// assert_eq!(svg_lines(b"M8 8h16v16", 0, 3, &mut path_nos, &mut coords), Ok(3));
 /// assert_eq!(path_nos, [3, 3, 3, 7]);
-/// assert_eq!(coords[..12], [8.0, 8.0, 24.0, 8.0, 24.0, 8.0, 24.0, 24.0, 24.0, 24.0, 8.0, 8.0]);
+/// assert_eq!(coords[..3 * LINE_FLOATS], [8.0, 8.0, 24.0, 8.0, 24.0, 8.0, 24.0, 24.0, 24.0, 24.0, 8.0, 8.0]);
 ///
 /// let refused = svg_lines(b"M8 8h16,", 0, 3, &mut path_nos, &mut coords).unwrap_err();
 /// assert_eq!((refused.refusal, refused.place), (Refusal::BadText, 8));

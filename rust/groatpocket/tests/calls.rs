@@ -1,7 +1,15 @@
 //! The safe calls: a trace through all stages, batches, and the refusals as a caller meets them.
 use groatpocket::*;
 
-const PATHS: [u32; 5] = [0, 0, 2, 2, 0];
+/// The number on the beam.
+const BEAM: u32 = 0xbea3;
+
+/// A path of so many columns and rows from the upper left on.
+const fn boxed(x1: u32, y1: u32, first: u32) -> [u32; PATH_WORDS] {
+    Path { x0: 0, y0: 0, x1, y1, first, beam: BEAM }.words()
+}
+
+const PATHS: [u32; PATH_WORDS] = boxed(2, 2, 0);
 
 fn counted(coords: &[f32], paths: &[u32], refs: &mut [u32]) -> Result<Running, Stopped> {
     let path_nos = vec![0; coords.len() / LINE_FLOATS];
@@ -21,12 +29,12 @@ fn numbers_and_names_agree() {
 #[cfg(feature = "svg")]
 #[test]
 fn an_outline_is_read_or_refused_at_its_place() {
-    let (mut path_nos, mut coords) = ([7; 6], [0.5; 24]);
+    let (mut path_nos, mut coords) = ([7; 6], [0.5; 6 * LINE_FLOATS]);
     // a curve of two lines, then the line back, and a second outline that draws nothing
     assert_eq!(svg_lines(b"M0,0 q8 16 16,0 M5 5", 1, 2, &mut path_nos, &mut coords), Ok(3));
     assert_eq!(path_nos, [2, 2, 2, 7, 7, 7]);
-    assert_eq!(coords[..12], [0.0, 0.0, 8.0, 8.0, 8.0, 8.0, 16.0, 0.0, 16.0, 0.0, 0.0, 0.0]);
-    assert_eq!(coords[12..], [0.5; 12]);
+    assert_eq!(coords[..3 * LINE_FLOATS], [0.0, 0.0, 8.0, 8.0, 8.0, 8.0, 16.0, 0.0, 16.0, 0.0, 0.0, 0.0]);
+    assert_eq!(coords[3 * LINE_FLOATS..], [0.5; 3 * LINE_FLOATS]);
     let before = (path_nos, coords);
     let mut refused = |text: &[u8], depth, room| {
         let no =
@@ -38,7 +46,7 @@ fn an_outline_is_read_or_refused_at_its_place() {
     assert_eq!(refused(b"M1 2,", 0, 6), (21, 5));
     assert_eq!(refused(b"M1234567 2", 0, 6), (21, 7));
     assert_eq!(refused(b"M0 0h1z", 0, 1), (9, 0));
-    let no = svg_lines(b"?", 0, 2, &mut path_nos, &mut coords[..23]).unwrap_err();
+    let no = svg_lines(b"?", 0, 2, &mut path_nos, &mut coords[..6 * LINE_FLOATS - 1]).unwrap_err();
     assert_eq!((no.refusal, no.place), (Refusal::NotWhole, 0));
     let no = svg_lines(b"L", 0, 2, &mut path_nos, &mut coords).unwrap_err();
     assert_eq!(no.to_string(), "refusal 21: a text that is no path data of SVG; byte 0");
@@ -48,7 +56,7 @@ fn an_outline_is_read_or_refused_at_its_place() {
 fn batches_make_what_one_batch_makes() {
     let path_nos = [0, 0, 0];
     let coords = [4.0, 4.0, 28.0, 4.0, 28.0, 4.0, 16.0, 28.0, 16.0, 28.0, 4.0, 4.0];
-    let mut whole = ([0; 4], [0; 4], [0; 32]);
+    let mut whole = ([0; 4], [0; 4], [0; 16 * REF_WORDS]);
     let mut cut = whole;
     let (b, c, r) = (&mut whole.0, &mut whole.1, &mut whole.2);
     let all = count(Running::default(), 3, &path_nos, &coords, &PATHS, b, c, r).unwrap();
@@ -63,34 +71,35 @@ fn batches_make_what_one_batch_makes() {
 
 #[test]
 fn a_refused_line_has_its_number_and_changes_nothing() {
-    let mut refs = [7; 8];
+    let mut refs = [7; 4 * REF_WORDS];
     let coords = [8.0, 8.0, 8.0, 12.0, 1.0, 2.0, f32::MAX, 3.0];
     let stopped = counted(&coords, &PATHS, &mut refs).unwrap_err();
     assert_eq!((stopped.refused.refusal, stopped.refused.item), (Refusal::Coordinate, 1));
     assert_eq!(stopped.running, Running { lines: 1, references: 1 });
-    assert_eq!(refs, [0, 0, 7, 7, 7, 7, 7, 7]);
+    assert_eq!(Reference::of(&refs), Reference { line: 0, slice: 0, step: 0 });
+    assert_eq!(refs[REF_WORDS..], [7; 3 * REF_WORDS]);
 }
 
 #[test]
 fn what_is_lent_is_checked() {
     let line = [8.0, 8.0, 8.0, 24.0];
     let number = |coords: &[f32], paths: &[u32], room: usize| {
-        let mut refs = vec![0; room];
+        let mut refs = vec![0; room * REF_WORDS];
         counted(coords, paths, &mut refs).map_err(|s| s.refused.refusal.number())
     };
-    assert_eq!(number(&line, &PATHS[..4], 8), Err(1));
-    assert_eq!(number(&line, &[0; 5 * 4_097], 8), Err(2));
-    assert_eq!(number(&line, &[0, 0, u32::MAX, 2, 0], 8), Err(3));
-    assert_eq!(number(&line, &[0, 0, 2, 2, 1], 8), Err(4));
-    assert_eq!(number(&line, &[], 8), Err(7));
-    assert_eq!(number(&line, &PATHS, 2), Err(9));
-    assert_eq!(number(&line, &PATHS, 4).map(|r| r.references), Ok(2));
+    assert_eq!(number(&line, &PATHS[1..], 4), Err(1));
+    assert_eq!(number(&line, &[0; PATH_WORDS * 4_097], 4), Err(2));
+    assert_eq!(number(&line, &boxed(u32::MAX, 2, 0), 4), Err(3));
+    assert_eq!(number(&line, &boxed(2, 2, 1), 4), Err(4));
+    assert_eq!(number(&line, &[], 4), Err(7));
+    assert_eq!(number(&line, &PATHS, 1), Err(9));
+    assert_eq!(number(&line, &PATHS, 2).map(|r| r.references), Ok(2));
 }
 
 #[test]
 fn sums_slots_and_segments() {
     let mut backdrops = [i32::MAX, 1];
-    let refused = backdrop(&[0, 0, 2, 1, 0], &mut backdrops).unwrap_err();
+    let refused = backdrop(&boxed(2, 1, 0), &mut backdrops).unwrap_err();
     assert_eq!(refused.refusal, Refusal::SumOver);
     let (mut counts, mut tally) = ([1, 0, 1, 0], [0; 4]);
     let refused = hand_out(&mut counts, &mut tally, 1).unwrap_err();
@@ -98,12 +107,45 @@ fn sums_slots_and_segments() {
     hand_out(&mut counts, &mut tally, 2).unwrap();
 
     let (path_nos, coords) = ([0], [8.0, 8.0, 8.0, 24.0]);
-    let mut segments = [0.0; 10];
-    let refs = [0, 0, 0, 1, 0, 9];
-    tile(0, 2, &path_nos, &coords, &PATHS, &counts, &refs, &mut segments).unwrap();
-    assert_eq!(segments[..5], [7.999999, 8.0, 7.999999, 16.0, 1e9]);
-    let refused = tile(2, 3, &path_nos, &coords, &PATHS, &counts, &refs, &mut segments);
+    let (mut segments, mut tags) = ([0.0; 2 * SEGMENT_FLOATS], [5, 5]);
+    let refs = [0, 1, 9].map(|step| Reference { line: 0, slice: 0, step }.words()).concat();
+    tile(0, 1, &path_nos, &coords, &PATHS, &counts, &refs, &mut segments, &mut tags).unwrap();
+    assert_eq!(tags, [BEAM, 5]);
+    tile(1, 2, &path_nos, &coords, &PATHS, &counts, &refs, &mut segments, &mut tags).unwrap();
+    assert_eq!(tags, [BEAM, BEAM]);
+    let first = Segment { point0: [7.999999, 8.0], point1: [7.999999, 16.0], y_edge: Segment::NO_EDGE };
+    assert_eq!(Segment::of(&segments), first);
+    let refused = tile(2, 3, &path_nos, &coords, &PATHS, &counts, &refs, &mut segments, &mut tags);
     assert_eq!(refused.unwrap_err().refusal, Refusal::Outside);
+}
+
+/// Paths 0 and 2 carry one number, path 1 another; line 0 is of path 1, 1 of path 2, 2 of path 0, and each has a tile of its own.
+#[test]
+fn a_tag_is_the_number_of_its_lines_path() {
+    let path = |first, beam| Path { x0: 0, y0: 0, x1: 1, y1: 1, first, beam };
+    let paths = [path(0, 7), path(1, u32::MAX), path(2, 7)].map(Path::words).concat();
+    let (path_nos, coords) = ([1, 2, 0], [8.5, 2.0, 8.5, 6.0].repeat(3));
+    let refs = [0, 1, 2].map(|line| Reference { line, slice: 0, step: 0 }.words()).concat();
+    let asked = |stored: [u32; 3], from: u32, to: u32, slots: usize, tags: usize| {
+        let (mut segments, mut tags) = (vec![0.5; SEGMENT_FLOATS * slots], vec![5; tags]);
+        let answer = tile(from, to, &path_nos, &coords, &paths, &stored, &refs, &mut segments, &mut tags);
+        let written: Vec<bool> =
+            segments.chunks(SEGMENT_FLOATS).map(|s| s != [0.5; SEGMENT_FLOATS]).collect();
+        assert!(answer.is_err_and(|no| no.refusal == Refusal::NotWhole) || written.len() == tags.len());
+        assert!(
+            written.iter().zip(&tags).all(|(written, tag)| *written == (*tag != 5)),
+            "{written:?}, {tags:?}"
+        );
+        (answer.map_or_else(|no| (no.refusal.number(), no.item), |()| (0, 0)), tags)
+    };
+    assert_eq!(asked([!2, !0, !1], 0, 3, 4, 4), ((0, 0), vec![u32::MAX, 7, 7, 5]));
+    assert_eq!(asked([!2, !0, !1], 1, 2, 4, 4), ((0, 0), vec![5, 7, 5, 5]));
+    // a tile with no slot is skipped, one past the room refused: neither slot is touched
+    assert_eq!(asked([!2, 0, !1], 0, 3, 4, 4), ((0, 0), vec![5, 7, 7, 5]));
+    assert_eq!(asked([!2, !0, !4], 0, 3, 4, 4), ((9, 1), vec![u32::MAX, 5, 5, 5]));
+    for tags in [0, 3, 5] {
+        assert_eq!(asked([!2, !0, !1], 0, 3, 4, tags), ((1, 0), vec![5; tags]));
+    }
 }
 
 #[test]
@@ -128,11 +170,22 @@ fn a_screen_and_its_commands() {
 fn a_frame_is_drawn() {
     let coords = [4.0, 0.0, 4.0, 16.0, 12.0, 16.0, 12.0, 0.0];
     let (mut b, mut t, mut y) = ([9; 4], [9; 4], [9; 4]);
-    let (mut refs, mut segments) = ([0; 8], [0.0; 20]);
-    let done = frame(&[0, 0], &coords, &PATHS, &mut b, &mut t, &mut y, &mut refs, &mut segments);
-    assert_eq!(done.unwrap().references, 2);
+    let (mut refs, mut segments, mut tags) = ([0; 4 * REF_WORDS], [0.0; 4 * SEGMENT_FLOATS], [5; 4]);
+    let done = frame(&[0, 0], &coords, &PATHS, &mut b, &mut t, &mut y, &mut refs, &mut segments, &mut tags);
+    assert_eq!((done.unwrap().references, tags), (2, [BEAM, BEAM, 5, 5]));
     let mut words = vec![7; words_needed(2, 2, 1)];
-    write_lists(&PATHS, &[0xffffffff, 0], &b, &t, &y, 2, 2, 4, &mut words).unwrap();
+    write_lists(
+        &PATHS,
+        &Paint { colour: 0xffffffff, even_odd: false }.words(),
+        &b,
+        &t,
+        &y,
+        2,
+        2,
+        4,
+        &mut words,
+    )
+    .unwrap();
     let screen = Screen { width: 32, cols: 2, rows: 2 };
     let mut pixels = [0; 1_024];
     fine(&words, &segments, screen, 0, 4, &mut pixels).unwrap();
@@ -145,12 +198,17 @@ fn a_frame_is_drawn() {
 #[test]
 fn a_frame_says_which_part_refused() {
     let line = [8.0, 8.0, 8.0, 24.0];
-    let stage = |coords: &[f32], tally: usize, refs: usize, slots: usize| {
+    let tagged = |coords: &[f32], tally: usize, refs: usize, slots: usize, tags: usize| {
         let (mut b, mut t, mut y) = ([9; 4], [9; 4], vec![9; tally]);
-        let (mut refs, mut segments) = (vec![0; 2 * refs], vec![0.0; 5 * slots]);
-        frame(&[0], coords, &PATHS, &mut b, &mut t, &mut y, &mut refs, &mut segments)
+        let (mut refs, mut segments) = (vec![0; REF_WORDS * refs], vec![0.0; SEGMENT_FLOATS * slots]);
+        let mut tags = vec![5; tags];
+        frame(&[0], coords, &PATHS, &mut b, &mut t, &mut y, &mut refs, &mut segments, &mut tags)
             .map_err(|s| (s.stage, s.refused.refusal, b[0]))
     };
+    let stage =
+        |coords: &[f32], tally: usize, refs: usize, slots: usize| tagged(coords, tally, refs, slots, slots);
+    assert_eq!(tagged(&line, 4, 2, 2, 3).unwrap_err(), (Stage::Lent, Refusal::NotWhole, 9));
+    assert_eq!(tagged(&line, 4, 2, 2, 1).unwrap_err(), (Stage::Lent, Refusal::NotWhole, 9));
     assert_eq!(stage(&line, 3, 2, 2).unwrap_err(), (Stage::Lent, Refusal::NotWhole, 9));
     assert_eq!(stage(&line, 4, 1, 2).unwrap_err(), (Stage::Count, Refusal::NoRoom, 0));
     assert_eq!(stage(&line, 4, 2, 1).unwrap_err(), (Stage::HandOut, Refusal::NoRoom, 0));
@@ -162,9 +220,10 @@ fn a_frame_says_which_part_refused() {
 #[cfg(feature = "lists")]
 #[test]
 fn lists_are_refused_whole() {
-    let mut words = [7; 64];
+    let mut words = [7; TILE_WORDS];
+    let paint = Paint { colour: 1, even_odd: false }.words();
     let mut number = |tally: u32, stored: u32, room: u32, tiles: u32| {
-        write_lists(&[0, 0, 1, 1, 0], &[1, 0], &[1], &[stored], &[tally], tiles, 1, room, &mut words)
+        write_lists(&boxed(1, 1, 0), &paint, &[1], &[stored], &[tally], tiles, 1, room, &mut words)
             .map_err(|r| r.refusal.number())
     };
     assert_eq!(number(1, !4, 4, 1), Err(9));
@@ -179,7 +238,9 @@ fn lists_are_refused_whole() {
 #[cfg(feature = "pixel")]
 #[test]
 fn one_pixel_is_what_the_tile_has() {
-    let segments = [2.0, 0.0, 13.5, 16.0, 1e9, 13.5, 16.0, 2.0, 4.25, 3.0];
+    let down = Segment { point0: [2.0, 0.0], point1: [13.5, 16.0], y_edge: Segment::NO_EDGE };
+    let up = Segment { point0: [13.5, 16.0], point1: [2.0, 4.25], y_edge: 3.0 };
+    let segments = [down.floats(), up.floats()].concat();
     let of = |even_odd| Fill { first: 0, number: 2, even_odd, backdrop: 1, x_tile: 0.0, y_tile: 0.0 };
     // FILL of both by even-odd, COLOR, then a FILL of the second by non-zero, COLOR
     let words = [0, 1, 5, 0, 1, 3, 0x204060ff, 1, 2, 1, 0, 3, 0x80ff0180, 0];
@@ -224,8 +285,9 @@ fn twenty_at_every_border() {
     let words = [0, 1, 6, 0, 0, 3, 0xffff_ffff, 0];
     let screen = Screen { width: 16, cols: 1, rows: 1 };
     let asked = |at: usize, v: f32| {
-        let mut segments = [1.0, 2.0, 3.0, 4.0, 1e9].repeat(3);
-        segments[5 + at] = v;
+        let straight = Segment { point0: [1.0, 2.0], point1: [3.0, 4.0], y_edge: Segment::NO_EDGE };
+        let mut segments = straight.floats().repeat(3);
+        segments[SEGMENT_FLOATS + at] = v;
         let (mut area, mut pixels) = ([7.0; 256], [7; 256]);
         let number = |r: Result<(), Refused>| r.map_or_else(|no| no.refusal.number(), |()| 0);
         let all = [
@@ -242,12 +304,13 @@ fn twenty_at_every_border() {
         let kept = area == [7.0; 256] && pixels == [7; 256];
         (all, kept)
     };
-    for at in 0..4 {
+    let y_edge = SEGMENT_FLOATS - 1; // the ends stand before it
+    for at in 0..y_edge {
         within.iter().for_each(|&v| assert_eq!(asked(at, v), ([0; 4], false), "float {at}: {v}"));
         outside.iter().for_each(|&v| assert_eq!(asked(at, v), ([20; 4], true), "float {at}: {v}"));
     }
-    edges.iter().for_each(|&v| assert_eq!(asked(4, v), ([20; 4], true), "y_edge {v}"));
-    [-f32::MAX, f32::MAX].iter().for_each(|&v| assert_eq!(asked(4, v), ([0; 4], false), "y_edge {v}"));
+    edges.iter().for_each(|&v| assert_eq!(asked(y_edge, v), ([20; 4], true), "y_edge {v}"));
+    [-f32::MAX, f32::MAX].iter().for_each(|&v| assert_eq!(asked(y_edge, v), ([0; 4], false), "y_edge {v}"));
 }
 
 #[cfg(feature = "picture")]

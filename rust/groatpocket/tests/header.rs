@@ -119,11 +119,48 @@ fn widths_and_commands() {
         assert_eq!(header[name] as usize, width, "{name}");
         assert!(code.get(name).is_none_or(|&w| w as usize == width), "{name}");
     }
+    let range = numbers(&text("crates/panel/src/widths.rt"), "pub const ", ": u32 = ");
+    assert_eq!((header["STEP_RANGE"], range["STEP_RANGE"]), (STEP_RANGE, STEP_RANGE));
     let commands = numbers(&commands, "pub const ", ": u32 = ");
     assert_eq!(commands.len(), 5);
     for (name, number) in commands {
         assert_eq!(header[&format!("CMD_{name}")], number, "{name}");
     }
+}
+
+/// Where a record's words stand: the header's places are those of this crate's records, and of the proved code wherever it names them.
+#[test]
+fn places() {
+    let (header, code) = (header(), numbers(&text("crates/panel/src/widths.rt"), "pub const ", ": usize = "));
+    let path = Path { x0: 10, y0: 11, x1: 12, y1: 13, first: 14, beam: 15 }.words().to_vec();
+    let reference = Reference { line: 20, slice: 0, step: 21 }.words().to_vec();
+    let paint = Paint { colour: 30, even_odd: true }.words().to_vec();
+    let places = [
+        ("PATH_X0", &path, 10),
+        ("PATH_Y0", &path, 11),
+        ("PATH_X1", &path, 12),
+        ("PATH_Y1", &path, 13),
+        ("PATH_FIRST", &path, 14),
+        ("PATH_BEAM", &path, 15),
+        ("REF_LINE", &reference, 20),
+        ("REF_PACKED", &reference, 21),
+        ("PAINT_COLOUR", &paint, 30),
+        ("PAINT_RULE", &paint, 1),
+    ];
+    for (name, words, word) in places {
+        assert_eq!(words[header[name] as usize], word, "{name}");
+        assert!(code.get(name).is_none_or(|&place| place == header[name]), "{name}");
+    }
+    let named = |prefix: &str, names: &BTreeMap<String, u32>| {
+        names.keys().filter(|n| n.starts_with(prefix) && !n.ends_with("_WORDS")).count()
+    };
+    assert_eq!((named("PATH_", &header), named("PATH_", &code)), (path.len(), path.len()));
+    assert_eq!((named("REF_", &header), named("PAINT_", &header)), (reference.len(), paint.len()));
+    let segment = Segment { point0: [1.0, 2.0], point1: [3.0, 4.0], y_edge: 5.0 }.floats();
+    assert_eq!(
+        (segment[header["SEGMENT_Y_EDGE"] as usize], segment.map(|v| v as u32)),
+        (5.0, [1, 2, 3, 4, 5])
+    );
 }
 
 #[cfg(feature = "frame")]

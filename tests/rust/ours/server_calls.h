@@ -50,7 +50,7 @@ extern uint32_t gp_backdrop(const uint32_t *paths, size_t paths_len, int32_t *ba
 extern uint32_t gp_hand_out(uint32_t *counts, size_t counts_len, uint32_t *tally, size_t tally_len, uint32_t room);
 #endif
 #ifdef HAS_TILE
-extern uint32_t gp_tile(const uint32_t *path_nos, size_t path_nos_len, const float *coords, size_t coords_len, const uint32_t *paths, size_t paths_len, const uint32_t *stored, size_t stored_len, const uint32_t *refs, size_t refs_len, uint32_t from, uint32_t to, float *segments, size_t segments_len, uint32_t *item);
+extern uint32_t gp_tile(const uint32_t *path_nos, size_t path_nos_len, const float *coords, size_t coords_len, const uint32_t *paths, size_t paths_len, const uint32_t *stored, size_t stored_len, const uint32_t *refs, size_t refs_len, uint32_t from, uint32_t to, float *segments, size_t segments_len, uint32_t *tags, size_t tags_len, uint32_t *item);
 #endif
 #ifdef HAS_FILL
 extern uint32_t gp_fill(const float *segments, size_t segments_len, uint32_t first, uint32_t number, uint32_t even_odd, int32_t backdrop, float x_tile, float y_tile, float *area, size_t area_len);
@@ -59,7 +59,7 @@ extern uint32_t gp_fill(const float *segments, size_t segments_len, uint32_t fir
 extern uint32_t gp_fine(const uint32_t *words, size_t words_len, const float *segments, size_t segments_len, uint32_t width, uint32_t cols, uint32_t rows, uint32_t from, uint32_t to, uint32_t *pixels, size_t pixels_len, uint32_t *item);
 #endif
 #ifdef HAS_FRAME
-extern uint32_t gp_frame(const uint32_t *path_nos, size_t path_nos_len, const float *coords, size_t coords_len, const uint32_t *paths, size_t paths_len, int32_t *backdrops, size_t backdrops_len, uint32_t *stored, size_t stored_len, uint32_t *tally, size_t tally_len, uint32_t *refs, size_t refs_len, float *segments, size_t segments_len, uint32_t *stage, uint32_t *item, uint32_t *lines, uint32_t *made);
+extern uint32_t gp_frame(const uint32_t *path_nos, size_t path_nos_len, const float *coords, size_t coords_len, const uint32_t *paths, size_t paths_len, int32_t *backdrops, size_t backdrops_len, uint32_t *stored, size_t stored_len, uint32_t *tally, size_t tally_len, uint32_t *refs, size_t refs_len, float *segments, size_t segments_len, uint32_t *tags, size_t tags_len, uint32_t *stage, uint32_t *item, uint32_t *lines, uint32_t *made);
 #endif
 #ifdef HAS_LISTS
 extern uint32_t gp_write_lists(const uint32_t *paths, size_t paths_len, const uint32_t *paints, size_t paints_len, const int32_t *backdrops, size_t backdrops_len, const uint32_t *stored, size_t stored_len, const uint32_t *tally, size_t tally_len, uint32_t cols, uint32_t rows, uint32_t room, uint32_t *words, size_t words_len, uint32_t *item);
@@ -109,7 +109,7 @@ static uint32_t run(uint32_t which) {
 #endif
 #ifdef HAS_TILE
     case 4: { /* tile */
-        uint32_t answer = gp_tile(SLICE(0, uint32_t), SLICE(1, float), SLICE(2, uint32_t), SLICE(3, uint32_t), SLICE(4, uint32_t), (uint32_t)n[0], (uint32_t)n[1], SLICE(5, float), &n[2]);
+        uint32_t answer = gp_tile(SLICE(0, uint32_t), SLICE(1, float), SLICE(2, uint32_t), SLICE(3, uint32_t), SLICE(4, uint32_t), (uint32_t)n[0], (uint32_t)n[1], SLICE(5, float), SLICE(6, uint32_t), &n[2]);
         return answer;
     }
 #endif
@@ -127,7 +127,7 @@ static uint32_t run(uint32_t which) {
 #endif
 #ifdef HAS_FRAME
     case 7: { /* frame */
-        uint32_t answer = gp_frame(SLICE(0, uint32_t), SLICE(1, float), SLICE(2, uint32_t), SLICE(3, int32_t), SLICE(4, uint32_t), SLICE(5, uint32_t), SLICE(6, uint32_t), SLICE(7, float), &n[0], &n[1], &n[2], &n[3]);
+        uint32_t answer = gp_frame(SLICE(0, uint32_t), SLICE(1, float), SLICE(2, uint32_t), SLICE(3, int32_t), SLICE(4, uint32_t), SLICE(5, uint32_t), SLICE(6, uint32_t), SLICE(7, float), SLICE(8, uint32_t), &n[0], &n[1], &n[2], &n[3]);
         return answer;
     }
 #endif

@@ -39,11 +39,13 @@ uint32_t __wrap_gp_hand_out(uint32_t *counts, size_t counts_len, uint32_t *tally
     return answer;
 }
 
-uint32_t __real_gp_tile(const uint32_t *path_nos, size_t path_nos_len, const float *coords, size_t coords_len, const uint32_t *paths, size_t paths_len, const uint32_t *stored, size_t stored_len, const uint32_t *refs, size_t refs_len, uint32_t from, uint32_t to, float *segments, size_t segments_len, uint32_t *item);
-uint32_t __wrap_gp_tile(const uint32_t *path_nos, size_t path_nos_len, const float *coords, size_t coords_len, const uint32_t *paths, size_t paths_len, const uint32_t *stored, size_t stored_len, const uint32_t *refs, size_t refs_len, uint32_t from, uint32_t to, float *segments, size_t segments_len, uint32_t *item) {
-    uint32_t answer = __real_gp_tile(path_nos, path_nos_len, coords, coords_len, paths, paths_len, stored, stored_len, refs, refs_len, from, to, segments, segments_len, item);
+uint32_t __real_gp_tile(const uint32_t *path_nos, size_t path_nos_len, const float *coords, size_t coords_len, const uint32_t *paths, size_t paths_len, const uint32_t *stored, size_t stored_len, const uint32_t *refs, size_t refs_len, uint32_t from, uint32_t to, float *segments, size_t segments_len, uint32_t *tags, size_t tags_len, uint32_t *item);
+uint32_t __wrap_gp_tile(const uint32_t *path_nos, size_t path_nos_len, const float *coords, size_t coords_len, const uint32_t *paths, size_t paths_len, const uint32_t *stored, size_t stored_len, const uint32_t *refs, size_t refs_len, uint32_t from, uint32_t to, float *segments, size_t segments_len, uint32_t *tags, size_t tags_len, uint32_t *item) {
+    uint32_t answer = __real_gp_tile(path_nos, path_nos_len, coords, coords_len, paths, paths_len, stored, stored_len, refs, refs_len, from, to, segments, segments_len, tags, tags_len, item);
     if (strikes("tile segments", answer == 0 && segments_len > 0)) flip(segments + segments_len / 2);
     if (strikes("tile segments refused", answer != 0 && segments_len > 0)) flip(segments + segments_len / 2);
+    if (strikes("tile tags", answer == 0 && tags_len > 0)) flip(tags + tags_len / 2);
+    if (strikes("tile tags refused", answer != 0 && tags_len > 0)) flip(tags + tags_len / 2);
     if (strikes("tile item", answer != 0)) *item += 1;
     if (strikes("tile answer", 1)) answer ^= 1;
     return answer;
@@ -68,9 +70,9 @@ uint32_t __wrap_gp_fine(const uint32_t *words, size_t words_len, const float *se
     return answer;
 }
 
-uint32_t __real_gp_frame(const uint32_t *path_nos, size_t path_nos_len, const float *coords, size_t coords_len, const uint32_t *paths, size_t paths_len, int32_t *backdrops, size_t backdrops_len, uint32_t *stored, size_t stored_len, uint32_t *tally, size_t tally_len, uint32_t *refs, size_t refs_len, float *segments, size_t segments_len, uint32_t *stage, uint32_t *item, uint32_t *lines, uint32_t *made);
-uint32_t __wrap_gp_frame(const uint32_t *path_nos, size_t path_nos_len, const float *coords, size_t coords_len, const uint32_t *paths, size_t paths_len, int32_t *backdrops, size_t backdrops_len, uint32_t *stored, size_t stored_len, uint32_t *tally, size_t tally_len, uint32_t *refs, size_t refs_len, float *segments, size_t segments_len, uint32_t *stage, uint32_t *item, uint32_t *lines, uint32_t *made) {
-    uint32_t answer = __real_gp_frame(path_nos, path_nos_len, coords, coords_len, paths, paths_len, backdrops, backdrops_len, stored, stored_len, tally, tally_len, refs, refs_len, segments, segments_len, stage, item, lines, made);
+uint32_t __real_gp_frame(const uint32_t *path_nos, size_t path_nos_len, const float *coords, size_t coords_len, const uint32_t *paths, size_t paths_len, int32_t *backdrops, size_t backdrops_len, uint32_t *stored, size_t stored_len, uint32_t *tally, size_t tally_len, uint32_t *refs, size_t refs_len, float *segments, size_t segments_len, uint32_t *tags, size_t tags_len, uint32_t *stage, uint32_t *item, uint32_t *lines, uint32_t *made);
+uint32_t __wrap_gp_frame(const uint32_t *path_nos, size_t path_nos_len, const float *coords, size_t coords_len, const uint32_t *paths, size_t paths_len, int32_t *backdrops, size_t backdrops_len, uint32_t *stored, size_t stored_len, uint32_t *tally, size_t tally_len, uint32_t *refs, size_t refs_len, float *segments, size_t segments_len, uint32_t *tags, size_t tags_len, uint32_t *stage, uint32_t *item, uint32_t *lines, uint32_t *made) {
+    uint32_t answer = __real_gp_frame(path_nos, path_nos_len, coords, coords_len, paths, paths_len, backdrops, backdrops_len, stored, stored_len, tally, tally_len, refs, refs_len, segments, segments_len, tags, tags_len, stage, item, lines, made);
     if (strikes("frame backdrops", answer == 0 && backdrops_len > 0)) flip(backdrops + backdrops_len / 2);
     if (strikes("frame backdrops refused", answer != 0 && backdrops_len > 0)) flip(backdrops + backdrops_len / 2);
     if (strikes("frame stored", answer == 0 && stored_len > 0)) flip(stored + stored_len / 2);
@@ -81,6 +83,8 @@ uint32_t __wrap_gp_frame(const uint32_t *path_nos, size_t path_nos_len, const fl
     if (strikes("frame refs refused", answer != 0 && refs_len > 0)) flip(refs + refs_len / 2);
     if (strikes("frame segments", answer == 0 && segments_len > 0)) flip(segments + segments_len / 2);
     if (strikes("frame segments refused", answer != 0 && segments_len > 0)) flip(segments + segments_len / 2);
+    if (strikes("frame tags", answer == 0 && tags_len > 0)) flip(tags + tags_len / 2);
+    if (strikes("frame tags refused", answer != 0 && tags_len > 0)) flip(tags + tags_len / 2);
     if (strikes("frame stage", answer != 0)) *stage += 1;
     if (strikes("frame item", answer != 0)) *item += 1;
     if (strikes("frame lines", 1)) *lines += 1;

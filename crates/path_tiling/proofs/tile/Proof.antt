@@ -21,15 +21,18 @@ enum-told : tie.Need-enum-told
 enum-told c = search needs
 
 tile-checked-requires : tie.Need-tile-checked-requires
-tile-checked-requires c κs = sym (c .before .before .before .check-paths .ensures) ∙ c .before .enum-told .given .1
+tile-checked-requires c κs = sym (c .before .before .before .before .check-paths .ensures) ∙ c .before .before .enum-told .given .1
 
 same-length : tie.Need-same-length
 same-length c = search needs
 
+same-length-2 : tie.Need-same-length-2
+same-length-2 c = search needs
+
 returns-3 : tie.Need-returns-3
-returns-3 c = c .before .before .tile-checked .ensures
+returns-3 c = c .before .before .before .before .tile-checked .ensures
 
 pub tile-spec : {M : Type 1} → statement M
 tile-spec =
     tie.close
-    (tie.spec (λ c κs. tt) returns (λ c κs. tt) enum-known-checked returns-2 enum-told tile-checked-requires same-length returns-3)
+    (tie.spec (λ c κs. tt) returns (λ c κs. tt) enum-known-checked returns-2 enum-told tile-checked-requires same-length same-length-2 returns-3)

@@ -1,55 +1,67 @@
--- `path_tiling::tile_run` meets its contract. The loop's invariant, `Running`: what is left of the run from reference k on, on the segments as they are
--- now, is what the run comes to. The measure is what is left of the references. Assumes nothing.
+-- `path_tiling::tile_run` meets its contract. The loop's invariant, `Running`: what is left of the run from reference k on, on the segments and tags as
+-- they are now, is what the run comes to. The measure is what is left of the references. Assumes nothing.
 use Prim.Native.Nat.{_-_}
 use native.Mathlib.Nat.{le-refl}
 use native.Mathlib.Omega.{arith}
-use mathlib.Core.Path.{_≡_, refl}
+use mathlib.Core.Path.{_≡_, refl, _∙_}
 use borrow.Author.Tests.{eq-eqb, ne-eqb}
+use Rattle.panel.specs.Pieces.{pieces}
+use Rattle.path_tiling.proofs.RangeLaws.{long-self}
 use Rattle.path_tiling.proofs.RunLaws.{Running, turned, stopped, other, over}
 use borrow.Author.Needs.{needs}
 use Rattle.path_tiling.proofs.tile_run.Statement.{statement}
 use Rattle.path_tiling.proofs.tile_run.Tie as tie
 
 abbrev Inv-loop : tie.InvT-loop
-Inv-loop found line from to stored refs slots segments₀ k₀ segments k = Running stored slots refs found (line .0) from to segments₀ segments k
+Inv-loop found tag line from to stored refs slots segments₀ tags₀ k₀ segments tags k =
+    Running stored slots refs found tag (line .0) from to (pieces segments₀ tags₀) (pieces segments tags) k
 
 abbrev μ-loop : tie.MeasureT-loop
-μ-loop found line from to stored refs slots segments₀ k₀ segments k = to - k
+μ-loop found tag line from to stored refs slots segments₀ tags₀ k₀ segments tags k = to - k
 
 loop-holds : tie.Need-loop-holds Inv-loop μ-loop
-loop-holds c = record { low = le-refl _; high = c .before .before .before .pre .2; long = refl; left = refl }
+loop-holds c = record { low = le-refl _; high = c .before .before .before .before .pre .3; long = long-self _; left = refl }
 
 named-at-requires : tie.Need-named-at-requires Inv-loop μ-loop
-named-at-requires c κs = omega (arith, c .before .before .before .before .before .pre .3, c .loop-test .taken)
+named-at-requires c κs = omega (arith, c .before .before .before .before .before .before .pre .4, c .loop-test .taken)
 
 same-length : tie.Need-same-length Inv-loop μ-loop
-same-length c = search needs
+same-length c = c .before .before .before .before .loop .inv .long .segments
+
+same-length-2 : tie.Need-same-length-2 Inv-loop μ-loop
+same-length-2 c = c .before .before .before .before .loop .inv .long .tags
 
 returns : tie.Need-returns Inv-loop μ-loop
-returns c = other _ _ _ _ _ _ _ _ _ _ (c .before .before .before .before .loop .inv) (c .before .before .before .loop-test .taken)
-    (ne-eqb _ _ (rw (c .before .before .named-at .ensures) at (c .if1 .taken)))
+returns c = other _ _ _ _ _ _ _ _ _ _ _ (c .before .before .before .before .loop .inv) (c .before .before .before .loop-test .taken) (ne-eqb _ _
+    (rw (c .before .before .named-at .ensures) at (c .if1 .taken)))
 
 packed-at-requires : tie.Need-packed-at-requires Inv-loop μ-loop
-packed-at-requires c κs = omega (arith, c .before .before .before .before .before .before .before .before .pre .3, c .before .before .before .loop-test .taken)
+packed-at-requires c κs = omega (arith, c .before .before .before .before .before .before .before .before .before .pre .4, c .before .before .before .loop-test .taken)
 
 tile-one-requires : tie.Need-tile-one-requires Inv-loop μ-loop
 tile-one-requires c κs =
-    let s = c .before .before .before .before .before .before .before .before .before .before in
-    (s .pre .0, omega (arith, s .pre .1, c .before .before .before .before .before .before .loop .inv .long))
+    let p = c .before .before .before .before .before .before .before .before .before .before .before .before .pre in
+    let l = c .before .before .before .before .before .before .before .loop .inv .long in
+    (p .0, omega (arith, p .1, l .segments), omega (arith, p .2, l .tags))
 
 enum-known-v : tie.Need-enum-known-v Inv-loop μ-loop
 enum-known-v c = search needs
 
-same-length-2 : tie.Need-same-length-2 Inv-loop μ-loop
-same-length-2 c = search needs
+same-length-3 : tie.Need-same-length-3 Inv-loop μ-loop
+same-length-3 c = c .before .before .before .before .before .before .segments .given
+    ∙ c .before .before .before .before .before .before .before .before .before .before .before .before .before .before .before .loop .inv .long .segments
+
+same-length-4 : tie.Need-same-length-4 Inv-loop μ-loop
+same-length-4 c = c .before .before .before .before .tags .given
+    ∙ c .before .before .before .before .before .before .before .before .before .before .before .before .before .before .before .loop .inv .long .tags
 
 returns-2 : tie.Need-returns-2 Inv-loop μ-loop
-returns-2 c = stopped _ _ _ _ _ _ _ _ _ _ (c .before .before .before .before .before .before .before .before .before .before .before .before .loop .inv) _ _ _
-    (c .before .before .before .before .before .before .before .before .before .before .before .loop-test .taken)
-    (eq-eqb _ _ (rw (c .before .before .before .before .before .before .before .before .before .before .named-at .ensures) at
-    (c .before .before .before .before .before .before .before .before .if1 .left)))
-    (rw (c .before .before .before .before .before .before .before .packed-at .ensures) at (c .before .before .before .before .before .tile-one .ensures))
-    (c .before .v .given .1)
+returns-2 c =
+    let s = c .before .before .before .before .before .before .before .before .before .before .before .before .before in
+    let t = c .before .before .before .before .before .before .before in
+    stopped _ _ _ _ _ _ _ _ _ _ _ (s .before .before .loop .inv) _ _ _ (s .before .loop-test .taken)
+    (eq-eqb _ _ (rw (s .named-at .ensures) at (c .before .before .before .before .before .before .before .before .before .before .before .if1 .left)))
+    (rw (c .before .before .before .before .before .before .before .before .before .before .packed-at .ensures) at (t .tile-one .ensures)) (c .before .v .given .1)
 
 enum-told : tie.Need-enum-told Inv-loop μ-loop
 enum-told c = search needs
@@ -61,18 +73,21 @@ loop-less : tie.Need-loop-less Inv-loop μ-loop
 loop-less c = omega arith
 
 loop-again : tie.Need-loop-again Inv-loop μ-loop
-loop-again c = turned _ _ _ _ _ _ _ _ _ _ (c .before .before .before .before .before .before .before .before .before .before .before .loop .inv) _ _
-    (c .before .before .before .before .before .before .before .before .before .before .loop-test .taken)
-    (eq-eqb _ _ (rw (c .before .before .before .before .before .before .before .before .before .named-at .ensures) at
-    (c .before .before .before .before .before .before .before .if1 .left)))
-    (rw (c .before .before .before .before .before .before .packed-at .ensures) at (c .before .before .before .before .tile-one .ensures))
-    (c .enum-told .given .1)
+loop-again c =
+    let s = c .before .before .before .before .before .before .before .before .before .before .before .before in
+    let t = c .before .before .before .before .before .before in
+    turned _ _ _ _ _ _ _ _ _ _ _ (s .before .before .loop .inv) _ _ (s .before .loop-test .taken)
+    (eq-eqb _ _ (rw (s .named-at .ensures) at (c .before .before .before .before .before .before .before .before .before .before .if1 .left)))
+    (rw (c .before .before .before .before .before .before .before .before .before .packed-at .ensures) at (t .tile-one .ensures)) (c .enum-told .given .1)
 
-same-length-3 : tie.Need-same-length-3 Inv-loop μ-loop
-same-length-3 c = search needs
+same-length-5 : tie.Need-same-length-5 Inv-loop μ-loop
+same-length-5 c = c .before .loop .inv .long .segments
+
+same-length-6 : tie.Need-same-length-6 Inv-loop μ-loop
+same-length-6 c = c .before .loop .inv .long .tags
 
 returns-3 : tie.Need-returns-3 Inv-loop μ-loop
-returns-3 c = over _ _ _ _ _ _ _ _ _ _ (c .before .loop .inv) (c .loop-test .left)
+returns-3 c = over _ _ _ _ _ _ _ _ _ _ _ (c .before .loop .inv) (c .loop-test .left)
 
 pub tile-run-spec : {M : Type 1} → statement M
 tile-run-spec =
@@ -83,15 +98,18 @@ tile-run-spec =
     loop-holds
     named-at-requires
     same-length
+    same-length-2
     returns
     packed-at-requires
     tile-one-requires
     enum-known-v
-    same-length-2
+    same-length-3
+    same-length-4
     returns-2
     enum-told
     add-k
     loop-less
     loop-again
-    same-length-3
+    same-length-5
+    same-length-6
     returns-3)

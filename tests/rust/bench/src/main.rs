@@ -29,6 +29,20 @@ pub fn measured(units: usize, rounds: usize, mut rust: impl FnMut() -> f64, mut 
     Times { rust: median(theirs) * each, ours: median(mine) * each }
 }
 
+/// Median seconds of each of several forms, run in turn.
+pub fn in_turn<const N: usize>(rounds: usize, mut forms: [&mut dyn FnMut() -> f64; N]) -> [f64; N] {
+    let mut times = [(); N].map(|_| vec![]);
+    for round in 0..=rounds {
+        for (form, all) in forms.iter_mut().zip(&mut times) {
+            let seconds = form();
+            if round > 0 {
+                all.push(seconds);
+            }
+        }
+    }
+    times.map(median)
+}
+
 /// One row: a stage at its sizes, the smallest first.
 pub fn row<S: Display>(what: &str, unit: &str, sizes: &[S], times: &[Times]) {
     let all = |each: &dyn Fn(&Times) -> String| times.iter().map(each).collect::<Vec<_>>().join(" / ");
@@ -81,7 +95,9 @@ fn main() {
         beside_the_rust(rounds);
     }
     if ours::has::RECOUNT && ours::has::COUNT && wanted("recount") {
-        println!("\n| One path beside a frame of 64 | Lines of each | the frame's count, ns | the recount, ns | ratio | 64 ratios |\n|---|---|---|---|---|---|");
+        println!(
+            "\n| One path of a frame of 64 | Lines of each | the frame's count, ns | the path's count, ns | the recount, ns | its range, ns | recount to frame | less its range, to count |\n|---|---|---|---|---|---|---|---|"
+        );
         stages::recount(rounds);
     }
     if ours::has::LISTS && wanted("lists") {
@@ -89,7 +105,9 @@ fn main() {
         stages::lists(rounds);
     }
     if ours::has::PIXEL && ours::has::FINE && wanted("pixel") {
-        println!("\n| One pixel beside a whole tile by fine | Fills | a tile, ns | a pixel, ns | ratio | 256 ratios |\n|---|---|---|---|---|---|");
+        println!(
+            "\n| One pixel beside a whole tile by fine | Fills | a tile, ns | a pixel, ns | reading, ns | its sums in plain Rust, ns | pixel to tile | less reading, 256 times |\n|---|---|---|---|---|---|---|---|"
+        );
         stages::pixel(rounds);
     }
 }

@@ -2,8 +2,8 @@
 
 use cases::Rng;
 use oracle::{PathSegment, SegmentCount, Tile};
-use rules::limits::SEGMENT;
-use rules::records::path;
+use rules::limits::{LINE, REF};
+use rules::records::{self, path, Line};
 
 pub const COLS: u32 = 50;
 pub const ROWS: u32 = 40;
@@ -32,7 +32,7 @@ pub struct Scene {
     pub room: usize,
 }
 
-fn line(rng: &mut Rng, kind: Kind) -> [f32; 4] {
+fn line(rng: &mut Rng, kind: Kind) -> Line {
     let (w, h) = (16.0 * COLS as f32, 16.0 * ROWS as f32);
     let inside = |rng: &mut Rng| [rng.between(0.0, w), rng.between(0.0, h)];
     let near = |rng: &mut Rng, most: f32| {
@@ -59,7 +59,7 @@ impl Scene {
         let mut rng = Rng::new(n as u64 + 1);
         let paths = path([0, 0, COLS, ROWS], 0).to_vec();
         let mut scene = Scene { path_nos: vec![0; n], coords: vec![], paths, tiles: (COLS * ROWS) as usize, room: 0 };
-        while scene.coords.len() < 4 * n {
+        while scene.coords.len() < LINE * n {
             let line = line(&mut rng, kind);
             let (number, made) = scene.alone(&line);
             if number == 0 {
@@ -70,8 +70,8 @@ impl Scene {
         scene
     }
 
-    fn alone(&self, line: &[f32; 4]) -> (u32, u32) {
-        let (mut b, mut c, mut r) = (vec![0; self.tiles], vec![0; self.tiles], vec![0; 400]);
+    fn alone(&self, line: &Line) -> (u32, u32) {
+        let (mut b, mut c, mut r) = (vec![0; self.tiles], vec![0; self.tiles], vec![0; REF * 200]);
         let (mut lines, mut made, mut item) = (0, 0, 0);
         let number = rules::count(&[0], line, &self.paths, &mut b, &mut c, &mut r, 1, &mut lines, &mut made, &mut item);
         (number, made)
@@ -88,7 +88,7 @@ impl Scene {
         let mut stored: Vec<u32> = tiles.iter().map(|t| t.segment_count_or_ix).collect();
         let mut tally = stored.clone();
         assert_eq!(rules::hand_out(&mut stored, &mut tally, self.room as u32), 0);
-        let refs = records.iter().flat_map(|r| [r.line_ix, r.counts]).collect();
+        let refs = records.iter().flat_map(oracle::words_of).collect();
         Counted { refs, stored, records }
     }
 }
@@ -103,13 +103,12 @@ pub struct Counted {
 pub fn segments(rng: &mut Rng, n: usize) -> Vec<f32> {
     (0..n)
         .flat_map(|_| {
-            let mut s = [0; 4].map(|_| rng.between(0.0, 16.0));
+            let (mut p, q) = ([0; 2].map(|_| rng.between(0.0, 16.0)), [0; 2].map(|_| rng.between(0.0, 16.0)));
             let mut edge = 1e9;
             if rng.one_in(6) {
-                s[0] = 0.0;
-                edge = s[1];
+                (p[0], edge) = (0.0, p[1]);
             }
-            [s[0], s[1], s[2], s[3], edge]
+            records::segment(p, q, edge)
         })
         .collect()
 }
@@ -117,8 +116,7 @@ pub fn segments(rng: &mut Rng, n: usize) -> Vec<f32> {
 /// The same segments at a tile's place on the screen, for the Rust, which subtracts the tile's origin.
 pub fn moved(segments: &[f32], x: f32, y: f32) -> Vec<PathSegment> {
     let edge = |e: f32| if e < 1e9 { e + y } else { e };
-    segments
-        .chunks_exact(SEGMENT)
-        .map(|s| PathSegment { point0: [s[0] + x, s[1] + y], point1: [s[2] + x, s[3] + y], y_edge: edge(s[4]), _padding: 0 })
-        .collect()
+    let at = |p: [f32; 2]| [p[0] + x, p[1] + y];
+    let placed = |s: PathSegment| PathSegment { point0: at(s.point0), point1: at(s.point1), y_edge: edge(s.y_edge), _padding: 0 };
+    oracle::segments_of(segments).into_iter().map(placed).collect()
 }

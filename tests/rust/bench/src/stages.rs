@@ -1,13 +1,13 @@
 //! One function for each stage.
 
 use crate::scenes::{moved, segments, Kind, Scene, KINDS};
-use crate::{measured, row, timed, Times};
+use crate::{in_turn, measured, row, timed, Times};
 use cases::commands::{Command, OURS, RUST};
 use cases::memory::one_zero;
 use cases::Rng;
 use oracle::{BumpAllocators, PathSegment, SegmentCount, Tile};
-use rules::limits::{REF, SEGMENT};
-use rules::records::{box_at, path};
+use rules::limits::{LINE, REF, REGION, SEGMENT};
+use rules::records::{beam_at, box_at, paint, path, segments_in};
 use std::hint::black_box;
 
 /// The sizes that show the growth.
@@ -117,7 +117,7 @@ fn count_scene(kind: Kind, n: usize, rounds: usize) -> Times {
     );
     assert!(tiles.iter().map(|t| t.backdrop).eq(backs.iter().copied()));
     assert!(tiles.iter().map(|t| t.segment_count_or_ix).eq(counts.iter().copied()));
-    assert!(records.iter().flat_map(|r| [r.line_ix, r.counts]).eq(refs.iter().copied()));
+    assert!(records.iter().flat_map(oracle::words_of).eq(refs.iter().copied()));
     times
 }
 
@@ -134,7 +134,7 @@ fn tile_scene(kind: Kind, n: usize, rounds: usize) -> Times {
     let paths = oracle::paths_of(&scene.paths);
     let tiles: Vec<Tile> = counted.stored.iter().map(|&i| Tile { backdrop: 0, segment_count_or_ix: i }).collect();
     let mut records = vec![PathSegment::default(); scene.room];
-    let mut mine = vec![0.0f32; SEGMENT * scene.room];
+    let (mut mine, mut tags) = (vec![0.0f32; SEGMENT * scene.room], vec![0; scene.room]);
     let all = scene.room as u32;
     let times = measured(
         scene.room,
@@ -146,18 +146,20 @@ fn tile_scene(kind: Kind, n: usize, rounds: usize) -> Times {
         },
         || {
             mine.fill(0.0);
+            tags.fill(0);
+            let (s, c) = (&scene, &counted);
             timed(|| {
-                let no = ours::tile(&scene.path_nos, &scene.coords, &scene.paths, &counted.stored, &counted.refs, 0, all, &mut mine, &mut 0);
+                let no = ours::tile(&s.path_nos, &s.coords, &s.paths, &c.stored, &c.refs, 0, all, &mut mine, &mut tags, &mut 0);
                 assert_eq!(no, 0);
             })
         },
     );
-    assert!(same_segments(&records, &mine));
+    assert!(same_segments(&records, &mine) && tags.iter().all(|&tag| tag == beam_at(&scene.paths, 0)));
     times
 }
 
 fn same_segments(theirs: &[PathSegment], mine: &[f32]) -> bool {
-    let theirs = theirs.iter().flat_map(|r| [r.point0[0], r.point0[1], r.point1[0], r.point1[1], r.y_edge]);
+    let theirs = theirs.iter().flat_map(oracle::floats_of);
     theirs.map(f32::to_bits).eq(mine.iter().map(|v| v.to_bits()))
 }
 
@@ -196,17 +198,17 @@ pub fn fine(rounds: usize) {
 fn fine_screen(cols: u32, rows: u32, rounds: usize) -> Times {
     let tiles = cols * rows;
     let mut rng = Rng::new(tiles as u64);
-    let (mut words, mut theirs) = (vec![0; 64 * tiles as usize], vec![0; 64 * tiles as usize]);
+    let (mut words, mut theirs) = (vec![0; REGION * tiles as usize], vec![0; REGION * tiles as usize]);
     let (mut list, mut records): (Vec<f32>, Vec<PathSegment>) = (vec![], vec![]);
     for t in 0..tiles {
-        let start = 64 * t as usize + 1;
+        let start = REGION * t as usize + 1;
         let (mut at, mut their_at) = (start, start);
         let mut put = |command: Command| {
             at = OURS.put(&mut words, at, command, 0);
             their_at = RUST.put(&mut theirs, their_at, command, 0);
         };
         for (k, n) in FILLS.into_iter().enumerate() {
-            let first = (list.len() / SEGMENT) as u32;
+            let first = segments_in(&list) as u32;
             let more = segments(&mut rng, n as usize);
             records.extend(moved(&more, 16.0 * (t % cols) as f32, 16.0 * (t / cols) as f32));
             list.extend(more);
@@ -253,7 +255,7 @@ fn frame_scene(kind: Kind, n: usize, rounds: usize) -> Times {
     let mut refs = vec![SegmentCount::default(); scene.room];
     let mut records = vec![PathSegment::default(); scene.room];
     let (mut backs, mut stored, mut tally) = (vec![0; scene.tiles], vec![0; scene.tiles], vec![0; scene.tiles]);
-    let (mut mine_refs, mut mine) = (vec![0; REF * scene.room], vec![0.0f32; SEGMENT * scene.room]);
+    let (mut mine_refs, mut mine, mut tags) = (vec![0; REF * scene.room], vec![0.0f32; SEGMENT * scene.room], vec![0; scene.room]);
     let times = measured(
         n,
         rounds,
@@ -272,12 +274,13 @@ fn frame_scene(kind: Kind, n: usize, rounds: usize) -> Times {
         || {
             mine_refs.fill(0);
             mine.fill(0.0);
+            tags.fill(0);
             let s = &scene;
             let [mut stage, mut item, mut lines, mut made] = [0; 4];
             timed(|| {
                 let (told, counted) = ((&mut stage, &mut item), (&mut lines, &mut made));
-                let (b, y, r) = (&mut backs, &mut tally, &mut mine_refs);
-                let no = ours::frame(&s.path_nos, &s.coords, &s.paths, b, &mut stored, y, r, &mut mine, told.0, told.1, counted.0, counted.1);
+                let (b, y, r, g) = (&mut backs, &mut tally, &mut mine_refs, &mut tags);
+                let no = ours::frame(&s.path_nos, &s.coords, &s.paths, b, &mut stored, y, r, &mut mine, g, told.0, told.1, counted.0, counted.1);
                 assert_eq!(no, 0);
             })
         },
@@ -297,77 +300,87 @@ fn hand_out(tiles: &mut [Tile], counts: &mut [u32]) {
     }
 }
 
-/// A recount of one path beside a count of the whole frame: 64 paths, each with as many lines over as many tiles.
+/// A recount of one path beside a count of its lines alone, and of the whole frame: 64 paths, each with as many lines over as many tiles. What its
+/// range costs is what a recount of no line takes above a count of no line.
 pub fn recount(rounds: usize) {
     for (kind, name) in KINDS {
         for n in [20, 300] {
-            let times = one_path(kind, n, rounds);
-            let ratio = times.ours / times.rust;
-            println!("| lines {name} | {n} | {:.0} | {:.0} | {ratio:.4} | {:.2} |", times.rust, times.ours, PATHS as f64 * ratio);
+            let [frame, own, again, no_count, no_recount] = one_path(kind, n, rounds).map(|seconds| 1e9 * seconds);
+            let range = no_recount - no_count;
+            let (whole, less) = (again / frame, (again - range) / own);
+            println!("| lines {name} | {n} | {frame:.0} | {own:.0} | {again:.0} | {range:.0} | {whole:.4} | {less:.2} |");
         }
     }
 }
 
 const PATHS: usize = 64;
 
-fn one_path(kind: Kind, n: usize, rounds: usize) -> Times {
+/// So many calls are timed at once.
+const CALLS: usize = 20;
+
+/// The frame's count, a count of one path's lines, their recount; a count and a recount of no line.
+fn one_path(kind: Kind, n: usize, rounds: usize) -> [f64; 5] {
     let scene = Scene::new(kind, n);
     let of = box_at(&scene.paths, 0);
     let paths: Vec<u32> = (0..PATHS).flat_map(|p| path(of, (p * scene.tiles) as u32)).collect();
     let path_nos: Vec<u32> = (0..PATHS as u32).flat_map(|p| vec![p; n]).collect();
     let coords = scene.coords.repeat(PATHS);
-    let (tiles, lines) = (PATHS * scene.tiles, (PATHS * n) as u32);
-    let (mut backs, mut counts, mut refs) = (vec![0; tiles], vec![0; tiles], vec![0; 2 * scene.room * PATHS]);
-    let mut count = |backs: &mut [i32], counts: &mut [u32]| {
+    let (tiles, moved) = (PATHS * scene.tiles, PATHS as u32 / 2);
+    let count = |nos: &[u32], coords: &[f32], backs: &mut [i32], counts: &mut [u32], refs: &mut [u32], calls: usize| {
         backs.fill(0);
         counts.fill(0);
-        timed(|| assert_eq!(ours::count(&path_nos, &coords, &paths, backs, counts, &mut refs, lines, &mut 0, &mut 0, &mut 0), 0))
-    };
-    count(&mut backs, &mut counts);
-    let (mut again, mut tally) = (backs.clone(), counts.clone());
-    let (mut own, mut kept_backs, mut kept_counts) = (vec![0; 2 * scene.room], vec![0; scene.tiles], vec![0; scene.tiles]);
-    let moved = PATHS as u32 / 2;
-    let (line_nos, own_nos): (Vec<u32>, Vec<u32>) = ((0..n as u32).map(|l| moved * n as u32 + l).collect(), vec![moved; n]);
-    let times = measured(
-        1,
-        rounds,
-        || count(&mut backs, &mut counts),
-        || {
-            timed(|| {
-                let no = ours::recount(
-                    moved,
-                    &line_nos,
-                    &own_nos,
-                    &scene.coords,
-                    &paths,
-                    &mut again,
-                    &mut tally,
-                    &mut own,
-                    &mut kept_backs,
-                    &mut kept_counts,
-                    &mut 0,
-                    &mut 0,
-                );
+        timed(|| {
+            for _ in 0..calls {
+                let no = ours::count(black_box(nos), coords, &paths, backs, counts, refs, nos.len() as u32, &mut 0, &mut 0, &mut 0);
                 assert_eq!(no, 0);
-            })
-        },
+            }
+        }) / calls as f64
+    };
+    let (mut backs, mut counts, mut refs) = (vec![0; tiles], vec![0; tiles], vec![0; REF * scene.room * PATHS]);
+    count(&path_nos, &coords, &mut backs, &mut counts, &mut refs, 1);
+    let (mut again, mut tally) = (backs.clone(), counts.clone());
+    let (mut none, mut no_counts) = (backs.clone(), counts.clone());
+    let (mut alone, mut alone_counts, mut own_refs) = (vec![0; tiles], vec![0; tiles], vec![0; REF * scene.room]);
+    let (mut empty, mut empty_counts) = (vec![0; tiles], vec![0; tiles]);
+    let (mut own, mut kept_backs, mut kept_counts) = (vec![0; REF * scene.room], vec![0; scene.tiles], vec![0; scene.tiles]);
+    let (line_nos, own_nos): (Vec<u32>, Vec<u32>) = ((0..n as u32).map(|l| moved * n as u32 + l).collect(), vec![moved; n]);
+    let mut recount = |lines: usize, backs: &mut [i32], counts: &mut [u32]| {
+        let (numbers, nos, coords) = (&line_nos[..lines], &own_nos[..lines], &scene.coords[..LINE * lines]);
+        timed(|| {
+            for _ in 0..CALLS {
+                let (kb, kc) = (&mut kept_backs, &mut kept_counts);
+                let no = ours::recount(moved, black_box(numbers), nos, coords, &paths, backs, counts, &mut own, kb, kc, &mut 0, &mut 0);
+                assert_eq!(no, 0);
+            }
+        }) / CALLS as f64
+    };
+    let recount = std::cell::RefCell::new(&mut recount);
+    let times = in_turn(
+        rounds,
+        [
+            &mut || count(&path_nos, &coords, &mut backs, &mut counts, &mut refs, 1),
+            &mut || count(&own_nos, &scene.coords, &mut alone, &mut alone_counts, &mut own_refs, CALLS),
+            &mut || (recount.borrow_mut())(n, &mut again, &mut tally),
+            &mut || count(&[], &[], &mut empty, &mut empty_counts, &mut [], CALLS),
+            &mut || (recount.borrow_mut())(0, &mut none, &mut no_counts),
+        ],
     );
     assert_eq!((backs, counts), (again, tally));
     times
 }
 
-/// The pixels of a tile under a list of so many fills of 10 segments each, one call a pixel, beside the tile by one call of fine.
+/// The pixels of a tile under a list of so many fills of 10 segments each, one call a pixel, beside the tile by one call of fine. Reading is a pixel in a
+/// row that no segment reaches: the same words, each segment looked at, nothing added. Beside them the sums of all fills for one pixel in plain Rust.
 pub fn pixel(rounds: usize) {
     for fills in [1, 10, 100] {
-        let times = one_pixel(fills, rounds);
-        let ratio = times.ours / times.rust;
-        println!("| fills of 10 segments | {fills} | {:.0} | {:.0} | {ratio:.5} | {:.2} |", times.rust, times.ours, 256.0 * ratio);
+        let [tile, pixel, reading, plain] = one_pixel(fills, rounds).map(|seconds| 1e9 * seconds);
+        let (whole, less) = (pixel / tile, 256.0 * (pixel - reading) / tile);
+        println!("| fills of 10 segments | {fills} | {tile:.0} | {pixel:.0} | {reading:.0} | {plain:.0} | {whole:.4} | {less:.2} |");
     }
 }
 
-fn one_pixel(fills: usize, rounds: usize) -> Times {
-    let mut rng = Rng::new(fills as u64);
-    let list = segments(&mut rng, 10 * fills);
+/// Words of so many fills of 10 segments each, each with its COLOR.
+fn fill_words(rng: &mut Rng, fills: usize) -> Vec<u32> {
     let mut words = vec![0; 8 * fills + 8];
     let mut at = 1;
     for k in 0..fills {
@@ -376,26 +389,75 @@ fn one_pixel(fills: usize, rounds: usize) -> Times {
             at = OURS.put(&mut words, at, command, 0);
         }
     }
+    words
+}
+
+/// What fine.rs, lines 59 to 93, adds at one pixel for one segment of a tile at 0, 0: the same float operations, nothing checked.
+#[inline(always)]
+fn step(s: &[f32], column: f32, row: f32, area: f32) -> f32 {
+    let (dx, dy) = (s[2] - s[0], s[3] - s[1]);
+    let y = s[1] - row;
+    let (y0, y1) = (y.clamp(0.0, 1.0), (y + dy).clamp(0.0, 1.0));
+    let edge = dx.signum() * (row - s[4] + 1.0).clamp(0.0, 1.0);
+    let high = y0 - y1;
+    if high == 0.0 {
+        return area + edge;
+    }
+    let recip = 1.0 / dy;
+    let (x0, x1) = (s[0] + (y0 - y) * recip * dx, s[0] + (y1 - y) * recip * dx);
+    let xmin = (x0.min(x1) - column).min(1.0) - 1.0e-6;
+    let xmax = x0.max(x1) - column;
+    let b = xmax.min(1.0);
+    let (c, d) = (b.max(0.0), xmin.max(0.0));
+    area + edge + (b + 0.5 * (d * d - c * c) - xmin) / (xmax - xmin) * high
+}
+
+/// The sums of all fills for one pixel.
+#[inline(never)]
+fn plain_sums(list: &[f32], column: u32, row: u32) -> f32 {
+    list.chunks_exact(SEGMENT).fold(0.0, |area, s| step(s, column as f32, row as f32, area))
+}
+
+/// A tile by fine; a pixel of it; a pixel that no segment reaches; the sums of all fills for one pixel in plain Rust.
+fn one_pixel(fills: usize, rounds: usize) -> [f64; 4] {
+    let mut rng = Rng::new(fills as u64);
+    let list = segments(&mut rng, 10 * fills);
+    // the same segments in the upper half, with no edge
+    let upper: Vec<f32> = list.chunks_exact(SEGMENT).flat_map(|s| [s[0], s[1] / 2.0, s[2], s[3] / 2.0, 1e9]).collect();
+    let words = fill_words(&mut rng, fills);
     let again = 100 / fills + 1;
     let mut tile = vec![0; 256];
-    let mut mine = vec![0; 256];
-    let whole = || {
+    let (mut mine, mut clear) = (vec![0; 256], vec![0; 128]);
+    let pixels = |list: &[f32], first: u32, out: &mut [u32]| {
         timed(|| {
-            for _ in 0..again {
-                assert_eq!(ours::fine(&words, &list, 16, 1, 1, 0, 1, black_box(&mut tile), &mut 0), 0);
+            for (px, k) in out.iter_mut().zip(first..) {
+                assert_eq!(ours::pixel(black_box(&words), list, 0, k % 16, k / 16, px), 0);
             }
-        })
+        }) / out.len() as f64
     };
-    let each = || {
-        timed(|| {
-            for (k, px) in mine.iter_mut().enumerate() {
-                assert_eq!(ours::pixel(black_box(&words), &list, 0, k as u32 % 16, k as u32 / 16, px), 0);
-            }
-        })
-    };
-    let both = measured(1, rounds, whole, each);
+    let times = in_turn(
+        rounds,
+        [
+            &mut || {
+                timed(|| {
+                    for _ in 0..again {
+                        assert_eq!(ours::fine(&words, &list, 16, 1, 1, 0, 1, black_box(&mut tile), &mut 0), 0);
+                    }
+                }) / again as f64
+            },
+            &mut || pixels(&list, 0, &mut mine),
+            &mut || pixels(&upper, 128, &mut clear),
+            &mut || {
+                timed(|| {
+                    for k in 0..256 {
+                        black_box(plain_sums(black_box(&list), k % 16, k / 16));
+                    }
+                }) / 256.0
+            },
+        ],
+    );
     assert_eq!(tile, mine);
-    Times { rust: both.rust / again as f64, ours: both.ours / 256.0 }
+    times
 }
 
 /// A screen of so many tiles, and so many boxes of so many columns and rows that are laid over it: how far each lies from the one before, in
@@ -444,12 +506,12 @@ pub fn lists(rounds: usize) {
 fn lists_of(cover: &Cover, covered: usize, rounds: usize) -> f64 {
     let [cols, rows] = cover.screen;
     let paths: Vec<u32> = (0..cover.paths).flat_map(|p| path_over(cover, p)).collect();
-    let paints: Vec<u32> = (0..cover.paths).flat_map(|p| [0x2040_60ff + p, 0]).collect();
+    let paints: Vec<u32> = (0..cover.paths).flat_map(|p| paint(0x2040_60ff + p, 0)).collect();
     let backs: Vec<i32> = (0..covered as i32).map(|t| t % 3 - 1).collect();
     let tally: Vec<u32> = (0..covered as u32).map(|t| t % 2).collect();
     let stored: Vec<u32> = (0..covered as u32).map(|t| if t % 2 == 1 { !(t / 2) } else { 0 }).collect();
     let over = (covered as u32).div_ceil(cols * rows);
-    let mut words = vec![0; 64 * (cols * rows * (1 + over.div_ceil(10))) as usize];
+    let mut words = vec![0; REGION * (cols * rows * (1 + over.div_ceil(10))) as usize];
     let room = covered as u32 / 2;
     let mut once = || timed(|| assert_eq!(ours::write_lists(&paths, &paints, &backs, &stored, &tally, cols, rows, room, &mut words, &mut 0), 0));
     once();

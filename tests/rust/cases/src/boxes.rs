@@ -2,7 +2,7 @@
 
 use crate::Rng;
 use rules::limits::{EDGE_MOST, PATH};
-use rules::records::path;
+use rules::records::{beam_at, paths_in, stamped, BEAM, FIRST};
 
 pub const KINDS: u64 = 9;
 
@@ -39,13 +39,24 @@ pub fn any(rng: &mut Rng, most: i64) -> [i64; 4] {
     of_kind(rng, kind, most)
 }
 
+/// Any word, and now and then the number of a path before it.
+fn beam(rng: &mut Rng, before: &[u32]) -> u32 {
+    let n = paths_in(before);
+    if n > 0 && rng.one_in(6) {
+        return beam_at(before, rng.below(n as u64) as usize);
+    }
+    let any = rng.u32();
+    rng.pick(&[0, 1, u32::MAX, any, any, any])
+}
+
 /// A table of `n` good paths with gaps now and then, and the number of tiles.
 pub fn table(rng: &mut Rng, n: usize, most: i64) -> (Vec<u32>, usize) {
     let mut paths = Vec::with_capacity(PATH * n);
     let mut next = if rng.one_in(4) { rng.range(0, 5) } else { 0 };
     for _ in 0..n {
         let b = any(rng, most);
-        paths.extend(path(b.map(|v| v as u32), next as u32));
+        let beam = beam(rng, &paths);
+        paths.extend(stamped(b.map(|v| v as u32), next as u32, beam));
         next += (b[2] - b[0]) * (b[3] - b[1]);
         if rng.one_in(4) {
             next += rng.range(0, 5);
@@ -59,7 +70,10 @@ pub fn spoil(rng: &mut Rng, paths: &mut [u32], tiles: usize) {
     if paths.is_empty() {
         return;
     }
-    let k = rng.below(paths.len() as u64) as usize;
+    let mut k = rng.below(paths.len() as u64) as usize;
+    if k % PATH == BEAM && !rng.one_in(4) {
+        k -= BEAM - FIRST; // any word is a beam number
+    }
     paths[k] = match rng.below(9) {
         0 => EDGE_MOST as u32,
         1 => EDGE_MOST as u32 + 1,

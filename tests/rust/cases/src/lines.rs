@@ -3,6 +3,7 @@
 use crate::floats::{any_bits, near, ulps};
 use crate::Rng;
 use rules::limits::COORD_MOST;
+use rules::records::Line;
 
 pub const FAMILIES: [&str; 22] = [
     "grid",
@@ -71,7 +72,7 @@ fn grid_point(rng: &mut Rng, b: &[i64; 4]) -> [f32; 2] {
     [grid(rng, b[0], b[2]), grid(rng, b[1], b[3])]
 }
 
-fn moved(p: [f32; 2], dx: f32, dy: f32) -> [f32; 4] {
+fn moved(p: [f32; 2], dx: f32, dy: f32) -> Line {
     [p[0], p[1], p[0] + dx, p[1] + dy]
 }
 
@@ -90,7 +91,7 @@ fn mixed(rng: &mut Rng, lo: i64, hi: i64) -> f32 {
 }
 
 /// A line of one family near the box, its ends in either order.
-pub fn of_family(rng: &mut Rng, family: usize, b: &[i64; 4]) -> [f32; 4] {
+pub fn of_family(rng: &mut Rng, family: usize, b: &[i64; 4]) -> Line {
     let p = point(rng, b);
     // what lies at the origin says little of a box far off
     let at_origin = [2, 17, 21].contains(&family);
@@ -221,7 +222,7 @@ pub fn of_family(rng: &mut Rng, family: usize, b: &[i64; 4]) -> [f32; 4] {
 }
 
 /// A line of any family, its number too.
-pub fn any(rng: &mut Rng, b: &[i64; 4]) -> (usize, [f32; 4]) {
+pub fn any(rng: &mut Rng, b: &[i64; 4]) -> (usize, Line) {
     let mut family = rng.below(FAMILIES.len() as u64) as usize;
     if family == RANDOM_BITS && !rng.one_in(4) {
         family = 18; // nearly all random bits are refused, and a batch ends there

@@ -3,6 +3,7 @@
 use crate::floats::{any_bits, ulps};
 use crate::Rng;
 use rules::limits::SEGMENT;
+use rules::records::segment;
 
 /// How the segments of a list are drawn.
 #[derive(Clone, Copy, PartialEq, Debug)]
@@ -35,30 +36,30 @@ fn edge(rng: &mut Rng) -> f32 {
     }
 }
 
-pub fn of_kind(rng: &mut Rng, kind: Kind) -> [f32; 5] {
+pub fn of_kind(rng: &mut Rng, kind: Kind) -> [f32; SEGMENT] {
     let inside = |rng: &mut Rng| rng.between(0.0, 16.0);
     match kind {
-        Kind::Legal => [inside(rng), inside(rng), inside(rng), inside(rng), edge(rng)],
+        Kind::Legal => segment([inside(rng), inside(rng)], [inside(rng), inside(rng)], edge(rng)),
         Kind::Grid => {
             let step = rng.pick(&[1.0, 0.5, 2.0, 4.0]);
             let on = |rng: &mut Rng| (rng.below(33) as f32 * step).min(16.0);
-            let mut s = [on(rng), on(rng), on(rng), on(rng), edge(rng)];
+            let (p, mut q, y_edge) = ([on(rng), on(rng)], [on(rng), on(rng)], edge(rng));
             if rng.one_in(3) {
-                s[2] = s[0];
+                q[0] = p[0];
             }
             if rng.one_in(6) {
-                s[3] = s[1];
+                q[1] = p[1];
             }
-            s
+            segment(p, q, y_edge)
         }
         Kind::Border => {
             let mut s = of_kind(rng, Kind::Legal);
-            s[rng.below(5) as usize] = f32::from_bits(rng.pick(&BORDERS));
+            s[rng.below(SEGMENT as u64) as usize] = f32::from_bits(rng.pick(&BORDERS));
             s
         }
         Kind::Crooked => {
             let far = rng.power(0.0, 8.0);
-            let mut s = [0.0; 5];
+            let mut s = [0.0; SEGMENT];
             for v in &mut s {
                 *v = rng.between(-far, far);
             }
@@ -69,9 +70,9 @@ pub fn of_kind(rng: &mut Rng, kind: Kind) -> [f32; 5] {
             let small = f32::from_bits(rng.below(0x0100_0000) as u32) * rng.sign();
             let dy = if y == 0.0 || rng.coin() { y + small } else { ulps(y, rng.range(-2, 2)) };
             let (from, to) = if rng.coin() { (y, dy) } else { (dy, y) };
-            [inside(rng), from, inside(rng), to, edge(rng)]
+            segment([inside(rng), from], [inside(rng), to], edge(rng))
         }
-        Kind::Any => [0; 5].map(|_| f32::from_bits(any_bits(rng))),
+        Kind::Any => [0; SEGMENT].map(|_| f32::from_bits(any_bits(rng))),
     }
 }
 

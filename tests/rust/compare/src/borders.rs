@@ -2,15 +2,15 @@
 
 use crate::calls::{Call, NAMES};
 use cases::Rng;
-use rules::limits::{COUNT_MOST, SIDE_MOST};
-use rules::records::path;
+use rules::limits::{COUNT_MOST, LINE, PAINT, REF, REGION, SEGMENT, SIDE_MOST};
+use rules::records::{path, reference, Line};
 
 /// The answers that a call of a kind can give, all of which the hostile runs want to meet.
 pub fn answers(kind: u32) -> &'static [u32] {
     rules::answers(NAMES[kind as usize])
 }
 
-fn bits(line: [f32; 4]) -> Vec<u32> {
+fn bits(line: Line) -> Vec<u32> {
     line.map(f32::to_bits).to_vec()
 }
 
@@ -23,11 +23,11 @@ fn many_paths(rng: &mut Rng) -> Vec<u32> {
 fn many_lines(rng: &mut Rng) -> (Vec<u32>, Vec<u32>, u32) {
     let most = rules::limits::LINES_MOST as usize;
     let n = most + rng.range(0, 2) as usize;
-    (vec![0; n], vec![0; 4 * n], most as u32)
+    (vec![0; n], vec![0; LINE * n], most as u32)
 }
 
 /// A count of one line down the first column of two by two tiles, over tiles that hold these words.
-fn one_line(line: [f32; 4], paths: &[u32], backdrop: u32, count: u32, refs: usize) -> Call {
+fn one_line(line: Line, paths: &[u32], backdrop: u32, count: u32, refs: usize) -> Call {
     let tiles = 12;
     let slices = vec![vec![0], bits(line), paths.to_vec(), vec![backdrop; tiles], vec![count; tiles], vec![9; refs]];
     Call { kind: 1, numbers: vec![1, 0, 0], slices }
@@ -36,37 +36,54 @@ fn one_line(line: [f32; 4], paths: &[u32], backdrop: u32, count: u32, refs: usiz
 fn count(rng: &mut Rng) -> Call {
     let (down, square) = ([8.0, 8.0, 8.0, 24.0], path([0, 0, 2, 2], 0));
     match rng.below(12) {
-        0 => one_line(down, &many_paths(rng), 0, 0, 8),
+        0 => one_line(down, &many_paths(rng), 0, 0, 4 * REF),
         1 => {
             let (path_nos, coords, lines) = many_lines(rng);
             let numbers = vec![path_nos.len() as u32, lines, 0];
-            Call { kind: 1, numbers, slices: vec![path_nos, coords, square.to_vec(), vec![0; 4], vec![0; 4], vec![9; 8]] }
+            Call { kind: 1, numbers, slices: vec![path_nos, coords, square.to_vec(), vec![0; 4], vec![0; 4], vec![9; 4 * REF]] }
         }
-        2..=4 => one_line(down, &square, 0, rng.pick(&[COUNT_MOST as u32, COUNT_MOST as u32 + 1, u32::MAX]), 8),
-        5 | 6 => one_line(down, &square, rng.pick(&[i32::MIN as u32, i32::MIN as u32 + 1, i32::MAX as u32]), 0, 8),
-        7 | 8 => one_line([8.0, 24.0, 8.0, 8.0], &square, i32::MAX as u32, 0, 8),
-        _ => one_line([80.0, 0.0, 80.0, f32::from_bits(rng.range(1, 2_000) as u32)], &path([0, 0, 6, 1], 0), 0, 0, 8),
+        2..=4 => one_line(down, &square, 0, rng.pick(&[COUNT_MOST as u32, COUNT_MOST as u32 + 1, u32::MAX]), 4 * REF),
+        5 | 6 => one_line(down, &square, rng.pick(&[i32::MIN as u32, i32::MIN as u32 + 1, i32::MAX as u32]), 0, 4 * REF),
+        7 | 8 => one_line([8.0, 24.0, 8.0, 8.0], &square, i32::MAX as u32, 0, 4 * REF),
+        _ => one_line([80.0, 0.0, 80.0, f32::from_bits(rng.range(1, 2_000) as u32)], &path([0, 0, 6, 1], 0), 0, 0, 4 * REF),
     }
 }
 
 /// A line from a coordinate a few denormals below 0: its piece ends off the tile.
-fn off_its_tile(rng: &mut Rng) -> [f32; 4] {
+fn off_its_tile(rng: &mut Rng) -> Line {
     [0.0, f32::from_bits(0x8000_0000 + rng.range(1, 9) as u32), 0.0, 16.0]
 }
 
 fn tile(rng: &mut Rng) -> Call {
     let slices = match rng.below(3) {
-        0 => vec![vec![0], bits([8.0, 8.0, 8.0, 24.0]), many_paths(rng), vec![u32::MAX; 4], vec![0, 0], vec![0; 2 * rules::limits::SEGMENT]],
+        0 => vec![
+            vec![0],
+            bits([8.0, 8.0, 8.0, 24.0]),
+            many_paths(rng),
+            vec![u32::MAX; 4],
+            reference(0, 0, 0).to_vec(),
+            vec![0; 2 * SEGMENT],
+            vec![5; 2],
+        ],
         1 => {
-            vec![vec![0], bits(off_its_tile(rng)), path([0, 0, 1, 1], 0).to_vec(), vec![u32::MAX], vec![0, 0], vec![0; 5]]
+            vec![
+                vec![0],
+                bits(off_its_tile(rng)),
+                path([0, 0, 1, 1], 0).to_vec(),
+                vec![u32::MAX],
+                reference(0, 0, 0).to_vec(),
+                vec![0; SEGMENT],
+                vec![5],
+            ]
         }
         _ => vec![
             vec![0],
             bits([8.0, 8.0, 8.0, 24.0]),
             rules::records::path([0, 0, 2, 2], 0).to_vec(),
             vec![!rng.range(0, 2) as u32; 4],
-            vec![0, 0],
-            vec![0; 5],
+            reference(0, 0, 0).to_vec(),
+            vec![0; SEGMENT],
+            vec![5],
         ],
     };
     Call { kind: 4, numbers: vec![0, 1], slices }
@@ -82,7 +99,7 @@ fn frame(rng: &mut Rng) -> Call {
         }
         _ => (vec![0], bits([80.0, 0.0, 80.0, f32::from_bits(rng.range(1, 2_000) as u32)]), path([0, 0, 6, 1], 0).to_vec(), 6),
     };
-    let slices = vec![path_nos, coords, paths, vec![7; tiles], vec![7; tiles], vec![7; tiles], vec![9; 8], vec![0; 20]];
+    let slices = vec![path_nos, coords, paths, vec![7; tiles], vec![7; tiles], vec![7; tiles], vec![9; 4 * REF], vec![0; 4 * SEGMENT], vec![5; 4]];
     Call { kind: 7, numbers: vec![], slices }
 }
 
@@ -90,8 +107,8 @@ fn frame(rng: &mut Rng) -> Call {
 fn write_lists(rng: &mut Rng) -> Call {
     let n = rules::limits::COMMANDS_MOST / 2 - rng.below(160) as u32;
     let paths = (0..n).flat_map(|k| rules::records::path([0, 0, 1, 1], k)).collect();
-    let words = 64 * (n as usize / 10 + 1);
-    let slices = vec![paths, vec![0; 2 * n as usize], vec![1; n as usize], vec![0; n as usize], vec![0; n as usize], vec![7; words]];
+    let words = REGION * (n as usize / 10 + 1);
+    let slices = vec![paths, vec![0; PAINT * n as usize], vec![1; n as usize], vec![0; n as usize], vec![0; n as usize], vec![7; words]];
     Call { kind: 8, numbers: vec![1, 1, 0], slices }
 }
 
@@ -123,7 +140,7 @@ fn recount(rng: &mut Rng, kind: u32) -> Call {
         3..=5 => (rules::limits::LINES_MOST as u32 - rng.below(2) as u32, down, boxed(1), 1),
         _ => (0, bits(wide), boxed(6), 6),
     };
-    let lines = coords.len() / 4;
+    let lines = coords.len() / LINE;
     let slices = vec![
         vec![line_no; lines],
         vec![0; lines],
@@ -131,7 +148,7 @@ fn recount(rng: &mut Rng, kind: u32) -> Call {
         paths,
         vec![7; tiles],
         vec![7; tiles],
-        vec![9; 2 * lines + 8],
+        vec![9; REF * (lines + 4)],
         vec![5; tiles],
         vec![5; tiles],
     ];

@@ -4,8 +4,8 @@ use crate::stage::{hex, same, same_words, Sides, Stage};
 use crate::table::Table;
 use cases::memory::{as_f32, Lent};
 use cases::{boxes, floats, lines, Rng};
-use rules::limits::{COUNT_MOST, EDGE_MOST, LINES_MOST, PATHS_MOST, ROOM_MOST};
-use rules::records::{box_at, no_tiles, path, paths_in};
+use rules::limits::{COUNT_MOST, EDGE_MOST, LINE, LINES_MOST, PATHS_MOST, REF, ROOM_MOST};
+use rules::records::{box_at, line_floats, no_tiles, path, paths_in};
 
 #[derive(Clone, Debug)]
 pub struct Case {
@@ -33,7 +33,7 @@ pub fn some_lines(rng: &mut Rng, paths: &[u32], n: usize) -> (Vec<u32>, Vec<u32>
     let among = paths_in(paths);
     let one_family = rng.coin().then(|| rng.below(lines::FAMILIES.len() as u64) as usize);
     let mut path_nos = Vec::with_capacity(n);
-    let mut coords = Vec::with_capacity(4 * n);
+    let mut coords = Vec::with_capacity(LINE * n);
     for _ in 0..n {
         let path = rng.below(among.max(1) as u64) as usize;
         let b = if among > 0 { box_of(paths, path) } else { [0, 0, 2, 2] };
@@ -115,7 +115,7 @@ pub fn long_list(rng: &mut Rng) -> Case {
             coords.extend(line.map(f32::to_bits));
         }
     }
-    let refs = (0..2 * n * (most as usize / 2).max(12)).map(|k| 0xbeef_0000 + k as u32).collect();
+    let refs = (0..REF * n * (most as usize / 2).max(12)).map(|k| 0xbeef_0000 + k as u32).collect();
     let mut ends = vec![n as u32];
     if rng.coin() {
         ends.insert(0, rng.range(0, n as i64) as u32);
@@ -132,7 +132,7 @@ fn past_limits(rng: &mut Rng) -> Case {
         paths: path([0, 0, 2, 2], 0).to_vec(),
         backdrops: vec![0; 4],
         counts: vec![0; 4],
-        refs: vec![0; 16],
+        refs: vec![0; REF * 8],
         lines: 0,
         made: 0,
         ends: vec![],
@@ -144,12 +144,12 @@ fn past_limits(rng: &mut Rng) -> Case {
     } else {
         let n = LINES_MOST as usize + 3;
         case.path_nos = vec![0; n];
-        case.coords = vec![0; 4 * n];
+        case.coords = vec![0; LINE * n];
         case.lines = LINES_MOST as u32 - 3;
         let (_, coords) = some_lines(rng, &path([0, 0, 2, 2], 0), 6);
-        case.coords[4 * (n - 6)..].copy_from_slice(&coords);
+        case.coords[line_floats(n - 6).start..].copy_from_slice(&coords);
         case.ends = vec![n as u32];
-        case.refs = vec![9; 400];
+        case.refs = vec![9; REF * 200];
     }
     case
 }
@@ -172,14 +172,15 @@ impl Stage for Count {
         let (mut paths, mut tiles) = boxes::table(rng, n_paths, most);
         if rng.one_in(60) {
             // a box at the limit's edge, many tiles
-            paths = path([0, 0, EDGE_MOST as u32, rng.range(1, 3) as u32], 0).to_vec();
-            tiles = EDGE_MOST as usize * paths[3] as usize;
+            let rows = rng.range(1, 3) as u32;
+            paths = path([0, 0, EDGE_MOST as u32, rows], 0).to_vec();
+            tiles = EDGE_MOST as usize * rows as usize;
         }
         tiles += rng.below(4) as usize;
         let n = rng.range(0, 12) as usize;
         let (path_nos, coords) = some_lines(rng, &paths, n);
         let room = if rng.one_in(8) { rng.below(20) } else { 40 + 60 * (most as u64 / 8) };
-        let refs = (0..2 * room).map(|k| 0xdead_0000 + k as u32).collect();
+        let refs = (0..REF as u64 * room).map(|k| 0xdead_0000 + k as u32).collect();
         let mut case = Case { path_nos, coords, paths, backdrops: vec![0; tiles], counts: vec![0; tiles], refs, lines: 0, made: 0, ends: vec![] };
         if rng.coin() {
             held_before(rng, &mut case);
@@ -257,11 +258,11 @@ impl Stage for Count {
                 out.push(c);
             }
         }
-        if n <= 64 && case.coords.len() == 4 * n {
+        if n <= 64 && case.coords.len() == LINE * n {
             for k in 0..n {
                 let mut c = case.clone();
                 c.path_nos.remove(k);
-                c.coords.drain(4 * k..4 * k + 4);
+                c.coords.drain(line_floats(k));
                 for e in &mut c.ends {
                     *e -= (*e > k as u32) as u32;
                 }

@@ -32,10 +32,10 @@ pub const CHANGED: &[&[usize]] = &[
     &[3, 4, 5],
     &[1],
     &[0, 1],
-    &[5],
+    &[5, 6],
     &[1],
     &[2],
-    &[3, 4, 5, 6, 7],
+    &[3, 4, 5, 6, 7, 8],
     &[5],
     &[1],
     &[1],
@@ -70,10 +70,10 @@ pub const SHAPES: &[(usize, usize)] = &[
     (6, 3),
     (2, 0),
     (2, 1),
-    (6, 2),
+    (7, 2),
     (2, 6),
     (3, 5),
-    (8, 0),
+    (9, 0),
     (6, 3),
     (2, 2),
     (2, 0),
@@ -143,7 +143,7 @@ macro_rules! answered_by {
                     );
                     vec![no, 0]
                 }
-                (4, [path_nos, coords, paths, stored, refs, segments]) => {
+                (4, [path_nos, coords, paths, stored, refs, segments, tags]) => {
                     let mut item = UNTOLD;
                     let no = $side::tile(
                         path_nos.u32s(),
@@ -154,6 +154,7 @@ macro_rules! answered_by {
                         n[0],
                         n[1],
                         segments.f32s_mut(),
+                        tags.u32s_mut(),
                         &mut item,
                     );
                     vec![no, item]
@@ -186,7 +187,7 @@ macro_rules! answered_by {
                     );
                     vec![no, item]
                 }
-                (7, [path_nos, coords, paths, backdrops, stored, tally, refs, segments]) => {
+                (7, [path_nos, coords, paths, backdrops, stored, tally, refs, segments, tags]) => {
                     let mut stage = UNTOLD;
                     let mut item = UNTOLD;
                     let mut lines = UNTOLD;
@@ -200,6 +201,7 @@ macro_rules! answered_by {
                         tally.u32s_mut(),
                         refs.u32s_mut(),
                         segments.f32s_mut(),
+                        tags.u32s_mut(),
                         &mut stage,
                         &mut item,
                         &mut lines,

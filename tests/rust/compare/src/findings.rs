@@ -3,7 +3,8 @@
 use crate::table::spaced;
 use cases::floats::near;
 use cases::{boxes, lines, Rng};
-use rules::limits::{EDGE_MOST, STEP_MOST, WALK_MOST};
+use rules::limits::{EDGE_MOST, REF, STEP_MOST, WALK_MOST};
+use rules::records::{path, Line};
 use rules::walk::{Clip, Place, Walk};
 use std::sync::Mutex;
 
@@ -11,7 +12,7 @@ use std::sync::Mutex;
 #[derive(Clone, Copy)]
 struct Input {
     b: [i64; 4],
-    line: [f32; 4],
+    line: Line,
 }
 
 impl Input {
@@ -47,9 +48,9 @@ impl Input {
     fn rust_does(&self) -> &'static str {
         let tiles = ((self.b[2] - self.b[0]) * (self.b[3] - self.b[1])) as usize;
         let others = 2 * (self.b[2] - self.b[0]) as usize + 2;
-        let paths: Vec<u32> = self.b.iter().map(|&v| v as u32).chain([others as u32]).collect();
+        let paths = path(self.b.map(|v| v as u32), others as u32);
         let all = tiles + 2 * others;
-        let (mut backs, mut counts, mut refs) = (vec![0; all], vec![0; all], vec![0; 2 * WALK_MOST as usize]);
+        let (mut backs, mut counts, mut refs) = (vec![0; all], vec![0; all], vec![0; REF * WALK_MOST as usize]);
         let ran = oracle::count(&[0], &self.line, &paths, &mut backs, &mut counts, &mut refs, 0, 1, 0);
         let own = others..others + tiles;
         if ran.is_err() {
@@ -303,7 +304,7 @@ impl All {
 }
 
 /// A flat or steep line whose ends lie on the grid or a few ulps off: where the rare findings are.
-fn off_the_grid(rng: &mut Rng, b: &[i64; 4]) -> [f32; 4] {
+fn off_the_grid(rng: &mut Rng, b: &[i64; 4]) -> Line {
     let grid = |rng: &mut Rng, k: usize| {
         let v = 16.0 * rng.range(b[k] - 1, b[k + 2] + 1) as f32;
         near(rng, v, 3)
@@ -341,8 +342,8 @@ fn by_families(n: u64, seed: u64, threads: u64) -> All {
 /// The answer of counting one line from cleared tiles.
 fn number_of(input: &Input) -> u32 {
     let tiles = ((input.b[2] - input.b[0]) * (input.b[3] - input.b[1])) as usize;
-    let paths: Vec<u32> = input.b.iter().map(|&v| v as u32).chain([0]).collect();
-    let (mut backs, mut counts, mut refs) = (vec![0; tiles], vec![0; tiles], vec![0; 2 * WALK_MOST as usize]);
+    let paths = path(input.b.map(|v| v as u32), 0);
+    let (mut backs, mut counts, mut refs) = (vec![0; tiles], vec![0; tiles], vec![0; REF * WALK_MOST as usize]);
     let (mut l, mut m, mut i) = (0, 0, 0);
     rules::count(&[0], &input.line, &paths, &mut backs, &mut counts, &mut refs, 1, &mut l, &mut m, &mut i)
 }

@@ -5,7 +5,7 @@ use crate::table::Table;
 use cases::commands::{color, fill, Command, Lists, OURS};
 use cases::memory::{as_f32, Lent};
 use cases::{segments, Rng};
-use rules::limits::{COMMANDS_MOST, EDGE_MOST, TILES_MOST};
+use rules::limits::{COMMANDS_MOST, EDGE_MOST, REGION, TILES_MOST};
 
 const TILES: u32 = TILES_MOST as u32;
 const EDGE: u32 = EDGE_MOST as u32;
@@ -47,15 +47,15 @@ fn one(rng: &mut Rng, n_segments: u32, words: u32, wild: u64) -> Command {
 fn put_list(rng: &mut Rng, lists: &mut Lists, tile: usize, fresh: &mut usize, starts: &mut Vec<usize>, n_segments: u32, wild: u64) {
     let earlier = starts.len();
     let words = lists.ours.len();
-    let mut at = 64 * tile + 1;
-    let mut end = 64 * tile + 64;
+    let mut at = REGION * tile + 1;
+    let mut end = REGION * (tile + 1);
     let mut idle_from = at; // from here to `at` nothing is filled or painted, so a loop costs little
     for _ in 0..rng.range(0, 12) {
         let command = one(rng, n_segments, words as u32, wild);
         if end < at + OURS.size(command) + 3 || rng.one_in(12) {
             lists.put(at, Command::Jump(*fresh as u32), 0);
             (at, idle_from) = (*fresh, *fresh);
-            *fresh += 64;
+            *fresh += REGION;
             end = *fresh;
         }
         starts.push(at);
@@ -126,7 +126,7 @@ impl Stage for Fine {
             paired: true,
         };
         let wild = rng.pick(&[3, 12, 100]);
-        case.lists = Lists::new(64 * (tiles + 1), 77);
+        case.lists = Lists::new(REGION * (tiles + 1), 77);
         match rng.below(16) {
             0 => {
                 let n = COMMANDS_MOST as usize + rng.pick(&[0, 1, 1, 2, 3]) - 1;
@@ -140,8 +140,8 @@ impl Stage for Fine {
                 case.paired = false;
             }
             _ => {
-                let mut fresh = 64 * tiles;
-                let grown = 64 * (tiles + 12 * tiles.max(1));
+                let mut fresh = REGION * tiles;
+                let grown = REGION * (tiles + 12 * tiles.max(1));
                 case.lists = Lists::new(grown, 77);
                 let mut starts = vec![];
                 for t in 0..tiles {
@@ -258,7 +258,7 @@ fn by_the_rust(case: &Case, mut was: Lent, from: u32, stop: u32, wanted: &Lent) 
     let segments = oracle::segments_of(as_f32(&case.segments));
     let mut theirs = case.lists.theirs();
     for t in from..stop {
-        let Ok(made) = oracle::fine_tile(theirs.for_tile(64 * t + 1), &segments) else {
+        let Ok(made) = oracle::fine_tile(theirs.for_tile(REGION as u32 * t + 1), &segments) else {
             return Err(format!("the Rust panicked on tile {t}"));
         };
         let (x, y) = (16 * (t % case.cols) as usize, 16 * (t / case.cols) as usize);

@@ -3,11 +3,12 @@
 use crate::count::{box_of, some_lines, spoil_line};
 use crate::stage::{hex, same, same_words, Sides, Stage};
 use crate::table::Table;
+use crate::tiling::{other_length, tags_before};
 use cases::memory::{as_f32, Lent};
 use cases::{boxes, lines, Rng};
 use rules::frame::{COUNTING, HAND_OUT, LENT, TILING};
-use rules::limits::{EDGE_MOST, PATHS_MOST, SEGMENT};
-use rules::records::{box_at, no_tiles, path, paths_in};
+use rules::limits::{EDGE_MOST, LINE, PATHS_MOST, REF, SEGMENT};
+use rules::records::{beam_at, box_at, first_at, line_floats, no_tiles, path, paths_in, segment_floats, segments_in};
 
 #[derive(Clone, Debug)]
 pub struct Case {
@@ -19,6 +20,7 @@ pub struct Case {
     pub tally: Vec<u32>,
     pub refs: Vec<u32>,
     pub segments: Vec<u32>,
+    pub tags: Vec<u32>,
 }
 
 pub struct Frame;
@@ -46,7 +48,7 @@ fn lines_of(rng: &mut Rng, families: &[usize], paths: &[u32], n: usize) -> (Vec<
 pub fn over(rng: &mut Rng, paths: Vec<u32>, tiles: usize, n: usize, families: &[usize]) -> Case {
     let (path_nos, coords) = if families.is_empty() { some_lines(rng, &paths, n) } else { lines_of(rng, families, &paths, n) };
     let reach = (0..paths_in(&paths)).map(|k| box_at(&paths, k)).map(|[x0, y0, x1, y1]| (x1 - x0 + y1 - y0) as usize).max().unwrap_or(0);
-    let (mut b, mut c, mut r) = (vec![0; tiles], vec![0; tiles], vec![0; 2 * n * (120 + reach)]);
+    let (mut b, mut c, mut r) = (vec![0; tiles], vec![0; tiles], vec![0; REF * n * (120 + reach)]);
     let (mut lines, mut made) = (0, 0);
     rules::count(&path_nos, as_f32(&coords), &paths, &mut b, &mut c, &mut r, n as u32, &mut lines, &mut made, &mut 0);
     let room = |rng: &mut Rng| match rng.below(10) {
@@ -56,14 +58,15 @@ pub fn over(rng: &mut Rng, paths: Vec<u32>, tiles: usize, n: usize, families: &[
     };
     let (refs, slots) = (room(rng), room(rng));
     let mut any = |n: usize| (0..n).map(|_| rng.u32()).collect::<Vec<u32>>();
-    let (backdrops, counts, tally, refs) = (any(tiles), any(tiles), any(tiles), any(2 * refs));
+    let (backdrops, counts, tally, refs) = (any(tiles), any(tiles), any(tiles), any(REF * refs));
     // NaNs with payloads, so that a word left alone is seen to be
     let segments = (0..SEGMENT * slots).map(|k| 0x7fb0_0000 + k as u32).collect();
-    Case { path_nos, coords, paths, backdrops, tiles: counts, tally, refs, segments }
+    let tags = tags_before(rng, &paths, slots);
+    Case { path_nos, coords, paths, backdrops, tiles: counts, tally, refs, segments, tags }
 }
 
 fn spoil(rng: &mut Rng, case: &mut Case) {
-    match rng.below(16) {
+    match rng.below(17) {
         0 => _ = case.coords.pop(),
         1 => _ = case.path_nos.pop(),
         2 => _ = case.paths.pop(),
@@ -72,6 +75,7 @@ fn spoil(rng: &mut Rng, case: &mut Case) {
         5 => _ = case.tally.pop(),
         6 => _ = case.refs.pop(),
         7 => case.segments.push(1),
+        16 => other_length(rng, &mut case.tags),
         8..=10 => spoil_line(rng, &mut case.path_nos, &mut case.coords, &case.paths),
         11 => case.paths = no_tiles(PATHS_MOST as usize + rng.below(3) as usize),
         _ => boxes::spoil(rng, &mut case.paths, case.tiles.len()),
@@ -96,7 +100,7 @@ impl Stage for Frame {
         if rng.one_in(40) {
             case = over(rng, path([0, 0, 6, 1], 0).to_vec(), 6, n + 1, &CALM);
             let k = rng.below(n as u64 + 1) as usize;
-            case.coords[4 * k..4 * k + 4].copy_from_slice(&SHORT);
+            case.coords[line_floats(k)].copy_from_slice(&SHORT);
         }
         if rng.one_in(5) {
             spoil(rng, &mut case);
@@ -108,9 +112,9 @@ impl Stage for Frame {
         let (path_nos, coords, paths) = (Lent::new(&case.path_nos), Lent::new(&case.coords), Lent::new(&case.paths));
         let mut by_rules = Memory::of(case);
         let mut told = [0xabcd; 4];
-        let number = by_rules.lend(|b, t, y, r, s| {
+        let number = by_rules.lend(|b, t, y, r, s, g| {
             let [stage, item, lines, made] = &mut told;
-            rules::frame(path_nos.u32s(), coords.f32s(), paths.u32s(), b, t, y, r, s, stage, item, lines, made)
+            rules::frame(path_nos.u32s(), coords.f32s(), paths.u32s(), b, t, y, r, s, g, stage, item, lines, made)
         });
         table.answer(number);
         table.add(
@@ -121,9 +125,9 @@ impl Stage for Frame {
         if sides.ours {
             let mut by_ours = Memory::of(case);
             let mut ours_told = [0xabcd; 4];
-            let ours_number = by_ours.lend(|b, t, y, r, s| {
+            let ours_number = by_ours.lend(|b, t, y, r, s, g| {
                 let [stage, item, lines, made] = &mut ours_told;
-                ours::frame(path_nos.u32s(), coords.f32s(), paths.u32s(), b, t, y, r, s, stage, item, lines, made)
+                ours::frame(path_nos.u32s(), coords.f32s(), paths.u32s(), b, t, y, r, s, g, stage, item, lines, made)
             });
             same("answer", ours_number, number)?;
             same("stage, item, lines, references", ours_told, told)?;
@@ -143,14 +147,14 @@ impl Stage for Frame {
 
     fn smaller(&self, case: &Case) -> Vec<Case> {
         let n = case.path_nos.len();
-        if case.coords.len() != 4 * n {
+        if case.coords.len() != LINE * n {
             return vec![];
         }
         (0..n)
             .map(|k| {
                 let mut c = case.clone();
                 c.path_nos.remove(k);
-                c.coords.drain(4 * k..4 * k + 4);
+                c.coords.drain(line_floats(k));
                 c
             })
             .collect()
@@ -161,7 +165,7 @@ impl Stage for Frame {
             return format!("  {} paths", paths_in(&case.paths));
         }
         format!(
-            "  paths {:?}\n  path numbers {:?}\n  coordinates {}\n  tiles {}, {} and {}, words of references {}, of segments {}",
+            "  paths {:?}\n  path numbers {:?}\n  coordinates {}\n  tiles {}, {} and {}, words of references {}, of segments {}, tags {}",
             case.paths,
             case.path_nos,
             hex(&case.coords),
@@ -169,26 +173,27 @@ impl Stage for Frame {
             case.tiles.len(),
             case.tally.len(),
             case.refs.len(),
-            case.segments.len()
+            case.segments.len(),
+            case.tags.len()
         )
     }
 }
 
-/// What is lent to be changed: backdrops, tiles, tally, references, segments.
-pub struct Memory(pub [Lent; 5]);
+/// What is lent to be changed: backdrops, tiles, tally, references, segments, tags.
+pub struct Memory(pub [Lent; 6]);
 
 impl Memory {
     pub fn of(case: &Case) -> Memory {
-        Memory([&case.backdrops, &case.tiles, &case.tally, &case.refs, &case.segments].map(|w| Lent::new(w)))
+        Memory([&case.backdrops, &case.tiles, &case.tally, &case.refs, &case.segments, &case.tags].map(|w| Lent::new(w)))
     }
 
-    pub fn lend<T>(&mut self, call: impl FnOnce(&mut [i32], &mut [u32], &mut [u32], &mut [u32], &mut [f32]) -> T) -> T {
-        let [b, t, y, r, s] = &mut self.0;
-        call(b.i32s_mut(), t.u32s_mut(), y.u32s_mut(), r.u32s_mut(), s.f32s_mut())
+    pub fn lend<T>(&mut self, call: impl FnOnce(&mut [i32], &mut [u32], &mut [u32], &mut [u32], &mut [f32], &mut [u32]) -> T) -> T {
+        let [b, t, y, r, s, g] = &mut self.0;
+        call(b.i32s_mut(), t.u32s_mut(), y.u32s_mut(), r.u32s_mut(), s.f32s_mut(), g.u32s_mut())
     }
 
     fn same_as(&self, wanted: &Memory) -> Result<(), String> {
-        let names = ["backdrops", "stored", "tally", "references", "segments"];
+        let names = ["backdrops", "stored", "tally", "references", "segments", "tags"];
         for ((got, wanted), name) in self.0.iter().zip(&wanted.0).zip(names) {
             same_words(name, got.u32s(), wanted.u32s())?;
             same(name, got.guards_stand(), true)?;
@@ -197,12 +202,27 @@ impl Memory {
     }
 }
 
+/// Tags, which the Rust lacks, from the tables alone: wherever the Rust has written a segment, the number of the path whose tile has the slot.
+fn tag_by_tiles(case: &Case, stored: &[u32], tally: &[u32], segments: &[f32], tags: &mut [u32]) {
+    for p in 0..paths_in(&case.paths) {
+        let ([x0, y0, x1, y1], first) = (box_at(&case.paths, p), first_at(&case.paths, p));
+        for tile in (first..first + (x1 - x0) * (y1 - y0)).map(|t| t as usize).filter(|&t| tally[t] > 0) {
+            for slot in (!stored[tile]..!stored[tile] + tally[tile]).map(|s| s as usize) {
+                let written = segments[segment_floats(slot)].iter().zip(&case.segments[segment_floats(slot)]).any(|(v, w)| v.to_bits() != *w);
+                if written {
+                    tags[slot] = beam_at(&case.paths, p);
+                }
+            }
+        }
+    }
+}
+
 /// The Rust's stages on what the rules accepted, tiles cleared; hand-out, which the Rust lacks, by its rule.
 fn by_the_rust(case: &Case, told: [u32; 4], wanted: &Memory) -> Result<(), String> {
     let [stage, item, lines, _] = told;
     let mut memory = Memory::of(case);
     let coords = as_f32(&case.coords);
-    let ran = memory.lend(|b, t, tally, r, s| -> Result<u32, oracle::Stopped> {
+    let ran = memory.lend(|b, t, tally, r, s, tags| -> Result<u32, oracle::Stopped> {
         b.fill(0);
         t.fill(0);
         let made = oracle::count(&case.path_nos, coords, &case.paths, b, t, r, 0, lines as usize, 0)?;
@@ -213,9 +233,10 @@ fn by_the_rust(case: &Case, told: [u32; 4], wanted: &Memory) -> Result<(), Strin
         if stage == HAND_OUT {
             return Ok(made);
         }
-        rules::hand_out(t, tally, (s.len() / SEGMENT) as u32);
+        rules::hand_out(t, tally, segments_in(s) as u32);
         let to = if stage == TILING { item } else { made };
         oracle::tile(&case.path_nos, coords, &case.paths, t, r, 0, to as usize, s)?;
+        tag_by_tiles(case, t, tally, s, tags);
         Ok(made)
     });
     let made = ran.map_err(|_| "the Rust panicked".to_string())?;

@@ -6,8 +6,8 @@ use crate::calls::{by_ours, by_rules, kind_of, linked, same_outcome, shape, Call
 use crate::stage::{hex, Sides, Stage};
 use crate::table::Table;
 use cases::{boxes, floats, lines, segments, texts, Rng};
-use rules::limits::{COORD_MOST, COUNT_MOST, EDGE_MOST, LINE, LINES_MOST, PATH, PATHS_MOST, REF, ROOM_MOST, SEGMENT, STEP_RANGE};
-use rules::records::box_at;
+use rules::limits::{COORD_MOST, COUNT_MOST, EDGE_MOST, LINE, LINES_MOST, PAINT, PATH, PATHS_MOST, REF, REGION, ROOM_MOST, SEGMENT};
+use rules::records::{box_at, reference};
 use rules::walk::Place;
 
 /// Words at the ends of what a word holds, and at the limits.
@@ -91,33 +91,34 @@ fn good(rng: &mut Rng, kind: u32) -> Call {
     let list: Vec<u32> = segments::list(rng, n).into_iter().map(f32::to_bits).collect();
     let (numbers, slices) = match kind {
         1 => {
-            let refs = 2 * rng.below(60) as usize;
+            let refs = REF * rng.below(60) as usize;
             (vec![n as u32, 0, 0], vec![path_nos, coords, paths, words(rng, tiles), words(rng, tiles), words(rng, refs)])
         }
         2 => (vec![], vec![paths, words(rng, tiles)]),
         3 => (vec![rng.below(60) as u32], vec![words(rng, tiles), words(rng, tiles)]),
         4 => {
             let made = rng.below(6) as usize;
-            let refs = (0..made).flat_map(|_| [rng.below(n.max(1) as u64) as u32, rng.below(3) as u32 * STEP_RANGE + rng.below(4) as u32]).collect();
+            let refs = (0..made).flat_map(|_| reference(rng.below(n.max(1) as u64) as u32, rng.below(3) as u32, rng.below(4) as u32)).collect();
             let stored = (0..tiles).map(|_| if rng.one_in(4) { 0 } else { !(rng.below(20) as u32) }).collect();
-            let room = SEGMENT * rng.below(30) as usize;
-            (vec![0, made as u32], vec![path_nos, coords, paths, stored, refs, words(rng, room)])
+            let room = rng.below(30) as usize;
+            (vec![0, made as u32], vec![path_nos, coords, paths, stored, refs, words(rng, SEGMENT * room), words(rng, room)])
         }
         5 => {
             let numbers = vec![0, n as u32, rng.below(3) as u32, rng.range(-2, 2) as u32, 0, 0];
             (numbers, vec![list, words(rng, 256)])
         }
         7 => {
-            let (refs, room) = (REF * rng.below(60) as usize, SEGMENT * rng.below(60) as usize);
-            let tables = [words(rng, tiles), words(rng, tiles), words(rng, tiles), words(rng, refs), words(rng, room)];
+            let (refs, room) = (REF * rng.below(60) as usize, rng.below(60) as usize);
+            let pieces = [words(rng, SEGMENT * room), words(rng, room)];
+            let tables = [words(rng, tiles), words(rng, tiles), words(rng, tiles), words(rng, refs)].into_iter().chain(pieces);
             (vec![], [path_nos, coords, paths].into_iter().chain(tables).collect())
         }
         8 => {
             let (cols, rows) = (rng.below(4) as u32, rng.below(4) as u32);
             let stored = (0..tiles).map(|_| if rng.one_in(4) { 0 } else { !(rng.below(9) as u32) }).collect();
             let room = rng.pick(&[12, 12, 12, 9, u32::MAX]);
-            let regions = 64 * (cols * rows) as usize;
-            let slices = vec![paths, words(rng, 2 * n_paths), words(rng, tiles), stored, words(rng, tiles), words(rng, regions)];
+            let regions = REGION * (cols * rows) as usize;
+            let slices = vec![paths, words(rng, PAINT * n_paths), words(rng, tiles), stored, words(rng, tiles), words(rng, regions)];
             (vec![cols, rows, room], slices)
         }
         9 => {
@@ -141,20 +142,20 @@ fn good(rng: &mut Rng, kind: u32) -> Call {
         }
         PIXEL => {
             let tiles = rng.below(3) as u32;
-            let list_words = (0..64 * tiles).map(|k| if k % 64 == 0 { 0 } else { rng.below(6) as u32 }).collect();
+            let list_words = (0..REGION as u32 * tiles).map(|k| if k % REGION as u32 == 0 { 0 } else { rng.below(6) as u32 }).collect();
             (vec![rng.below(3) as u32, rng.below(17) as u32, rng.below(17) as u32, any_word(rng)], vec![list_words, list])
         }
         _ if NAMES[kind as usize] == "recount" => {
             let path = rng.below(n_paths.max(1) as u64) as u32;
             let kept = paths.chunks_exact(PATH).nth(path as usize).map(Place::of).map_or(0, |b| ((b.x1 - b.x0) * (b.y1 - b.y0)) as usize);
             let of = path_nos.iter().map(|&p| if rng.one_in(8) { p } else { path }).collect();
-            let (refs, line_nos) = (2 * rng.below(60) as usize, (0..n).map(|_| rng.below(9) as u32).collect());
+            let (refs, line_nos) = (REF * rng.below(60) as usize, (0..n).map(|_| rng.below(9) as u32).collect());
             let tables = [words(rng, tiles), words(rng, tiles), words(rng, refs), words(rng, kept), words(rng, kept)];
             (vec![path], [line_nos, of, coords, paths].into_iter().chain(tables).collect())
         }
         FINE => {
             let (cols, rows) = (rng.below(3) as u32, rng.below(2) as u32);
-            let list_words = (0..64 * cols * rows).map(|k| if k % 64 == 0 { 0 } else { rng.below(6) as u32 }).collect();
+            let list_words = (0..REGION as u32 * cols * rows).map(|k| if k % REGION as u32 == 0 { 0 } else { rng.below(6) as u32 }).collect();
             let pixels = words(rng, (256 * cols * rows) as usize);
             (vec![16 * cols, cols, rows, 0, cols * rows], vec![list_words, list, pixels])
         }

@@ -4,6 +4,7 @@
 use crate::count::{long_list, Case};
 use cases::memory::as_f32;
 use cases::Rng;
+use rules::records::line_floats;
 use std::time::{Duration, Instant};
 
 /// Backdrops, counts, and backdrops after the sums; none where a line is refused.
@@ -29,7 +30,7 @@ fn kept(case: &Case) -> Case {
     for (l, no) in case.path_nos.iter().enumerate() {
         let mut one = case.clone();
         one.path_nos = vec![*no];
-        one.coords = case.coords[4 * l..4 * l + 4].to_vec();
+        one.coords = case.coords[line_floats(l)].to_vec();
         if drawn(&one).is_some() {
             out.path_nos.push(*no);
             out.coords.extend(&one.coords);
@@ -45,7 +46,7 @@ fn shuffled(rng: &mut Rng, case: &Case) -> Case {
     }
     let mut out = case.clone();
     out.path_nos = order.iter().map(|&l| case.path_nos[l]).collect();
-    out.coords = order.iter().flat_map(|&l| case.coords[4 * l..4 * l + 4].to_vec()).collect();
+    out.coords = order.iter().flat_map(|&l| case.coords[line_floats(l)].to_vec()).collect();
     out
 }
 

@@ -137,7 +137,8 @@ fn colours(case: &Case, sides: Sides, table: &mut Table) -> Result<(), String> {
         same_both("pixel at the place given", asked!(ours, case.column, case.row), wanted)?;
     }
     let whole = c.segments.len() % rules::limits::SEGMENT == 0;
-    let made = if whole { rules::fine::tile_pixels(words.u32s(), segments.f32s(), 64 * case.tile as u64 + 1) } else { Err(1) };
+    let made =
+        if whole { rules::fine::tile_pixels(words.u32s(), segments.f32s(), rules::limits::REGION as u64 * case.tile as u64 + 1) } else { Err(1) };
     if sides.ours {
         // a tile that is refused is refused at every pixel: its diagonal stands for all
         let each = if made.is_ok() { 1 } else { SIDE as usize + 1 };
@@ -156,10 +157,11 @@ fn colours(case: &Case, sides: Sides, table: &mut Table) -> Result<(), String> {
         same("guards", words.guards_stand() && segments.guards_stand(), true)?;
     }
     // a tile may begin in the midst of another's command, where the two lists don't say the same
-    let paired = c.paired && c.lists.begins(64 * case.tile as usize + 1);
+    let paired = c.paired && c.lists.begins(rules::limits::REGION * case.tile as usize + 1);
     if let (true, true, Ok(pixels)) = (sides.rust, paired, made) {
         let mut theirs = c.lists.theirs();
-        let Ok(by_rust) = oracle::fine_tile(theirs.for_tile(64 * case.tile + 1), &oracle::segments_of(as_f32(&c.segments))) else {
+        let Ok(by_rust) = oracle::fine_tile(theirs.for_tile(rules::limits::REGION as u32 * case.tile + 1), &oracle::segments_of(as_f32(&c.segments)))
+        else {
             return Err("the Rust panicked".into());
         };
         same_words("beside the Rust: pixels", &pixels, &by_rust)?;

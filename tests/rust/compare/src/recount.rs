@@ -6,8 +6,8 @@ use crate::stage::{hex, same, same_words, Sides, Stage};
 use crate::table::Table;
 use cases::memory::Lent;
 use cases::{boxes, lines, Rng};
-use rules::limits::{COUNT_MOST, LINE, LINES_MOST, PATH, PATHS_MOST};
-use rules::records::{no_tiles, paths_in};
+use rules::limits::{COUNT_MOST, LINE, LINES_MOST, PATH, PATHS_MOST, REF};
+use rules::records::{line_floats, named, no_tiles, paths_in};
 use rules::walk::Place;
 
 #[derive(Clone, Debug)]
@@ -51,10 +51,10 @@ fn replaced(case: &Case) -> Option<count::Case> {
     for l in 0..n as u32 {
         let (no, line) = if case.line_nos.contains(&l) {
             let k = new.next()?;
-            (case.path_nos[k], &case.coords[LINE * k..LINE * k + LINE])
+            (case.path_nos[k], &case.coords[line_floats(k)])
         } else {
             let k = others.next()?;
-            (case.old.path_nos[k], &case.old.coords[LINE * k..LINE * k + LINE])
+            (case.old.path_nos[k], &case.old.coords[line_floats(k)])
         };
         out.path_nos.push(no);
         out.coords.extend(line);
@@ -84,7 +84,7 @@ fn spoil(rng: &mut Rng, case: &mut Case) {
                 *p = p.wrapping_add(1); // another path, there or not
             }
         }
-        12 | 18 => case.refs.truncate(2 * rng.below(4) as usize),
+        12 | 18 => case.refs.truncate(REF * rng.below(4) as usize),
         13 | 19 => case.old.paths = no_tiles(PATHS_MOST as usize + rng.range(0, 1) as usize),
         _ => boxes::spoil(rng, &mut case.old.paths, case.old.counts.len()),
     }
@@ -246,9 +246,9 @@ fn afresh(case: &Case, wanted: &Memory, sides: Sides, table: &mut Table) -> Resu
     }
     same_words("backdrops beside a fresh count", wanted.backdrops.u32s(), fresh.backdrops.u32s())?;
     same_words("counts beside a fresh count", wanted.counts.u32s(), fresh.counts.u32s())?;
-    let own = |refs: &[u32], made: u32| -> Vec<[u32; 2]> {
-        let all = refs.chunks_exact(2).take(made as usize);
-        all.filter(|r| case.line_nos.contains(&r[0])).map(|r| [r[0], r[1]]).collect()
+    let own = |refs: &[u32], made: u32| -> Vec<Vec<u32>> {
+        let all = refs.chunks_exact(REF).take(made as usize);
+        all.filter(|r| case.line_nos.contains(&named(r))).map(<[u32]>::to_vec).collect()
     };
     same("references beside a fresh count", own(wanted.refs.u32s(), wanted.made), own(fresh.refs.u32s(), fresh.made))?;
     table.add(FRESH, 1);

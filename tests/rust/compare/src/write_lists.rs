@@ -7,9 +7,10 @@ use crate::table::Table;
 use cases::commands::{color, Command, Lists};
 use cases::memory::{as_f32, Lent};
 use cases::{boxes, segments, Rng};
-use rules::limits::{BAD_SEGMENT, EDGE_MOST, LINE, PATH, PATHS_MOST, ROOM_MOST, SEGMENT};
+use rules::fine::{END, JUMP};
+use rules::limits::{BAD_SEGMENT, EDGE_MOST, LINE, PAINT, PATH, PATHS_MOST, REGION, ROOM_MOST, SEGMENT};
 use rules::lists::{Pair, Tables};
-use rules::records::{box_at, first_at, no_tiles, path, paths_in, words_of};
+use rules::records::{beam_at, box_at, colour, even_odd, first_at, no_tiles, paint, paint_words, path, paths_in, segments_in, words_of};
 
 #[derive(Clone, Debug)]
 pub struct Case {
@@ -27,9 +28,14 @@ pub struct Case {
     pub words: usize,
     /// As many as the room, where the lists are to be drawn.
     pub segments: Vec<u32>,
+    /// A tag for each of them, where a frame left them.
+    pub tags: Vec<u32>,
 }
 
 pub struct WriteLists;
+
+/// Slots of FILLs over a frame, each held against the beam number of the FILL's path.
+const OWN_BEAM: &str = "slots of FILLs with their path's beam";
 
 /// Paths in painting order whose boxes lie on or near a small screen, many of them over one another; now and then one over all the wall.
 fn near_boxes(rng: &mut Rng, n: usize, most: i64) -> (Vec<u32>, usize) {
@@ -49,7 +55,7 @@ fn near_boxes(rng: &mut Rng, n: usize, most: i64) -> (Vec<u32>, usize) {
 
 fn paints(rng: &mut Rng, n: usize) -> Vec<u32> {
     let rule = |rng: &mut Rng| if rng.one_in(12) { rng.u32() } else { rng.below(2) as u32 };
-    (0..n).flat_map(|_| [color(rng), rule(rng)]).collect()
+    (0..n).flat_map(|_| paint(color(rng), rule(rng))).collect()
 }
 
 /// A frame that is drawn whole, and the tables that it leaves.
@@ -64,8 +70,9 @@ fn drawn(rng: &mut Rng) -> Option<Case> {
 /// The tables as the rules' stages leave them, where those draw the frame whole.
 fn left_by(f: frame::Case, paints: Vec<u32>) -> Option<Case> {
     let mut memory = frame::Memory::of(&f);
-    let number = memory.lend(|b, t, y, r, s| rules::frame(&f.path_nos, as_f32(&f.coords), &f.paths, b, t, y, r, s, &mut 0, &mut 0, &mut 0, &mut 0));
-    let [backdrops, stored, tally, _, segments] = memory.0.map(|l| l.u32s().to_vec());
+    let number =
+        memory.lend(|b, t, y, r, s, g| rules::frame(&f.path_nos, as_f32(&f.coords), &f.paths, b, t, y, r, s, g, &mut 0, &mut 0, &mut 0, &mut 0));
+    let [backdrops, stored, tally, _, segments, tags] = memory.0.map(|l| l.u32s().to_vec());
     (number == 0).then(|| Case {
         paints,
         paths: f.paths.clone(),
@@ -74,9 +81,10 @@ fn left_by(f: frame::Case, paints: Vec<u32>) -> Option<Case> {
         tally,
         cols: 0,
         rows: 0,
-        room: (segments.len() / SEGMENT) as u32,
+        room: segments_in(&segments) as u32,
         words: 0,
         segments,
+        tags,
         frame: Some(f),
     })
 }
@@ -98,6 +106,7 @@ fn invented(rng: &mut Rng, n_paths: usize, most: i64) -> Case {
         room,
         words: 0,
         segments: segments::list(rng, room as usize).into_iter().map(f32::to_bits).collect(),
+        tags: vec![],
     };
     for _ in 0..tiles {
         let number = if rng.below(4) < fills { rng.below(room as u64 + 1) as u32 } else { 0 };
@@ -120,7 +129,7 @@ fn long(rng: &mut Rng) -> Case {
     let n = (last + rng.range(-1, 2)) as usize;
     let fills = n.min(most_fills);
     let regions = fills.div_ceil(10) + (n - fills).div_ceil(20);
-    let tile = |k: usize| [0, 0, 1, 1, k as u32];
+    let tile = |k: usize| path([0, 0, 1, 1], k as u32);
     Case {
         frame: None,
         paths: (0..n).flat_map(tile).collect(),
@@ -131,8 +140,9 @@ fn long(rng: &mut Rng) -> Case {
         cols: rng.pick(&[1, 2]),
         rows: 1,
         room: 1,
-        words: 64 * (regions + 1 - rng.below(3) as usize),
+        words: REGION * (regions + 1 - rng.below(3) as usize),
         segments: vec![],
+        tags: vec![],
     }
 }
 
@@ -158,7 +168,7 @@ fn spoil(rng: &mut Rng, case: &mut Case) {
     case.frame = None;
     match rng.below(16) {
         0 => _ = case.paints.pop(),
-        1 => case.paints.extend([1, 1]),
+        1 => case.paints.extend(paint(1, 1)),
         2 => _ = case.paths.pop(),
         3 => _ = case.backdrops.pop(),
         4 => case.stored.push(3),
@@ -167,7 +177,7 @@ fn spoil(rng: &mut Rng, case: &mut Case) {
         8 => {
             let n = PATHS_MOST as usize + rng.below(3) as usize;
             case.paths = no_tiles(n);
-            case.paints = vec![1; 2 * n];
+            case.paints = vec![1; PAINT * n];
         }
         _ => boxes::spoil(rng, &mut case.paths, case.stored.len()),
     }
@@ -175,10 +185,11 @@ fn spoil(rng: &mut Rng, case: &mut Case) {
 
 type Call = fn(&[u32], &[u32], &[i32], &[u32], &[u32], u32, u32, u32, &mut [u32], &mut u32) -> u32;
 
-/// What is lent: the tables, the segments for fine, and the words.
+/// What is lent: the tables, the segments for fine with their tags, and the words.
 struct Memory {
     tables: [Lent; 5],
     segments: Lent,
+    tags: Lent,
     words: Lent,
 }
 
@@ -186,7 +197,7 @@ impl Memory {
     fn of(case: &Case) -> Memory {
         let words: Vec<u32> = (0..case.words).map(|k| 0xc0de_0000 + k as u32).collect();
         let tables = [&case.paths, &case.paints, &case.backdrops, &case.stored, &case.tally];
-        Memory { tables: tables.map(|w| Lent::new(w)), segments: Lent::new(&case.segments), words: Lent::new(&words) }
+        Memory { tables: tables.map(|w| Lent::new(w)), segments: Lent::new(&case.segments), tags: Lent::new(&case.tags), words: Lent::new(&words) }
     }
 
     fn read(&self) -> Tables<'_> {
@@ -206,11 +217,13 @@ impl Memory {
     /// Our stages over the frame's lines, and what they leave in the tables' place.
     fn make_anew(&mut self, f: &frame::Case) -> Result<(), String> {
         let mut left = frame::Memory::of(f);
-        let number = left.lend(|b, t, y, r, s| ours::frame(&f.path_nos, as_f32(&f.coords), &f.paths, b, t, y, r, s, &mut 0, &mut 0, &mut 0, &mut 0));
+        let number =
+            left.lend(|b, t, y, r, s, g| ours::frame(&f.path_nos, as_f32(&f.coords), &f.paths, b, t, y, r, s, g, &mut 0, &mut 0, &mut 0, &mut 0));
         same("our stages' answer", number, 0)?;
-        let [backdrops, stored, tally, _, segments] = left.0;
+        let [backdrops, stored, tally, _, segments, tags] = left.0;
         [self.tables[2], self.tables[3], self.tables[4]] = [backdrops, stored, tally];
         self.segments = segments;
+        self.tags = tags;
         Ok(())
     }
 
@@ -222,6 +235,7 @@ impl Memory {
             same(name, got.guards_stand(), true)?;
         }
         same_words("segments", self.segments.u32s(), wanted.segments.u32s())?;
+        same_words("tags", self.tags.u32s(), wanted.tags.u32s())?;
         same_words("words", self.words.u32s(), wanted.words.u32s())?;
         same("guards", self.words.guards_stand() && self.segments.guards_stand(), true)
     }
@@ -240,17 +254,17 @@ impl Case {
         let mut regions = 0;
         for (x, y) in (0..self.rows as i64).flat_map(|y| (0..self.cols as i64).map(move |x| (x, y))) {
             regions += 1;
-            let mut left: i64 = 63;
+            let mut left = REGION as i64 - 1;
             for pair in tables.pairs(x, y) {
                 let size = if matches!(pair, Pair::Fill { .. }) { 6 } else { 4 };
                 if left < size + 2 {
                     regions += 1;
-                    left = 64;
+                    left = REGION as i64;
                 }
                 left -= size;
             }
         }
-        64 * regions
+        REGION * regions
     }
 }
 
@@ -287,7 +301,7 @@ impl Stage for WriteLists {
                 invented(rng, n, 2)
             }
         };
-        let many = case.paints.len() > 16;
+        let many = case.paints.len() > PAINT * 8;
         (case.cols, case.rows) = if many { (rng.range(1, 3) as u32, 2) } else { (rng.range(0, 5) as u32, rng.range(0, 4) as u32) };
         if rng.one_in(12) {
             move_slots(rng, &mut case);
@@ -319,11 +333,18 @@ impl Stage for WriteLists {
             same("answer and item", told, (number, item))?;
             by_ours.same_as(&by_rules)?;
         }
+        if number == 0 && case.frame.is_some() {
+            own_beams(case, if sides.ours { &by_ours } else { &by_rules }, table)?;
+        }
         if number == 0 && case.segments.len() == SEGMENT * case.room as usize {
             let lists = if sides.ours { &by_ours } else { &by_rules };
             draw(case, lists, &by_rules, sides, table)?;
         }
         Ok(())
+    }
+
+    fn rows_wanted(&self) -> Vec<(String, u64)> {
+        vec![(OWN_BEAM.into(), if ours::BRIDGED { 50 } else { 1_000 })]
     }
 
     fn smaller(&self, case: &Case) -> Vec<Case> {
@@ -334,11 +355,11 @@ impl Stage for WriteLists {
             low.rows -= 1;
             out.extend([narrow, low]);
         }
-        if case.paths.len() % PATH == 0 && case.paints.len() == 2 * (paths_in(&case.paths)) {
+        if case.paths.len() % PATH == 0 && case.paints.len() == PAINT * paths_in(&case.paths) {
             for k in (0..paths_in(&case.paths)).take(100) {
                 let mut c = case.clone();
                 c.paths.drain(words_of(k));
-                c.paints.drain(2 * k..2 * k + 2);
+                c.paints.drain(paint_words(k));
                 out.extend(match &case.frame {
                     Some(f) => case.framed(without_path(f, k), c.paints),
                     None => Some(c),
@@ -369,6 +390,33 @@ impl Stage for WriteLists {
             case.words
         )
     }
+}
+
+/// Over a frame that is drawn whole, the slots of every FILL written carry the beam number of the path that it was written for: the lists are read
+/// command by command, and the pairs of a tile are its paths' in order.
+fn own_beams(case: &Case, lists: &Memory, table: &mut Table) -> Result<(), String> {
+    let (words, tags, tables) = (lists.words.u32s(), lists.tags.u32s(), lists.read());
+    for t in 0..case.cols * case.rows {
+        let (x, y) = ((t % case.cols) as i64, (t / case.cols) as i64);
+        let mut at = REGION * t as usize + 1;
+        for (p, pair) in tables.pairs_of_paths(x, y) {
+            if words[at] == JUMP {
+                at = words[at + 1] as usize;
+            }
+            if let Pair::Solid { .. } = pair {
+                at += 3; // SOLID, COLOR, its colour
+                continue;
+            }
+            let (number, first) = (words[at + 1] / 2, words[at + 2]);
+            for slot in first..first + number {
+                same("tags of a FILL: the number at its slot", tags[slot as usize], beam_at(&case.paths, p))?;
+            }
+            table.add(OWN_BEAM, number as u64);
+            at += 6; // FILL and its three words, COLOR, its colour
+        }
+        same("the list ends after its pairs", words[at], END)?;
+    }
+    Ok(())
 }
 
 /// Fine over the lists, and each tile painted without a list from the rules' tables: by the rules, and by the Rust. It stops at the first tile
@@ -413,7 +461,7 @@ fn draw(case: &Case, lists: &Memory, by_rules: &Memory, sides: Sides, table: &mu
 fn fills_alone(tables: &Tables, x: i64, y: i64) -> Lists {
     let mut lists = Lists::new(6 * paths_in(&tables.paths) + 2, 0);
     let mut at = 1;
-    for (path, paint) in tables.paths.chunks_exact(PATH).zip(tables.paints.chunks_exact(2)) {
+    for (path, paint) in tables.paths.chunks_exact(PATH).zip(tables.paints.chunks_exact(PAINT)) {
         let ([x0, y0, x1, y1], first) = (box_at(path, 0).map(i64::from), i64::from(first_at(path, 0)));
         if !(x0..x1).contains(&x) || !(y0..y1).contains(&y) {
             continue;
@@ -425,8 +473,7 @@ fn fills_alone(tables: &Tables, x: i64, y: i64) -> Lists {
         if number == 0 && backdrop.unsigned_abs() > 1 << 24 {
             backdrop = 2 + (backdrop & 1);
         }
-        let even_odd = paint[1] & 1 == 1;
-        for command in [Command::Fill { number, even_odd, first: slots, backdrop }, Command::Color(paint[0])] {
+        for command in [Command::Fill { number, even_odd: even_odd(paint), first: slots, backdrop }, Command::Color(colour(paint))] {
             at = lists.put(at, command, 0);
         }
     }

@@ -18,7 +18,7 @@
 //! | 1 count | path_nos, coords, paths, backdrops*, counts*, refs* | end, lines, made | number, item, lines, made |
 //! | 2 backdrop | paths, backdrops* | none | number, item |
 //! | 3 hand_out | counts*, tally* | room | number, 0 |
-//! | 4 tile | path_nos, coords, paths, stored, refs, segments* | from, to | number, item |
+//! | 4 tile | path_nos, coords, paths, stored, refs, segments*, tags* | from, to | number, item |
 //! | 5 fill | segments, area* | first, number, even_odd, backdrop, x_tile, y_tile | number, 0 |
 //! | 6 fine | words, segments, pixels* | width, cols, rows, from, to | number, item |
 //!

@@ -6,10 +6,10 @@ use crate::SEED;
 use cases::commands::{color, fill, Command, Lists};
 use cases::memory::{as_f32, one_nan};
 use cases::{boxes, floats, lines, segments, Rng};
-use rules::limits::{COMMANDS_MOST, COORD_MOST, COUNT_MOST, EDGE_MOST, ROOM_MOST, SEGMENT, TILES_MOST, WALK_MOST};
-use rules::records::{box_at, path, paths_in};
+use rules::limits::{COMMANDS_MOST, COORD_MOST, COUNT_MOST, EDGE_MOST, LINE, PATH, REF, REGION, ROOM_MOST, SEGMENT, TILES_MOST, WALK_MOST};
+use rules::records::{box_at, line_floats, path, paths_in, ref_words, refs_in, stamped, Line, FIRST, PACKED, X0, X1, Y0, Y1};
 
-fn bits(line: [f32; 4]) -> [u32; 4] {
+fn bits(line: Line) -> [u32; 4] {
     line.map(|v| one_nan(v.to_bits()))
 }
 
@@ -54,7 +54,7 @@ impl Counting {
         }
     }
 
-    fn with(mut self, path: u32, line: [f32; 4]) -> Counting {
+    fn with(mut self, path: u32, line: Line) -> Counting {
         self.path_nos.push(path);
         self.coords.extend(bits(line));
         self.end += 1;
@@ -62,7 +62,7 @@ impl Counting {
     }
 
     fn room(mut self, references: usize) -> Counting {
-        self.refs = vec![0x7777_7777; 2 * references];
+        self.refs = vec![0x7777_7777; REF * references];
         self
     }
 
@@ -133,7 +133,7 @@ impl Counting {
             }
             let n = case.answer[1] as usize;
             self.path_nos.remove(n);
-            self.coords.drain(4 * n..4 * n + 4);
+            self.coords.drain(line_floats(n));
             self.end -= 1;
         }
     }
@@ -141,7 +141,7 @@ impl Counting {
 
 /// 01's traces for counting, and the limits.
 fn count_traces(list: &mut List) {
-    let square = |x0: u32| Counting::new(&[x0, 0, x0 + 2, 2, 0], 4);
+    let square = |x0: u32| Counting::new(&path([x0, 0, x0 + 2, 2], 0), 4);
     let tiny = f32::from_bits(1_000);
     let edge = EDGE_MOST as u32;
     let far = 16.0 * EDGE_MOST as f32;
@@ -159,9 +159,9 @@ fn count_traces(list: &mut List) {
         ("the next float is 6", square(0).with(0, [3.0, 3.0, 4.0, after_limit])),
         (
             "a box edge at the limit passes",
-            Counting::new(&[edge - 2, edge - 2, edge, edge, 0], 4).with(0, [far - 24.0, far - 24.0, far - 4.0, far - 14.0]),
+            Counting::new(&path([edge - 2, edge - 2, edge, edge], 0), 4).with(0, [far - 24.0, far - 24.0, far - 4.0, far - 14.0]),
         ),
-        ("one more is 3", Counting::new(&[edge - 2, edge - 2, edge + 1, edge, 0], 6)),
+        ("one more is 3", Counting::new(&path([edge - 2, edge - 2, edge + 1, edge], 0), 6)),
         (
             "first and last step numbers at the top of u32: accepted",
             Counting::new(&path([3, 1, 4, 2], 0), 1).with(0, [12.0, 16.0, 108.0, f32::from_bits(0x417f_fffe)]),
@@ -209,7 +209,8 @@ fn count_traces(list: &mut List) {
 
 /// Refusals 1, 3, 4, 6, 7 by altered words and lengths.
 fn count_spoiled(list: &mut List, rng: &mut Rng) {
-    let good = Counting::new(&[0, 0, 2, 2, 0, 1, 1, 3, 2, 5], 8).with(0, [8.0, 8.0, 8.0, 24.0]).with(1, [20.0, 17.0, 40.0, 30.0]).room(9);
+    let two = [path([0, 0, 2, 2], 0), path([1, 1, 3, 2], 5)].concat();
+    let good = Counting::new(&two, 8).with(0, [8.0, 8.0, 8.0, 24.0]).with(1, [20.0, 17.0, 40.0, 30.0]).room(9);
     list.case(&good.written());
     let shapes: Vec<fn(&mut Counting)> = vec![
         |c| _ = c.coords.pop(),
@@ -225,15 +226,15 @@ fn count_spoiled(list: &mut List, rng: &mut Rng) {
         |c| c.path_nos[1] = 2,
         |c| c.path_nos[0] = u32::MAX,
         |c| c.coords[0] = 0x7fc0_0000,
-        |c| c.coords[5] = 0xff80_0000,
-        |c| c.coords[7] = COORD_MOST.to_bits() + 1,
-        |c| c.paths[9] = 3,
-        |c| c.paths[9] = 4,
-        |c| c.paths[4] = u32::MAX,
-        |c| (c.paths[2], c.paths[0]) = (0, 1),
-        |c| (c.paths[3], c.paths[1]) = (0, 1),
-        |c| c.paths[8] = EDGE_MOST as u32 + 1,
-        |c| c.paths[5] = u32::MAX,
+        |c| c.coords[LINE + 1] = 0xff80_0000,
+        |c| c.coords[LINE + 3] = COORD_MOST.to_bits() + 1,
+        |c| c.paths[PATH + FIRST] = 3,
+        |c| c.paths[PATH + FIRST] = 4,
+        |c| c.paths[FIRST] = u32::MAX,
+        |c| (c.paths[X1], c.paths[X0]) = (0, 1),
+        |c| (c.paths[Y1], c.paths[Y0]) = (0, 1),
+        |c| c.paths[PATH + Y1] = EDGE_MOST as u32 + 1,
+        |c| c.paths[PATH + X0] = u32::MAX,
         |c| c.paths = vec![],
     ];
     for spoil in shapes {
@@ -321,8 +322,7 @@ fn refused_lines(list: &mut List, rng: &mut Rng, family: usize) {
     let mut found = 0;
     for _ in 0..4_000 {
         let b = boxes::any(rng, 6);
-        let mut paths: Vec<u32> = b.iter().map(|&v| v as u32).collect();
-        paths.push(0);
+        let paths = path(b.map(|v| v as u32), 0);
         let tiles = ((b[2] - b[0]) * (b[3] - b[1])) as usize;
         let mut case = Counting::new(&paths, tiles).room(24);
         for _ in 0..3 {
@@ -433,6 +433,8 @@ struct Tiling {
     stored: Vec<u32>,
     refs: Vec<u32>,
     room: usize,
+    /// As many as the room, but where they are to be refused.
+    tags: Option<usize>,
     from: u32,
     to: u32,
 }
@@ -445,7 +447,7 @@ impl Tiling {
         let mut stored = done.after[1].1.clone();
         let mut tally = vec![0; stored.len()];
         rules::hand_out(&mut stored, &mut tally, u32::MAX);
-        let refs = done.after[2].1[..2 * made].to_vec();
+        let refs = done.after[2].1[..REF * made].to_vec();
         Tiling {
             path_nos: case.path_nos.clone(),
             coords: case.coords.clone(),
@@ -453,6 +455,7 @@ impl Tiling {
             stored,
             refs,
             room: made,
+            tags: None,
             from: 0,
             to: made as u32,
         }
@@ -460,10 +463,11 @@ impl Tiling {
 
     fn written(&self) -> Written {
         let before = vec![0x447a_0000u32; SEGMENT * self.room];
-        let mut after: Vec<f32> = as_f32(&before).to_vec();
+        let tags_before = vec![0x5555_5555; self.tags.unwrap_or(self.room)];
+        let (mut after, mut tags): (Vec<f32>, _) = (as_f32(&before).to_vec(), tags_before.clone());
         let mut item = 0;
-        let number =
-            rules::tile(&self.path_nos, as_f32(&self.coords), &self.paths, &self.stored, &self.refs, self.from, self.to, &mut after, &mut item);
+        let (coords, refs) = (as_f32(&self.coords), &self.refs);
+        let number = rules::tile(&self.path_nos, coords, &self.paths, &self.stored, refs, self.from, self.to, &mut after, &mut tags, &mut item);
         if number == 0 {
             let mut by_rust: Vec<f32> = as_f32(&before).to_vec();
             let ran = oracle::tile(
@@ -482,9 +486,9 @@ impl Tiling {
         Written {
             kind: 4,
             numbers: vec![self.from, self.to],
-            before: vec![self.path_nos.clone(), self.coords.clone(), self.paths.clone(), self.stored.clone(), self.refs.clone(), before],
+            before: vec![self.path_nos.clone(), self.coords.clone(), self.paths.clone(), self.stored.clone(), self.refs.clone(), before, tags_before],
             answer: vec![number, item],
-            after: vec![(5, float_bits(&after))],
+            after: vec![(5, float_bits(&after)), (6, tags)],
         }
     }
 }
@@ -511,6 +515,14 @@ pub fn tiling() -> String {
     let half =
         Counting::new(&path([0, 0, 20, 11], 0), 220).with(0, [0x417f_ffff, 0x42c0_0000, 0x431f_ffff, 0x42bf_ffffu32].map(f32::from_bits)).room(40);
     list.case(&Tiling::of(&half).written());
+    list.say("Tags that aren't as many as the slots; two paths of one beam number, and one of another");
+    for tags in [0, 1, 3] {
+        let two = Tiling::of(&square().with(0, [8.0, 8.0, 8.0, 24.0]).room(8));
+        list.case(&Tiling { tags: Some(tags), ..two }.written());
+    }
+    let three = [stamped([0, 0, 1, 1], 0, 7), stamped([0, 0, 1, 1], 1, u32::MAX), stamped([0, 0, 1, 1], 2, 7)].concat();
+    let one_each = (0..3).fold(Counting::new(&three, 3), |case, p| case.with(2 - p, [8.5, 2.0, 8.5, 6.0]));
+    list.case(&Tiling::of(&one_each.room(3)).written());
     let mut references = 0;
     for (family, name) in lines::FAMILIES.iter().enumerate() {
         list.say(&format!("Family: {name}"));
@@ -522,7 +534,7 @@ pub fn tiling() -> String {
             }
             let written = tiling.written();
             if written.answer[0] == 0 {
-                references += tiling.refs.len() / 2;
+                references += refs_in(&tiling.refs);
             }
             list.case(&written);
             if round % 5 == 0 {
@@ -542,9 +554,10 @@ fn invented(list: &mut List, rng: &mut Rng, mut tiling: Tiling) {
     if all == 0 || tiling.stored.is_empty() {
         return;
     }
-    match rng.below(8) {
+    match rng.below(9) {
+        8 => tiling.tags = Some(rng.pick(&[0, tiling.room.saturating_sub(1), tiling.room + 1, SEGMENT * tiling.room])),
         0 => tiling.refs[rng.below(all) as usize] = rng.u32(),
-        1 => tiling.refs[(rng.below(all) | 1) as usize] += 1 + rng.below(4) as u32,
+        1 => tiling.refs[ref_words(rng.below(all) as usize / REF).start + PACKED] += 1 + rng.below(4) as u32,
         2 => tiling.stored[0] = rng.pick(&[0, 5, 0x7fff_ffff, u32::MAX, 0x8000_0000]),
         3 => tiling.room = tiling.room.saturating_sub(1),
         4 => tiling.from = tiling.to + 1,
@@ -635,7 +648,7 @@ struct Screen {
 
 impl Screen {
     fn one(commands: &[Command], segments: &[f32]) -> Screen {
-        let mut lists = Lists::new(64 * (commands.len() / 15 + 2), 77);
+        let mut lists = Lists::new(REGION * (commands.len() / 15 + 2), 77);
         let mut at = 1;
         for c in commands {
             at = lists.put(at, *c, 0xabad_1dea);
@@ -653,7 +666,7 @@ impl Screen {
             let records = oracle::segments_of(&self.segments);
             let mut theirs = self.lists.theirs();
             for t in self.from..self.to {
-                let made = oracle::fine_tile(theirs.for_tile(64 * t + 1), &records).expect("the Rust paints it");
+                let made = oracle::fine_tile(theirs.for_tile(REGION as u32 * t + 1), &records).expect("the Rust paints it");
                 let (x, y) = (16 * (t % self.cols) as usize, 16 * (t / self.cols) as usize);
                 for (row, sixteen) in made.chunks_exact(16).enumerate() {
                     let base = self.width as usize * (y + row) + x;
@@ -755,9 +768,9 @@ pub fn fine() -> String {
         let list: Vec<f32> = segments::list(&mut rng, n_segments).into_iter().map(|v| f32::from_bits(one_nan(v.to_bits()))).collect();
         let (cols, rows) = (rng.range(1, 2) as u32, rng.range(1, 2) as u32);
         let tiles = (cols * rows) as usize;
-        let mut lists = Lists::new(64 * tiles, 77);
+        let mut lists = Lists::new(REGION * tiles, 77);
         for t in 0..tiles {
-            let mut at = 64 * t + 1;
+            let mut at = REGION * t + 1;
             for _ in 0..rng.range(0, 9) {
                 let command = match rng.below(6) {
                     0..=1 => {
@@ -769,7 +782,7 @@ pub fn fine() -> String {
                 };
                 at = lists.put(at, command, 3);
             }
-            let next = Command::Jump((64 * rng.below(tiles as u64) + 1) as u32);
+            let next = Command::Jump((REGION as u64 * rng.below(tiles as u64) + 1) as u32);
             lists.put(at, if rng.one_in(10) { next } else { Command::End }, 0);
         }
         let width = 16 * cols + rng.below(3) as u32;

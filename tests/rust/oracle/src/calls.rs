@@ -1,8 +1,8 @@
 //! Calls over the panel's slices, and `raw` ones over the records for the benchmarks.
 
 use crate::records::*;
-use rules::limits::{LINE, REF, SEGMENT};
-use rules::records::{box_at, first_at, paths_in};
+use rules::limits::{LINE, REF, SEGMENT, STEP_RANGE};
+use rules::records::{self, box_at, first_at, line_floats, paths_in, points, ref_words, segment_floats, Y_EDGE};
 use std::cell::Cell;
 use std::panic::{catch_unwind, AssertUnwindSafe};
 use std::sync::Once;
@@ -42,7 +42,8 @@ pub fn lines_of(path_nos: &[u32], coords: &[f32]) -> Vec<LineSoup> {
     path_nos
         .iter()
         .zip(coords.chunks_exact(LINE))
-        .map(|(&path_ix, c)| LineSoup { path_ix, _padding: 0, p0: [c[0], c[1]], p1: [c[2], c[3]] })
+        .map(|(&path_ix, c)| (path_ix, points(c)))
+        .map(|(path_ix, (p0, p1))| LineSoup { path_ix, _padding: 0, p0, p1 })
         .collect()
 }
 
@@ -51,7 +52,26 @@ pub fn paths_of(paths: &[u32]) -> Vec<Path> {
 }
 
 pub fn segments_of(segments: &[f32]) -> Vec<PathSegment> {
-    segments.chunks_exact(SEGMENT).map(|s| PathSegment { point0: [s[0], s[1]], point1: [s[2], s[3]], y_edge: s[4], _padding: 0 }).collect()
+    let record = |s: &[f32]| {
+        let (point0, point1) = records::ends(s);
+        PathSegment { point0, point1, y_edge: s[Y_EDGE], _padding: 0 }
+    };
+    segments.chunks_exact(SEGMENT).map(record).collect()
+}
+
+/// A segment's floats.
+pub fn floats_of(record: &PathSegment) -> [f32; SEGMENT] {
+    records::segment(record.point0, record.point1, record.y_edge)
+}
+
+/// A reference's words, and the record of such words: both sides pack slice and step alike.
+pub fn words_of(record: &SegmentCount) -> [u32; REF] {
+    records::reference(record.line_ix, record.counts / STEP_RANGE, record.counts % STEP_RANGE)
+}
+
+pub fn reference_of(words: &[u32]) -> SegmentCount {
+    let (slice, step) = records::slice_and_step(words);
+    SegmentCount { line_ix: records::named(words), counts: slice * STEP_RANGE + step }
 }
 
 fn tiles_of(backdrops: &[i32], counts: &[u32]) -> Vec<Tile> {
@@ -70,11 +90,11 @@ pub fn count(
     to: usize,
     made: u32,
 ) -> Result<u32, Stopped> {
-    let mut lines = lines_of(&path_nos[..to], &coords[..LINE * to]);
+    let mut lines = lines_of(&path_nos[..to], &coords[..line_floats(to).start]);
     lines[..from].fill(LineSoup::default()); // of no length, so the walk skips them
     let paths = if paths.is_empty() { vec![Path::default()] } else { paths_of(paths) };
     let mut tiles = tiles_of(backdrops, counts);
-    let mut made_refs: Vec<SegmentCount> = refs.chunks_exact(REF).map(|r| SegmentCount { line_ix: r[0], counts: r[1] }).collect();
+    let mut made_refs: Vec<SegmentCount> = refs.chunks_exact(REF).map(reference_of).collect();
     let mut bump = BumpAllocators { lines: to as u32, seg_counts: made };
     caught(|| raw::count(&mut bump, &lines, &paths, &mut tiles, &mut made_refs))?;
     for (t, tile) in tiles.iter().enumerate() {
@@ -82,8 +102,7 @@ pub fn count(
         counts[t] = tile.segment_count_or_ix;
     }
     for (r, made) in made_refs.iter().enumerate() {
-        refs[REF * r] = made.line_ix;
-        refs[REF * r + 1] = made.counts;
+        refs[ref_words(r)].copy_from_slice(&words_of(made));
     }
     Ok(bump.seg_counts)
 }
@@ -102,13 +121,12 @@ pub fn tile(
     let lines = lines_of(path_nos, coords);
     let paths = paths_of(paths);
     let tiles: Vec<Tile> = stored.iter().map(|&i| Tile { backdrop: 0, segment_count_or_ix: i }).collect();
-    let refs: Vec<SegmentCount> = refs[REF * from..REF * to].chunks_exact(REF).map(|r| SegmentCount { line_ix: r[0], counts: r[1] }).collect();
+    let refs: Vec<SegmentCount> = refs[ref_words(from).start..ref_words(to).start].chunks_exact(REF).map(reference_of).collect();
     let mut records = segments_of(segments);
     let mut bump = BumpAllocators { lines: lines.len() as u32, seg_counts: refs.len() as u32 };
     caught(|| raw::tile(&mut bump, &refs, &lines, &paths, &tiles, &mut records))?;
     for (k, record) in records.iter().enumerate() {
-        let s = [record.point0[0], record.point0[1], record.point1[0], record.point1[1], record.y_edge];
-        segments[SEGMENT * k..SEGMENT * (k + 1)].copy_from_slice(&s);
+        segments[segment_floats(k)].copy_from_slice(&floats_of(record));
     }
     Ok(())
 }

@@ -82,6 +82,7 @@ unsafe extern "C" fn gp_tile(
     refs: *const u32, refs_len: usize,
     from: u32, to: u32,
     segments: *mut f32, segments_len: usize,
+    tags: *mut u32, tags_len: usize,
     item: &mut u32,
 ) -> u32 {
     let mut n = [from, to, *item];
@@ -95,6 +96,7 @@ unsafe extern "C" fn gp_tile(
             read_only(stored, stored_len),
             read_only(refs, refs_len),
             changed(segments, segments_len),
+            changed(tags, tags_len),
         ],
     );
     *item = n[2];
@@ -154,6 +156,7 @@ unsafe extern "C" fn gp_frame(
     tally: *mut u32, tally_len: usize,
     refs: *mut u32, refs_len: usize,
     segments: *mut f32, segments_len: usize,
+    tags: *mut u32, tags_len: usize,
     stage: &mut u32, item: &mut u32, lines: &mut u32, made: &mut u32,
 ) -> u32 {
     let mut n = [*stage, *item, *lines, *made];
@@ -169,6 +172,7 @@ unsafe extern "C" fn gp_frame(
             changed(tally, tally_len),
             changed(refs, refs_len),
             changed(segments, segments_len),
+            changed(tags, tags_len),
         ],
     );
     *stage = n[0];

@@ -77,19 +77,20 @@ pub fn tile(
     from: u32,
     to: u32,
     segments: &mut [f32],
+    tags: &mut [u32],
     item: &mut u32,
 ) -> u32 {
     #[cfg(all(feature = "tile", not(bridge)))]
-    if crate::null::is_lent(&[path_nos.len(), coords.len(), paths.len(), stored.len(), refs.len(), segments.len()]) {
+    if crate::null::is_lent(&[path_nos.len(), coords.len(), paths.len(), stored.len(), refs.len(), segments.len(), tags.len()]) {
         // SAFETY: every pointer and length is a slice's, lent for the call alone, or NULL and 0.
-        return unsafe { groatpocket::raw::gp_tile(crate::null::at(path_nos), path_nos.len(), crate::null::at(coords), coords.len(), crate::null::at(paths), paths.len(), crate::null::at(stored), stored.len(), crate::null::at(refs), refs.len(), from, to, crate::null::at_mut(segments), segments.len(), item) };
+        return unsafe { groatpocket::raw::gp_tile(crate::null::at(path_nos), path_nos.len(), crate::null::at(coords), coords.len(), crate::null::at(paths), paths.len(), crate::null::at(stored), stored.len(), crate::null::at(refs), refs.len(), from, to, crate::null::at_mut(segments), segments.len(), crate::null::at_mut(tags), tags.len(), item) };
     }
     #[cfg(feature = "tile")]
-    let answer = groatpocket::tile(from, to, path_nos, coords, paths, stored, refs, segments);
+    let answer = groatpocket::tile(from, to, path_nos, coords, paths, stored, refs, segments, tags);
     #[cfg(feature = "tile")]
     return crate::answers::item(answer, item);
     #[cfg(not(feature = "tile"))]
-    not_linked(("tile", path_nos, coords, paths, stored, refs, from, to, segments, item))
+    not_linked(("tile", path_nos, coords, paths, stored, refs, from, to, segments, tags, item))
 }
 
 pub fn fill(
@@ -154,22 +155,23 @@ pub fn frame(
     tally: &mut [u32],
     refs: &mut [u32],
     segments: &mut [f32],
+    tags: &mut [u32],
     stage: &mut u32,
     item: &mut u32,
     lines: &mut u32,
     made: &mut u32,
 ) -> u32 {
     #[cfg(all(feature = "frame", not(bridge)))]
-    if crate::null::is_lent(&[path_nos.len(), coords.len(), paths.len(), backdrops.len(), stored.len(), tally.len(), refs.len(), segments.len()]) {
+    if crate::null::is_lent(&[path_nos.len(), coords.len(), paths.len(), backdrops.len(), stored.len(), tally.len(), refs.len(), segments.len(), tags.len()]) {
         // SAFETY: every pointer and length is a slice's, lent for the call alone, or NULL and 0.
-        return unsafe { groatpocket::raw::gp_frame(crate::null::at(path_nos), path_nos.len(), crate::null::at(coords), coords.len(), crate::null::at(paths), paths.len(), crate::null::at_mut(backdrops), backdrops.len(), crate::null::at_mut(stored), stored.len(), crate::null::at_mut(tally), tally.len(), crate::null::at_mut(refs), refs.len(), crate::null::at_mut(segments), segments.len(), stage, item, lines, made) };
+        return unsafe { groatpocket::raw::gp_frame(crate::null::at(path_nos), path_nos.len(), crate::null::at(coords), coords.len(), crate::null::at(paths), paths.len(), crate::null::at_mut(backdrops), backdrops.len(), crate::null::at_mut(stored), stored.len(), crate::null::at_mut(tally), tally.len(), crate::null::at_mut(refs), refs.len(), crate::null::at_mut(segments), segments.len(), crate::null::at_mut(tags), tags.len(), stage, item, lines, made) };
     }
     #[cfg(feature = "frame")]
-    let answer = groatpocket::frame(path_nos, coords, paths, backdrops, stored, tally, refs, segments);
+    let answer = groatpocket::frame(path_nos, coords, paths, backdrops, stored, tally, refs, segments, tags);
     #[cfg(feature = "frame")]
     return crate::answers::stage_item_lines_made(answer, stage, item, lines, made);
     #[cfg(not(feature = "frame"))]
-    not_linked(("frame", path_nos, coords, paths, backdrops, stored, tally, refs, segments, stage, item, lines, made))
+    not_linked(("frame", path_nos, coords, paths, backdrops, stored, tally, refs, segments, tags, stage, item, lines, made))
 }
 
 pub fn write_lists(

@@ -2,6 +2,7 @@
 
 use crate::checks::*;
 use crate::limits::*;
+use crate::records::{box_at, first_at, paths_in};
 
 /// The path's tiles with its rows summed, or nothing where a sum leaves i32.
 fn summed(tiles: &[i32], width: usize) -> Option<Vec<i32>> {
@@ -25,8 +26,8 @@ pub fn backdrop(paths: &[u32], backdrops: &mut [i32], item: &mut u32) -> u32 {
             return Err((TOO_MANY, 0));
         }
         check_paths(paths, backdrops.len())?;
-        for (n, path) in paths.chunks_exact(PATH).enumerate() {
-            let [x0, y0, x1, y1, first] = [0, 1, 2, 3, 4].map(|k| path[k] as usize);
+        for n in 0..paths_in(paths) {
+            let ([x0, y0, x1, y1], first) = (box_at(paths, n).map(|v| v as usize), first_at(paths, n) as usize);
             let (width, height) = (x1 - x0, y1 - y0);
             let range = &mut backdrops[first..first + width * height];
             let sums = summed(range, width).ok_or((OUT_OF_I32, n as u32))?;

@@ -1,6 +1,7 @@
 //! Checks 1 to 4, of whatever a call takes.
 
 use crate::limits::*;
+use crate::records::{box_at, first_at, paths_in};
 
 /// A refusal: its number, and the line, path, reference or screen tile.
 pub type No = (u32, u32);
@@ -11,14 +12,14 @@ pub fn whole(words: usize, record: usize) -> bool {
 
 /// Check 2, of paths and tiles.
 pub fn too_many(paths: &[u32], tiles: usize) -> bool {
-    (paths.len() / PATH) as i64 > PATHS_MOST || tiles as i64 > TILES_MOST
+    paths_in(paths) as i64 > PATHS_MOST || tiles as i64 > TILES_MOST
 }
 
 /// Checks 3, then 4, path by path.
 pub fn check_paths(paths: &[u32], tiles: usize) -> Result<(), No> {
     let mut end_before: i64 = 0;
-    for (n, path) in paths.chunks_exact(PATH).enumerate() {
-        let [x0, y0, x1, y1, first] = [0, 1, 2, 3, 4].map(|k| path[k] as i64);
+    for n in 0..paths_in(paths) {
+        let ([x0, y0, x1, y1], first) = (box_at(paths, n).map(i64::from), i64::from(first_at(paths, n)));
         if [x0, y0, x1, y1].iter().any(|&edge| edge > EDGE_MOST) || x1 < x0 || y1 < y0 {
             return Err((BAD_BOX, n as u32));
         }

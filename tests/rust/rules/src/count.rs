@@ -2,6 +2,7 @@
 
 use crate::checks::*;
 use crate::limits::*;
+use crate::records::{line_floats, ref_words, reference, refs_in};
 use crate::walk::*;
 
 /// How many lines of each kind were accepted.
@@ -43,9 +44,9 @@ impl Tiles<'_> {
         }
         log.push(Was::Count(t, slice));
         self.counts[t] = slice + 1;
-        for (k, word) in [line, slice * STEP_RANGE + i as u32].into_iter().enumerate() {
-            log.push(Was::Ref(REF * slot + k, self.refs[REF * slot + k]));
-            self.refs[REF * slot + k] = word;
+        for (k, word) in ref_words(slot).zip(reference(line, slice, i as u32)) {
+            log.push(Was::Ref(k, self.refs[k]));
+            self.refs[k] = word;
         }
         Ok(())
     }
@@ -97,7 +98,7 @@ pub(crate) fn count_line(n: u32, path_no: u32, line: &[f32], paths: &[u32], made
     if steps > 0 && c.to - 1 > STEP_MOST {
         return Err(TOO_FULL);
     }
-    let room = ((tiles.refs.len() / REF) as i64).min(ROOM_MOST);
+    let room = (refs_in(tiles.refs) as i64).min(ROOM_MOST);
     if made + steps > room {
         return Err(NO_ROOM);
     }
@@ -162,7 +163,7 @@ pub fn count_seen(
         let mut tiles = Tiles { backdrops, counts, refs };
         for n in *lines..end {
             let k = n as usize;
-            let line = &coords[LINE * k..LINE * k + LINE];
+            let line = &coords[line_floats(k)];
             let steps = count_line(n, path_nos[k], line, paths, *made as i64, &mut tiles, seen).map_err(|no| (no, n))?;
             *lines = n + 1;
             *made = (*made as i64 + steps) as u32;

@@ -2,6 +2,7 @@
 
 use crate::floats::{max, min};
 use crate::limits::*;
+use crate::records::{end_floats, ends, segment_floats, segments_in, Y_EDGE};
 
 fn unit(v: f32) -> f32 {
     v.clamp(0.0, 1.0)
@@ -9,15 +10,16 @@ fn unit(v: f32) -> f32 {
 
 /// What one segment adds to the pixel at column `i`, row `j`; nothing where it doesn't reach the row.
 fn added(s: &[f32], i: usize, j: usize, x_tile: f32, y_tile: f32) -> Option<f32> {
-    let (dx, dy) = (s[2] - s[0], s[3] - s[1]);
+    let (p, q) = ends(s);
+    let (dx, dy) = (q[0] - p[0], q[1] - p[1]);
     let row = y_tile + j as f32;
-    let y = s[1] - row;
+    let y = p[1] - row;
     let (y0, y1) = (unit(y), unit(y + dy));
     let height = y0 - y1;
-    let edge = dx.signum() * unit(row - s[4] + 1.0);
+    let edge = dx.signum() * unit(row - s[Y_EDGE] + 1.0);
     if height != 0.0 {
         let reciprocal = dy.recip();
-        let start = s[0] - x_tile;
+        let start = p[0] - x_tile;
         let x0 = start + (y0 - y) * reciprocal * dx;
         let x1 = start + (y1 - y) * reciprocal * dx;
         let left = min(min(x0, x1) - i as f32, 1.0) - 1.0e-6;
@@ -51,16 +53,16 @@ pub fn pixel(segments: &[f32], even_odd: bool, backdrop: i32, i: usize, j: usize
 
 /// Whether a segment has both ends in its tile, the edges with it and either zero, and a y_edge that is a number.
 pub fn straight(s: &[f32]) -> bool {
-    s[..4].iter().all(|v| (0.0..=16.0).contains(v)) && s[4].is_finite()
+    end_floats(s).iter().all(|v| (0.0..=16.0).contains(v)) && s[Y_EDGE].is_finite()
 }
 
 /// The segments `first..first + number`: where they aren't all lent, 13; where one of them is crooked, 20.
 pub fn range(segments: &[f32], first: u32, number: u32) -> Result<&[f32], u32> {
     let end = first as i64 + number as i64;
-    if end > (segments.len() / SEGMENT) as i64 {
+    if end > segments_in(segments) as i64 {
         return Err(PAST_END);
     }
-    let named = &segments[SEGMENT * first as usize..SEGMENT * end as usize];
+    let named = &segments[segment_floats(first as usize).start..segment_floats(end as usize).start];
     if named.chunks_exact(SEGMENT).all(straight) {
         Ok(named)
     } else {

@@ -85,7 +85,7 @@ pub fn fine(words: &[u32], segments: &[f32], width: u32, cols: u32, rows: u32, f
             return Err((BAD_SCREEN, 0));
         }
         for t in from..to {
-            let made = tile_pixels(words, segments, 64 * t as u64 + 1).map_err(|no| (no, t))?;
+            let made = tile_pixels(words, segments, REGION as u64 * t as u64 + 1).map_err(|no| (no, t))?;
             let (x, y) = (16 * (t % cols) as usize, 16 * (t / cols) as usize);
             for (row, sixteen) in made.chunks_exact(16).enumerate() {
                 let base = width as usize * (y + row) + x;

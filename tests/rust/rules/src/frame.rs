@@ -2,6 +2,7 @@
 
 use crate::checks::*;
 use crate::limits::*;
+use crate::records::segments_in;
 use crate::{backdrop, count, hand_out, tile};
 
 /// The parts of a frame that may refuse.
@@ -21,13 +22,14 @@ pub fn frame(
     tally: &mut [u32],
     refs: &mut [u32],
     segments: &mut [f32],
+    tags: &mut [u32],
     stage: &mut u32,
     item: &mut u32,
     lines: &mut u32,
     made: &mut u32,
 ) -> u32 {
     (*lines, *made, *item) = (0, 0, 0);
-    let checked = lent(path_nos, coords, paths, backdrops, tiles, tally, refs, segments);
+    let checked = lent(path_nos, coords, paths, backdrops, tiles, tally, refs, segments, tags);
     let mut number = answer(checked, item);
     *stage = LENT;
     if number == DONE {
@@ -43,12 +45,12 @@ pub fn frame(
     }
     if number == DONE {
         *stage = HAND_OUT;
-        let room = (segments.len() / SEGMENT).min(ROOM_MOST as usize) as u32;
+        let room = segments_in(segments).min(ROOM_MOST as usize) as u32;
         number = hand_out(tiles, tally, room);
     }
     if number == DONE {
         *stage = TILING;
-        number = tile(path_nos, coords, paths, tiles, refs, 0, *made, segments, item);
+        number = tile(path_nos, coords, paths, tiles, refs, 0, *made, segments, tags, item);
     }
     if number == DONE {
         (*stage, *item) = (0, 0);
@@ -66,6 +68,7 @@ fn lent(
     tally: &[u32],
     refs: &[u32],
     segments: &[f32],
+    tags: &[u32],
 ) -> Result<(), No> {
     let shape = whole(coords.len(), LINE)
         && path_nos.len() == coords.len() / LINE
@@ -73,7 +76,8 @@ fn lent(
         && backdrops.len() == tiles.len()
         && tally.len() == tiles.len()
         && whole(refs.len(), REF)
-        && whole(segments.len(), SEGMENT);
+        && whole(segments.len(), SEGMENT)
+        && tags.len() == segments_in(segments);
     if !shape {
         return Err((BAD_SHAPE, 0));
     }

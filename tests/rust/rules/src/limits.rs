@@ -13,10 +13,13 @@ pub const COMMANDS_MOST: u32 = 4_096;
 pub const SIDE_MOST: u32 = 16_384;
 
 /// Words of a record.
-pub const PATH: usize = 5;
+pub const PATH: usize = 6;
 pub const LINE: usize = 4;
 pub const REF: usize = 2;
 pub const SEGMENT: usize = 5;
+pub const PAINT: usize = 2;
+/// Words of a region of commands.
+pub const REGION: usize = 64;
 /// A reference's second word is slice number times this plus step number.
 pub const STEP_RANGE: u32 = 65_536;
 

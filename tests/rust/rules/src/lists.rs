@@ -4,12 +4,9 @@ use crate::checks::*;
 use crate::fill::{cover, range};
 use crate::fine::{over, pack, unpack, COLOR, END, FILL, JUMP, SOLID};
 use crate::limits::*;
+use crate::records::{colour, even_odd, segment_floats};
 use crate::walk::Place;
 
-/// Words of a paint: colour, then rule.
-pub const PAINT: usize = 2;
-/// Words of a region.
-pub const REGION: usize = 64;
 const JUMP_WORDS: usize = 2;
 
 /// What a path puts on a screen tile, and its colour.
@@ -48,7 +45,7 @@ impl Tables<'_> {
             return None;
         }
         let t = at.tile(x, y);
-        let (color, even_odd, backdrop) = (paint[0], paint[1] % 2 == 1, self.backdrops[t]);
+        let (color, even_odd, backdrop) = (colour(paint), even_odd(paint), self.backdrops[t]);
         let covers = if even_odd { backdrop % 2 != 0 } else { backdrop != 0 };
         if self.tally[t] > 0 {
             Some(Pair::Fill { number: self.tally[t], even_odd, first: !self.stored[t], backdrop, color })
@@ -57,10 +54,14 @@ impl Tables<'_> {
         }
     }
 
-    /// The pairs of the screen tile at x, y, paths in painting order.
+    /// The pairs of the screen tile at x, y, paths in painting order, each with its path's number.
+    pub fn pairs_of_paths(&self, x: i64, y: i64) -> Vec<(usize, Pair)> {
+        let each = self.paths.chunks_exact(PATH).zip(self.paints.chunks_exact(PAINT)).enumerate();
+        each.filter_map(|(p, (path, paint))| self.pair(path, paint, x, y).map(|pair| (p, pair))).collect()
+    }
+
     pub fn pairs(&self, x: i64, y: i64) -> Vec<Pair> {
-        let each = self.paths.chunks_exact(PATH).zip(self.paints.chunks_exact(PAINT));
-        each.filter_map(|(path, paint)| self.pair(path, paint, x, y)).collect()
+        self.pairs_of_paths(x, y).into_iter().map(|(_, pair)| pair).collect()
     }
 }
 
@@ -177,7 +178,7 @@ pub fn painted(pairs: &[Pair], segments: &[f32]) -> [u32; 256] {
         let mut area = [1.0f32; 256];
         let color = match *pair {
             Pair::Fill { number, even_odd, first, backdrop, color } => {
-                let own = &segments[SEGMENT * first as usize..SEGMENT * (first as usize + number as usize)];
+                let own = &segments[segment_floats(first as usize).start..segment_floats(first as usize + number as usize).start];
                 cover(own, even_odd, backdrop, 0.0, 0.0, &mut area);
                 color
             }

@@ -37,7 +37,7 @@ pub fn pixel(words: &[u32], segments: &[f32], tile: u32, column: u32, row: u32, 
     if !whole(segments.len(), SEGMENT) {
         return BAD_SHAPE;
     }
-    match tile_pixels(words, segments, 64 * tile as u64 + 1) {
+    match tile_pixels(words, segments, REGION as u64 * tile as u64 + 1) {
         Ok(made) => {
             *pixel = made[(SIDE * row + column) as usize];
             DONE

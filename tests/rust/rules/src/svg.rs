@@ -2,6 +2,7 @@
 //! Numbers are std's own (`parse::<f32>`).
 
 use crate::limits::*;
+use crate::records::Line;
 
 /// Digits of a number before its point, and after it.
 pub const WHOLE_MOST: usize = 6;
@@ -128,7 +129,7 @@ struct Pen {
     at: Point,
     start: Point,
     open: bool,
-    lines: Vec<[f32; 4]>,
+    lines: Vec<Line>,
 }
 
 impl Pen {
@@ -197,7 +198,7 @@ impl Pen {
 }
 
 /// The lines of a text, or the place of its fault.
-pub fn outline(text: &[u8], depth: u32) -> Result<Vec<[f32; 4]>, Fault> {
+pub fn outline(text: &[u8], depth: u32) -> Result<Vec<Line>, Fault> {
     let mut pen = Pen::default();
     for command in commands(text)? {
         pen.command(&command, depth);

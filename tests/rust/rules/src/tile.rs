@@ -1,7 +1,8 @@
-//! Tiling: a segment for each reference, relative to its tile. The clips stand beside path_tiling.rs.
+//! Tiling: a segment for each reference, relative to its tile, and beside it the beam number of its line's path. The clips stand beside path_tiling.rs.
 
 use crate::checks::*;
 use crate::limits::*;
+use crate::records::{self, beam_at, end_floats, line_floats, named, ref_words, refs_in, segment_floats, segments_in, slice_and_step};
 use crate::walk::*;
 
 const SIDE: f32 = 16.0;
@@ -76,7 +77,7 @@ fn off_whole(p: Point) -> Point {
 }
 
 /// The segment of step i in the tile at x, y: point0, point1, y_edge.
-pub fn segment(w: &Walk, i: i64, x: i64, y: i64) -> [f32; 5] {
+pub fn segment(w: &Walk, i: i64, x: i64, y: i64) -> [f32; SEGMENT] {
     let corner = [x as f32 * SIDE, y as f32 * SIDE];
     let far = [corner[0] + SIDE, corner[1] + SIDE];
     let (p, q) = clipped(w, i, corner, far);
@@ -84,7 +85,7 @@ pub fn segment(w: &Walk, i: i64, x: i64, y: i64) -> [f32; 5] {
     let q = [q[0] - corner[0], q[1] - corner[1]];
     let (p, q, y_edge) = nudged(p, q);
     let (from, to) = if w.down { (p, q) } else { (q, p) };
-    [from[0], from[1], to[0], to[1], y_edge]
+    records::segment(from, to, y_edge)
 }
 
 /// All the slices that tiling reads.
@@ -95,17 +96,27 @@ pub struct Lent<'a> {
     pub stored: &'a [u32],
 }
 
-/// The slot and the segment of a reference, nothing where its tile is empty, or its refusal.
-pub fn piece(lent: &Lent, reference: &[u32], room: i64) -> Result<Option<(usize, [f32; 5])>, u32> {
-    let (n, slice, i) = (reference[0] as usize, (reference[1] / STEP_RANGE) as i64, (reference[1] % STEP_RANGE) as i64);
+/// What a reference writes: its slot, the segment there, and the slot's tag.
+pub struct Piece {
+    pub slot: usize,
+    pub segment: [f32; SEGMENT],
+    pub tag: u32,
+}
+
+/// What a reference writes, nothing where its tile is empty, or its refusal.
+pub fn piece(lent: &Lent, reference: &[u32], room: i64) -> Result<Option<Piece>, u32> {
+    let n = named(reference) as usize;
+    let (slice, i) = slice_and_step(reference);
+    let (slice, i) = (slice as i64, i as i64);
     if n >= lent.path_nos.len() {
         return Err(NO_SUCH);
     }
-    let line = &lent.coords[LINE * n..LINE * n + LINE];
+    let line = &lent.coords[line_floats(n)];
     if !good_coords(line) {
         return Err(BAD_COORD);
     }
-    let path = lent.paths.chunks_exact(PATH).nth(lent.path_nos[n] as usize).ok_or(NO_SUCH)?;
+    let path_no = lent.path_nos[n] as usize;
+    let path = lent.paths.chunks_exact(PATH).nth(path_no).ok_or(NO_SUCH)?;
     let at = Place::of(path);
     let w = Walk::of(line);
     if w.skipped(&at) {
@@ -121,10 +132,10 @@ pub fn piece(lent: &Lent, reference: &[u32], room: i64) -> Result<Option<(usize,
         return Err(NO_ROOM);
     }
     let segment = segment(&w, i, x, y);
-    if !segment[..4].iter().all(|v| (0.0..=SIDE).contains(v)) {
+    if !end_floats(&segment).iter().all(|v| (0.0..=SIDE).contains(v)) {
         return Err(OFF_TILE);
     }
-    Ok(Some((slot as usize, segment)))
+    Ok(Some(Piece { slot: slot as usize, segment, tag: beam_at(lent.paths, path_no) }))
 }
 
 pub fn tile(
@@ -136,6 +147,7 @@ pub fn tile(
     from: u32,
     to: u32,
     segments: &mut [f32],
+    tags: &mut [u32],
     item: &mut u32,
 ) -> u32 {
     let got = (|| {
@@ -144,8 +156,9 @@ pub fn tile(
             && whole(paths.len(), PATH)
             && whole(refs.len(), REF)
             && whole(segments.len(), SEGMENT)
+            && tags.len() == segments_in(segments)
             && from <= to
-            && to as usize <= refs.len() / REF;
+            && to as usize <= refs_in(refs);
         if !shape {
             return Err((BAD_SHAPE, 0));
         }
@@ -154,11 +167,11 @@ pub fn tile(
         }
         check_paths(paths, stored.len())?;
         let lent = Lent { path_nos, coords, paths, stored };
-        let room = (segments.len() / SEGMENT) as i64;
+        let room = segments_in(segments) as i64;
         for r in from..to {
-            let k = REF * r as usize;
-            if let Some((slot, segment)) = piece(&lent, &refs[k..k + REF], room).map_err(|no| (no, r))? {
-                segments[SEGMENT * slot..SEGMENT * slot + SEGMENT].copy_from_slice(&segment);
+            if let Some(piece) = piece(&lent, &refs[ref_words(r as usize)], room).map_err(|no| (no, r))? {
+                segments[segment_floats(piece.slot)].copy_from_slice(&piece.segment);
+                tags[piece.slot] = piece.tag;
             }
         }
         Ok(())

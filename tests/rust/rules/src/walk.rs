@@ -3,6 +3,7 @@
 
 use crate::floats::{max, min};
 use crate::limits::*;
+use crate::records::{box_at, first_at, points};
 
 pub const TILE_SCALE: f32 = 1.0 / 16.0;
 pub const ONE_MINUS_ULP: f32 = 0.99999994;
@@ -20,8 +21,8 @@ pub struct Place {
 
 impl Place {
     pub fn of(path: &[u32]) -> Place {
-        let [x0, y0, x1, y1, first] = [0, 1, 2, 3, 4].map(|k| path[k] as i64);
-        Place { x0, y0, x1, y1, first }
+        let [x0, y0, x1, y1] = box_at(path, 0).map(i64::from);
+        Place { x0, y0, x1, y1, first: i64::from(first_at(path, 0)) }
     }
 
     pub fn tile(&self, x: i64, y: i64) -> usize {
@@ -61,7 +62,7 @@ fn span(a: f32, b: f32) -> i64 {
 
 impl Walk {
     pub fn of(line: &[f32]) -> Walk {
-        let (p0, p1) = ([line[0], line[1]], [line[2], line[3]]);
+        let (p0, p1) = points(line);
         let down = p1[1] >= p0[1];
         let (upper, lower) = if down { (p0, p1) } else { (p1, p0) };
         let s0 = upper.map(|v| v * TILE_SCALE);

@@ -1,8 +1,9 @@
 //! What docs/RULES.md says of outlines from SVG, so that the rules as restated here are seen to be the rules.
 
+use rules::records::Line;
 use rules::svg::outline;
 
-fn lines(text: &str, depth: u32) -> Vec<[f32; 4]> {
+fn lines(text: &str, depth: u32) -> Vec<Line> {
     outline(text.as_bytes(), depth).unwrap_or_else(|place| panic!("{text:?} is refused at {place}"))
 }
 

@@ -8,14 +8,14 @@ use Rattle.coverage.proofs.row.row_of.Tie as tie
 int-to-float-top : tie.Need-int-to-float-top
 int-to-float-top c = small _ (search needs)
 
-clamp-requires : tie.Need-clamp-requires
-clamp-requires c κs = search needs
+in-row-requires : tie.Need-in-row-requires
+in-row-requires c κs = search needs
 
-clamp-requires-2 : tie.Need-clamp-requires-2
-clamp-requires-2 c κs = search needs
+in-row-requires-2 : tie.Need-in-row-requires-2
+in-row-requires-2 c κs = search needs
 
-clamp-requires-3 : tie.Need-clamp-requires-3
-clamp-requires-3 c κs = search needs
+in-row-requires-3 : tie.Need-in-row-requires-3
+in-row-requires-3 c κs = search needs
 
 returns : tie.Need-returns
 unfolding rowOf
@@ -23,4 +23,4 @@ returns c = cc
 
 pub row-of-spec : {M : Type 1} → statement M
 row-of-spec =
-    tie.close (tie.spec int-to-float-top clamp-requires clamp-requires-2 clamp-requires-3 returns)
+    tie.close (tie.spec int-to-float-top in-row-requires in-row-requires-2 in-row-requires-3 returns)

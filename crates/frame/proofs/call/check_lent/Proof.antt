@@ -39,14 +39,25 @@ returns-6 c = rw (
 
 returns-7 : tie.Need-returns-7
 returns-7 c = rw (
-  eq-eqb _ _ (c .before .before .before .before .before .if1 .left),
-  eq-eqb _ _ (c .before .before .before .before .if2 .left),
-  eq-eqb _ _
-      (c .before .before .before .if3 .left),
-  eq-eqb _ _ (c .before .before .if4 .left),
-  eq-eqb _ _ (c .before .if5 .left),
-  eq-eqb _ _ (c .if6 .left),
+  eq-eqb _ _ (c .before .before .before .before .before .before .if1 .left),
+  eq-eqb _ _ (c .before .before .before .before .before .if2 .left),
+  eq-eqb _ _ (c .before .before .before .before .if3 .left),
+  eq-eqb _ _ (c .before .before .before .if4 .left),
+  eq-eqb _ _ (c .before .before .if5 .left),
+  eq-eqb _ _ (c .before .if6 .left),
+  ne-eqb _ _ (c .if7 .taken),
+)
+
+returns-8 : tie.Need-returns-8
+returns-8 c = rw (
+  eq-eqb _ _ (c .before .before .before .before .before .before .if1 .left),
+  eq-eqb _ _ (c .before .before .before .before .before .if2 .left),
+  eq-eqb _ _ (c .before .before .before .before .if3 .left),
+  eq-eqb _ _ (c .before .before .before .if4 .left),
+  eq-eqb _ _ (c .before .before .if5 .left),
+  eq-eqb _ _ (c .before .if6 .left),
+  eq-eqb _ _ (c .if7 .left),
 )
 
 pub check-lent-spec : {M : Type 1} → statement M
-check-lent-spec = tie.close (tie.spec returns returns-2 returns-3 returns-4 returns-5 returns-6 returns-7)
+check-lent-spec = tie.close (tie.spec returns returns-2 returns-3 returns-4 returns-5 returns-6 returns-7 returns-8)

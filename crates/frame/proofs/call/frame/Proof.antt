@@ -31,10 +31,9 @@ enum-known-a c = search needs
 
 returns-2 : tie.Need-returns-2
 returns-2 c =
-    let s = c .before .before .before .before .before .before in
-    let t = c .before .before .before in
-    frame-path _ _ _ _ _ _ _ _ (s .check-lent .result) (s .check-lent .ensures) (c .before .before .before .before .enum-told .given .1)
-    (t .check-paths .result) (t .check-paths .ensures) _ _ (c .before .a .given .1)
+    let l = c .before .before .before .before .before .before .check-lent in
+    let p = c .before .before .before .check-paths in
+    frame-path _ _ _ _ _ _ _ _ (l .result) (l .ensures) (c .before .before .before .before .enum-told .given .1) (p .result) (p .ensures) _ _ (c .before .a .given .1)
 
 enum-told-2 : tie.Need-enum-told-2
 enum-told-2 c = search needs
@@ -42,12 +41,14 @@ enum-told-2 c = search needs
 -- the paths are checked, for as many backdrops as tiles
 draw-requires : tie.Need-draw-requires
 draw-requires c κs =
-    let a = c .before .before .before .before .before .before .before .before .before .before .before .before .before .before .before .before .before .before .args in
+    let a = c .before .before .before .before .before .before .before .before .before .before .before .before .before .before .before .before .before .before
+    .before .before .args in
     let fine = all-ok (lentChecks (length (a .path-nos .now)) (length (a .coords .now)) (length (a .backdrops .now)) (length (a .stored .now))
-    (length (a .tally .now)) (length (a .refs .now)) (length (a .segments .now)))
-    (sym (c .before .before .before .before .before .before .before .before .before .before .check-lent .ensures) ∙ c .before .before .before .before
-    .before .before .before .before .enum-told .given .1) in (
-      sym (c .before .before .before .before .before .before .before .check-paths .ensures) ∙ c .before .before .before .before .before .enum-told2 .given .1,
+    (length (a .tally .now)) (length (a .refs .now)) (length (a .segments .now)) (length (a .tags .now)))
+    (sym (c .before .before .before .before .before .before .before .before .before .before .before .check-lent .ensures) ∙ c .before .before .before .before
+    .before .before .before .before .before .enum-told .given .1) in (
+      sym (c .before .before .before .before .before .before .before .before .check-paths .ensures) ∙ c .before .before .before .before .before
+          .before .enum-told2 .given .1,
       eqb-true (length (a .backdrops .now)) (length (a .stored .now)) (fine .1 .1 .0),
     )
 
@@ -66,16 +67,20 @@ same-length-4 c = search needs
 same-length-5 : tie.Need-same-length-5
 same-length-5 c = search needs
 
+same-length-6 : tie.Need-same-length-6
+same-length-6 c = search needs
+
 returns-3 : tie.Need-returns-3
 returns-3 c =
-    let s = c .before .before .before .before .before .before .before .before .before .before .before .before .before .before .before .before .before .before
-    .before .before in
-    let t = c .before .before .before .before .before .before .before .before .before .before .before .before .before .before .before .before .before in
-    frame-goes _ _ _ _ _ _ _ _ (s .check-lent .result) (s .check-lent .ensures)
-    (c .before .before .before .before .before .before .before .before .before .before .before .before .before .before .before .before .before .before
-    .enum-told .given .1) (t .check-paths .result) (t .check-paths .ensures) _
-    (c .before .before .before .before .before .before .before .before .before .before .before .before .before .before .before .enum-told2 .given .1)
-    (c .before .before .before .before .before .before .before .before .before .draw .ensures)
+    let l = c .before .before .before .before .before .before .before .before .before .before .before .before .before .before .before .before .before .before
+    .before .before .before .before .before .check-lent in
+    let p = c .before .before .before .before .before .before .before .before .before .before .before .before .before .before .before .before .before .before
+    .before .before .check-paths in
+    frame-goes _ _ _ _ _ _ _ _ (l .result) (l .ensures) (c .before .before .before .before .before .before .before .before .before .before .before .before .before
+    .before .before .before .before .before .before .before .before .enum-told .given .1) (p .result) (p .ensures) _
+    (c .before .before .before .before .before .before .before .before .before .before .before .before .before .before .before .before .before
+    .before .enum-told2 .given .1)
+    (c .before .before .before .before .before .before .before .before .before .before .before .draw .ensures)
 
 pub frame-spec : {M : Type 1} → statement M
 frame-spec =
@@ -95,4 +100,5 @@ frame-spec =
     same-length-3
     same-length-4
     same-length-5
+    same-length-6
     returns-3)

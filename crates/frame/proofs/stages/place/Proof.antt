@@ -7,7 +7,8 @@ use Rattle.frame.proofs.stages.place.Tie as tie
 
 -- the paths are checked for as many backdrops as tiles
 backdrop-checked-requires : tie.Need-backdrop-checked-requires
-backdrop-checked-requires c κs = rw (c .before .before .before .before .before .before .before .before .pre .1) (c .before .before .before .before .before .before .before .before .pre .0)
+backdrop-checked-requires c κs = rw (c .before .before .before .before .before .before .before .before .before .pre .1) (c .before .before .before .before .before
+    .before .before .before .before .pre .0)
 
 enum-known-summed : tie.Need-enum-known-summed
 enum-known-summed c = search needs
@@ -45,8 +46,8 @@ returns-2 : tie.Need-returns-2
 returns-2 c =
     let b = c .before .before .before .before .before .before .before .before .before .before .before .before .before .before .backdrop-checked in
     let h = c .before .before .before .before .before .before .before .hand-out in
-    handed-no _ _ _ _ _ _ _ _ _ (b .result) _ (b .ensures) (c .before .before .before .before .before .before .before .before .before .before .before
-    .enum-told .given .1) _ (c .before .before .before .before .before .before .before .before .before .before .slots-of .ensures)
+    handed-no _ _ _ _ _ _ _ _ _ (b .result) _ (b .ensures) (c .before .before .before .before .before .before .before .before .before .before
+    .before .enum-told .given .1) _ (c .before .before .before .before .before .before .before .before .before .before .slots-of .ensures)
     (h .result) _ _ (h .ensures) _ _ (c .before .handed .given .1)
 
 enum-told-2 : tie.Need-enum-told-2
@@ -54,9 +55,9 @@ enum-told-2 c = search needs
 
 -- hand-out leaves as many tiles
 tile-checked-requires : tie.Need-tile-checked-requires
-tile-checked-requires c κs = rw (c .before .before .before .before .before .before .before .stored .given)
+tile-checked-requires c κs = rw (c .before .before .before .before .before .before .before .before .stored .given)
     (c .before .before .before .before .before .before .before .before .before .before .before .before .before .before .before .before .before .before .before
-    .before .before .before .before .before .pre .0)
+    .before .before .before .before .before .before .before .pre .0)
 
 enum-known-tiled : tie.Need-enum-known-tiled
 enum-known-tiled c = search needs
@@ -73,23 +74,24 @@ same-length-7 c = search needs
 same-length-8 : tie.Need-same-length-8
 same-length-8 c = search needs
 
+same-length-9 : tie.Need-same-length-9
+same-length-9 c = search needs
+
 returns-3 : tie.Need-returns-3
 returns-3 c =
     let b = c .before .before .before .before .before .before .before .before .before .before .before .before .before .before .before .before .before .before
-    .before .before .before .backdrop-checked in
-    let h = c .before .before .before .before .before .before .before .before .before .before .before .before .before .before .hand-out in
-    let t = c .before .before .before .before .before .tile-checked in
+    .before .before .before .before .before .before .backdrop-checked in
+    let h = c .before .before .before .before .before .before .before .before .before .before .before .before .before .before .before .before .before .hand-out in
+    let t = c .before .before .before .before .before .before .before .tile-checked in
     tiled-no _ _ _ _ _ _ _ _ _ (b .result) _ (b .ensures) (c .before .before .before .before .before .before .before .before .before .before .before .before
-    .before .before .before .before .before .before .enum-told .given .1) _
-    (c .before .before .before .before .before .before .before .before .before .before .before .before .before .before .before .before .before .slots-of
-    .ensures)
-    (h .result) _ _ (h .ensures) (c .before .before .before .before .before .before .before .before .enum-told2 .given .1) (t .result) _ (t .ensures) _ _ (c .before .tiled .given .1)
+    .before .before .before .before .before .before .before .before .before .enum-told .given .1) _
+    (c .before .before .before .before .before .before .before .before .before .before .before .before .before .before .before .before .before .before .before
+    .before .slots-of .ensures)
+    (h .result) _ _ (h .ensures) (c .before .before .before .before .before .before .before .before .before .before
+    .before .enum-told2 .given .1) (t .result) _ (t .ensures) _ _ (c .before .tiled .given .1)
 
 enum-told-3 : tie.Need-enum-told-3
 enum-told-3 c = search needs
-
-same-length-9 : tie.Need-same-length-9
-same-length-9 c = search needs
 
 same-length-10 : tie.Need-same-length-10
 same-length-10 c = search needs
@@ -100,15 +102,24 @@ same-length-11 c = search needs
 same-length-12 : tie.Need-same-length-12
 same-length-12 c = search needs
 
+same-length-13 : tie.Need-same-length-13
+same-length-13 c = search needs
+
+same-length-14 : tie.Need-same-length-14
+same-length-14 c = search needs
+
 returns-4 : tie.Need-returns-4
 returns-4 c =
-    let b = c .before .before .before .before .before .before .before .before .before .before .before .before .before .before .before .before .before .before .before .before .backdrop-checked in
-    let h = c .before .before .before .before .before .before .before .before .before .before .before .before .before .hand-out in
-    let t = c .before .before .before .before .tile-checked in
+    let b = c .before .before .before .before .before .before .before .before .before .before .before .before .before .before .before .before .before .before
+    .before .before .before .before .before .backdrop-checked in
+    let h = c .before .before .before .before .before .before .before .before .before .before .before .before .before .before .before .before .hand-out in
+    let t = c .before .before .before .before .before .before .tile-checked in
     all-done _ _ _ _ _ _ _ _ _ (b .result) _ (b .ensures) (c .before .before .before .before .before .before .before .before .before .before .before .before
-    .before .before .before .before .before .enum-told .given .1) _
-    (c .before .before .before .before .before .before .before .before .before .before .before .before .before .before .before .before .slots-of .ensures)
-    (h .result) _ _ (h .ensures) (c .before .before .before .before .before .before .before .enum-told2 .given .1) (t .result) _ (t .ensures) (c .enum-told3 .given .1)
+    .before .before .before .before .before .before .before .before .enum-told .given .1) _
+    (c .before .before .before .before .before .before .before .before .before .before .before .before .before .before .before .before .before .before
+    .before .slots-of .ensures)
+    (h .result) _ _ (h .ensures) (c .before .before .before .before .before .before .before .before .before
+    .before .enum-told2 .given .1) (t .result) _ (t .ensures) (c .enum-told3 .given .1)
 
 pub place-spec : {M : Type 1} → statement M
 place-spec =
@@ -133,10 +144,12 @@ place-spec =
     same-length-6
     same-length-7
     same-length-8
+    same-length-9
     returns-3
     enum-told-3
-    same-length-9
     same-length-10
     same-length-11
     same-length-12
+    same-length-13
+    same-length-14
     returns-4)

@@ -34,9 +34,12 @@ same-length-4 c = search needs
 same-length-5 : tie.Need-same-length-5
 same-length-5 c = search needs
 
+same-length-6 : tie.Need-same-length-6
+same-length-6 c = search needs
+
 returns : tie.Need-returns
 returns c =
-    let s = c .before .before .before .before .before .before .before .before .before .before .before .before .before in
+    let s = c .before .before .before .before .before .before .before .before .before .before .before .before .before .before .before in
     let t = c .before .before .before in
     told-frame (s .frame .result) (t .running-of .result) _ _ _ _ _ _ _ _ _ (c .number-of .ensures) (c .before .before .stage-of .ensures)
     (c .before .item-of .ensures) (t .running-of .ensures) (s .frame .ensures)
@@ -55,4 +58,5 @@ gp-frame-spec =
     same-length-3
     same-length-4
     same-length-5
+    same-length-6
     returns)

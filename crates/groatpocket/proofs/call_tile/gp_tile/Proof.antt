@@ -18,10 +18,14 @@ number-requires c κs = search needs
 same-length : tie.Need-same-length
 same-length c = search needs
 
+same-length-2 : tie.Need-same-length-2
+same-length-2 c = search needs
+
 returns : tie.Need-returns
 returns c =
-    let e = c .before .before .before .before .tile .ensures in
-    told-at (c .before .before .before .before .tile .result) _ _ _ _ _ (c .number .ensures) (c .before .item .ensures) (ap (λ (o : Tiled). o .paper) e) (ap (λ (o : Tiled). o .segments) e)
+    let t = c .before .before .before .before .before .before .tile in
+    told-at (t .result) _ _ _ _ _ (c .number .ensures) (c .before .item .ensures) (ap (λ (o : Tiled). o .paper) (t .ensures))
+    (ap (λ (o : Tiled). o .pieces) (t .ensures))
 
 pub gp-tile-spec : {M : Type 1} → statement M
-gp-tile-spec = tie.close (tie.spec tile-requires item-requires number-requires same-length returns)
+gp-tile-spec = tie.close (tie.spec tile-requires item-requires number-requires same-length same-length-2 returns)

@@ -56,11 +56,20 @@ mul-paths-5 c = search needs
 slice-write-paths-5 : tie.Need-slice-write-paths-5
 slice-write-paths-5 c = simp length-set (omega arith)
 
+add-paths-6 : tie.Need-add-paths-6
+add-paths-6 c = search needs
+
+mul-paths-6 : tie.Need-mul-paths-6
+mul-paths-6 c = search needs
+
+slice-write-paths-6 : tie.Need-slice-write-paths-6
+slice-write-paths-6 c = simp length-set (omega arith)
+
 same-length : tie.Need-same-length
 same-length c = search needs
 
 returns : tie.Need-returns
-returns c = path-stores (c .args .paths .now) (c .args .k * pathWords) (c .args .p)
+returns c = path-stores (c .args .paths .now) (c .args .k * pathWords) (c .args .p) (c .args .beam)
 
 pub put-path-spec : {M : Type 1} → statement M
 put-path-spec =
@@ -82,5 +91,8 @@ put-path-spec =
     add-paths-5
     mul-paths-5
     slice-write-paths-5
+    add-paths-6
+    mul-paths-6
+    slice-write-paths-6
     same-length
     returns)

@@ -1,34 +1,34 @@
 -- `recount::lines::count_lines` meets its contract. The invariant: to count the lines left from here is to count all from the start.
 -- Assumes nothing.
-use mathlib.Core.Path.{_≡_, refl, sym, ap, _∙_, subst, subst₂}
+use mathlib.Core.Path.{_≡_, refl, sym, ap, _∙_, subst₂}
 use Prim.Native.Nat.{ℕ, _+_, _-_, _*_, _/_, _≤_, _<_, _^_}
 use native.Mathlib.Omega.{arith}
 use mathlib.Core.List.{[], _∷_}
-use lib.ListN.{length, getD, take, drop, length-drop}
-use borrow.Rule.Slice.PartAt.{part-to-end}
+use lib.ListN.{length, getD}
 use borrow.Author.Needs.{needs}
 use Rattle.lists.specs.Run.{Step, taken}
-use Rattle.panel.specs.Widths.{refWords, lineFloats}
+use Rattle.panel.specs.Widths.{refWords}
 use Rattle.acts.specs.Acts.{St, stOf}
 use Rattle.acts.specs.Line.{batchOf}
 use Rattle.acts.proofs.Lines.{batch-goes, batch-stops, batch-ends}
+use Rattle.path_count.specs.Notes.{noteWords}
 use Rattle.path_count.specs.Count.{lineRan, tallyRan, Lent, toldOf}
 use Rattle.path_count.specs.declared.kinds.Tallied.{Tallied}
 use Rattle.path_count.proofs.Lines.{ran-taken, ran-halted}
 use Rattle.recount.specs.Recount.{ownStep, linesRan, linesTold}
-use Rattle.recount.proofs.OwnLaws.{own-part, own-made}
+use Rattle.recount.proofs.OwnLaws.{own-made}
 use Rattle.recount.proofs.lines.count_lines.Statement.{statement}
 use Rattle.recount.proofs.lines.count_lines.Tie as tie
 
 abbrev Inv-loop : tie.InvT-loop
-Inv-loop path line-nos path-nos coords paths backs₀ counts₀ refs₀ made₀ k₀ backs counts refs made k =
+Inv-loop path line-nos path-nos coords paths backs₀ counts₀ refs₀ notes₀ made₀ k₀ backs counts refs notes made k =
     (k ≤ length path-nos) × (length backs ≡ length backs₀) × (length counts ≡ length counts₀) × (length refs ≡ length refs₀)
     × (batchOf (λ j. ownStep path path-nos coords paths (length refs₀ / refWords) (getD line-nos j 0) j) k (length path-nos - k) (stOf backs counts refs made)
     ≡ linesRan path line-nos path-nos coords paths (length refs₀ / refWords) (stOf backs₀ counts₀ refs₀ 0))
-    × (made < 2 ^ 32)
+    × (made < 2 ^ 32) × (length notes ≡ noteWords)
 
 abbrev μ-loop : tie.MeasureT-loop
-μ-loop path line-nos path-nos coords paths backs₀ counts₀ refs₀ made₀ k₀ backs counts refs made k = length path-nos - k
+μ-loop path line-nos path-nos coords paths backs₀ counts₀ refs₀ notes₀ made₀ k₀ backs counts refs notes made k = length path-nos - k
 
 loop-holds : tie.Need-loop-holds Inv-loop μ-loop
 loop-holds c =
@@ -41,6 +41,7 @@ loop-holds c =
       ap (λ (n : ℕ). batchOf (λ k. ownStep (a .path) (a .path-nos .now) (a .coords .now) (a .paths .now) (length (a .refs .now) / refWords) (getD (a .line-nos .now) k 0) k) 0 n
           (stOf (a .backs .now) (a .counts .now) (a .refs .now) 0)) none,
       omega arith,
+      refl,
     )
 
 mul-l : tie.Need-mul-l Inv-loop μ-loop
@@ -49,119 +50,78 @@ mul-l c = search needs
 shared-slice-read-l : tie.Need-shared-slice-read-l Inv-loop μ-loop
 shared-slice-read-l c = omega (arith, c .before .loop-test .taken, c .before .before .before .before .before .before .before .before .before .pre .2)
 
-mul-at : tie.Need-mul-at Inv-loop μ-loop
-mul-at c = search needs
-
-mul-own-line : tie.Need-mul-own-line Inv-loop μ-loop
-mul-own-line c = search needs
-
-sub-own-line : tie.Need-sub-own-line Inv-loop μ-loop
-sub-own-line c = search needs
-
-part-own-line-start : tie.Need-part-own-line-start Inv-loop μ-loop
-part-own-line-start c = search needs
-
-part-own-line-end : tie.Need-part-own-line-end Inv-loop μ-loop
-part-own-line-end c = search needs
-
-mul-own-line-2 : tie.Need-mul-own-line-2 Inv-loop μ-loop
-mul-own-line-2 c = search needs
-
-sub-own-line-2 : tie.Need-sub-own-line-2 Inv-loop μ-loop
-sub-own-line-2 c = search needs
-
-part-own-line-start-2 : tie.Need-part-own-line-start-2 Inv-loop μ-loop
-part-own-line-start-2 c = omega (arith, c .before .before .loop-test .taken, c .before .before .before .before .before .before .before .before .before .before .pre .3)
-
-part-own-line-end-2 : tie.Need-part-own-line-end-2 Inv-loop μ-loop
-part-own-line-end-2 c = search needs
+slice-aggregate-own-line : tie.Need-slice-aggregate-own-line Inv-loop μ-loop
+slice-aggregate-own-line c = sym (c .before .before .before .loop .inv .6)
 
 own-line-requires : tie.Need-own-line-requires Inv-loop μ-loop
 own-line-requires c κs =
-    let a = c .before .before .before .before .before .before .before .before .before .before .before .before .before .before .args in
-    let l = c .before .before .before .before .before .before .before .loop in
-    let nos = ap length (part-to-end (a .path-nos .now) (l .k)) ∙ length-drop (l .k) (a .path-nos .now) in
-    let fs = ap length (part-to-end (a .coords .now) (l .k * lineFloats)) ∙ length-drop (l .k * lineFloats) (a .coords .now) in (
-      subst₂ (Lent (a .paths .now)) (sym (l .inv .1)) (sym (l .inv .2))
-          (c .before .before .before .before .before .before .before .before .before .before .before .before .before .before .pre .0),
-      c .before .before .before .before .before .before .before .before .before .before .before .before .before .before .pre .1,
-      omega
-          (arith, nos, c .before .before .before .before .before .before .loop-test .taken),
-      omega (
-        arith,
-        fs,
-        c .before .before .before .before .before .before .loop-test .taken,
-        c .before .before .before .before .before .before .before .before .before .before .before .before .before .before .pre .3,
-      ),
+    let a = c .before .before .before .before .before .before .before .before .before .before .before .before .before .args in
+    let l = c .before .before .before .before .before .before .loop in
+    let pre = c .before .before .before .before .before .before .before .before .before .before .before .before .before .pre in
+    let test = c .before .before .before .before .before .loop-test .taken in (
+      subst₂ (Lent (a .paths .now)) (sym (l .inv .1)) (sym (l .inv .2)) (pre .0),
+      pre .1,
+      record { numbered = test; whole = omega (arith, test, pre .3) },
+      l .inv .6,
     )
 
--- what the line's answer says, of the line at its place, with the room as it was at the start
+-- what the line's answer says, with the room as it was at the start
 said : (c : tie.After-own-line Inv-loop μ-loop) →
-    let a = c .before .before .before .before .before .before .before .before .before .before .before .before .before .before .before .args in
-    let l = c .before .before .before .before .before .before .before .before .loop in
-    tallyRan (c .own-line .result) (stOf (c .own-line .last .1 .1 .1 .1 .1 .1 .0) (c .own-line .last .1 .1 .1 .1 .1 .1 .1 .0) (c .own-line .last .1 .1 .1 .1 .1 .1 .1 .1 .0)) (l .made)
+    let a = c .before .before .before .before .before .before .before .before .before .before .before .before .before .before .args in
+    let l = c .before .before .before .before .before .before .before .loop in
+    tallyRan (c .own-line .result)
+    (stOf (c .own-line .last .1 .1 .1 .1 .1 .1 .1 .1 .0) (c .own-line .last .1 .1 .1 .1 .1 .1 .1 .1 .1 .0) (c .own-line .last .1 .1 .1 .1 .1 .1 .1 .1 .1 .1 .0)) (l .made)
     ≡ lineRan (ownStep (a .path) (a .path-nos .now) (a .coords .now) (a .paths .now) (length (a .refs .now) / refWords) (getD (a .line-nos .now) (l .k) 0) (l .k)
     (stOf (l .backs) (l .counts) (l .refs) (l .made))) (stOf (l .backs) (l .counts) (l .refs) (l .made))
 said c =
-    let a = c .before .before .before .before .before .before .before .before .before .before .before .before .before .before .before .args in
-    let l = c .before .before .before .before .before .before .before .before .loop in
+    let a = c .before .before .before .before .before .before .before .before .before .before .before .before .before .before .args in
+    let l = c .before .before .before .before .before .before .before .loop in
     c .own-line .ensures
     ∙ ap (λ (n : ℕ). lineRan
-    (ownStep (a .path) (take (length (a .path-nos .now) - l .k) (drop (l .k) (a .path-nos .now)))
-    (take (length (a .coords .now) - l .k * lineFloats) (drop (l .k * lineFloats) (a .coords .now))) (a .paths .now) (n / refWords) (getD (a .line-nos .now) (l .k) 0) 0
+    (ownStep (a .path) (a .path-nos .now) (a .coords .now) (a .paths .now) (n / refWords) (getD (a .line-nos .now) (l .k) 0) (l .k)
     (stOf (l .backs) (l .counts) (l .refs) (l .made))) (stOf (l .backs) (l .counts) (l .refs) (l .made))) (l .inv .3)
-    ∙ ap (λ (o : Step St ℕ). lineRan o (stOf (l .backs) (l .counts) (l .refs) (l .made)))
-    (own-part (a .path) (a .path-nos .now) (a .coords .now) (a .paths .now) (length (a .refs .now) / refWords) (getD (a .line-nos .now) (l .k) 0) (l .k)
-    (stOf (l .backs) (l .counts) (l .refs) (l .made)) _ _ (part-to-end (a .path-nos .now) (l .k)) (part-to-end (a .coords .now) (l .k * lineFloats)))
 
 -- the line is taken
 took : (c : tie.After-t2 Inv-loop μ-loop) →
     let a = c .before .before .before .before .before .before .before .before .before .before .before .before .before .before .before .before .before .before .before .before .before .before .args in
     let l = c .before .before .before .before .before .before .before .before .before .before .before .before .before .before .before .loop in
+    let o = c .before .before .before .before .before .before .before .before .own-line in
     ownStep (a .path) (a .path-nos .now) (a .coords .now) (a .paths .now) (length (a .refs .now) / refWords) (getD (a .line-nos .now) (l .k) 0) (l .k)
     (stOf (l .backs) (l .counts) (l .refs) (l .made)) ≡ taken
-    (stOf (c .before .before .before .before .before .before .before .own-line .last .1 .1 .1 .1 .1 .1 .0)
-    (c .before .before .before .before .before .before .before .own-line .last .1 .1 .1 .1 .1 .1 .1 .0)
-    (c .before .before .before .before .before .before .before .own-line .last .1 .1 .1 .1 .1 .1 .1 .1 .0) (l .made + c .t2 .given .0 .0))
+    (stOf (o .last .1 .1 .1 .1 .1 .1 .1 .1 .0) (o .last .1 .1 .1 .1 .1 .1 .1 .1 .1 .0) (o .last .1 .1 .1 .1 .1 .1 .1 .1 .1 .1 .0) (l .made + c .t2 .given .0 .0))
 took c =
     let a = c .before .before .before .before .before .before .before .before .before .before .before .before .before .before .before .before .before .before .before .before .before .before .args in
     let l = c .before .before .before .before .before .before .before .before .before .before .before .before .before .before .before .loop in
+    let o = c .before .before .before .before .before .before .before .before .own-line in
     ran-taken (ownStep (a .path) (a .path-nos .now) (a .coords .now) (a .paths .now) (length (a .refs .now) / refWords) (getD (a .line-nos .now) (l .k) 0) (l .k)
     (stOf (l .backs) (l .counts) (l .refs) (l .made))) (stOf (l .backs) (l .counts) (l .refs) (l .made)) _
     (sym (ap (λ (t : Tallied). tallyRan t
-    (stOf (c .before .before .before .before .before .before .before .own-line .last .1 .1 .1 .1 .1 .1 .0)
-    (c .before .before .before .before .before .before .before .own-line .last .1 .1 .1 .1 .1 .1 .1 .0)
-    (c .before .before .before .before .before .before .before .own-line .last .1 .1 .1 .1 .1 .1 .1 .1 .0)) (l .made)) (c .t2 .given .1)) ∙ said
-    (c .before .before .before .before .before .before .before))
+    (stOf (o .last .1 .1 .1 .1 .1 .1 .1 .1 .0) (o .last .1 .1 .1 .1 .1 .1 .1 .1 .1 .0) (o .last .1 .1 .1 .1 .1 .1 .1 .1 .1 .1 .0)) (l .made)) (c .t2 .given .1)) ∙ said
+    (c .before .before .before .before .before .before .before .before))
 
 enum-known-t : tie.Need-enum-known-t Inv-loop μ-loop
 enum-known-t c = search needs
 
 same-length : tie.Need-same-length Inv-loop μ-loop
-same-length c = c .before .before .before .before .before .before .before .backs .given
-    ∙ c .before .before .before .before .before .before .before .before .before .before .before .before .before .before .before .before .loop .inv .1
+same-length c = c .before .before .before .before .before .before .before .backs .given ∙ c .before .before .before .before .before .before .before .before .before .before .before .before .before .before .before .before .loop .inv .1
 
 same-length-2 : tie.Need-same-length-2 Inv-loop μ-loop
-same-length-2 c = c .before .before .before .before .before .before .counts .given
-    ∙ c .before .before .before .before .before .before .before .before .before .before .before .before .before .before .before .before .loop .inv .2
+same-length-2 c = c .before .before .before .before .before .before .counts .given ∙ c .before .before .before .before .before .before .before .before .before .before .before .before .before .before .before .before .loop .inv .2
 
 same-length-3 : tie.Need-same-length-3 Inv-loop μ-loop
-same-length-3 c = c .before .before .before .before .refs .given
-    ∙ c .before .before .before .before .before .before .before .before .before .before .before .before .before .before .before .before .loop .inv .3
+same-length-3 c = c .before .before .before .before .refs .given ∙ c .before .before .before .before .before .before .before .before .before .before .before .before .before .before .before .before .loop .inv .3
 
 returns : tie.Need-returns Inv-loop μ-loop
 returns c =
-    let a = c .before .before .before .before .before .before .before .before .before .before .before .before .before .before .before .before .before .before .before .before .before .before
-    .before .args in
+    let a = c .before .before .before .before .before .before .before .before .before .before .before .before .before .before .before .before .before .before .before .before .before .before .before .args in
     let l = c .before .before .before .before .before .before .before .before .before .before .before .before .before .before .before .before .loop in
+    let o = c .before .before .before .before .before .before .before .before .before .own-line in
     let n = c .before .t .given .0 .0 in
     let e = ran-halted (ownStep (a .path) (a .path-nos .now) (a .coords .now) (a .paths .now) (length (a .refs .now) / refWords) (getD (a .line-nos .now) (l .k) 0) (l .k)
     (stOf (l .backs) (l .counts) (l .refs) (l .made))) (stOf (l .backs) (l .counts) (l .refs) (l .made)) _ n
     (sym (ap (λ (t : Tallied). tallyRan t
-    (stOf (c .before .before .before .before .before .before .before .before .own-line .last .1 .1 .1 .1 .1 .1 .0)
-    (c .before .before .before .before .before .before .before .before .own-line .last .1 .1 .1 .1 .1 .1 .1 .0)
-    (c .before .before .before .before .before .before .before .before .own-line .last .1 .1 .1 .1 .1 .1 .1 .1 .0)) (l .made)) (c .before .t .given .1)) ∙ said
-    (c .before .before .before .before .before .before .before .before)) in
+    (stOf (o .last .1 .1 .1 .1 .1 .1 .1 .1 .0) (o .last .1 .1 .1 .1 .1 .1 .1 .1 .1 .0) (o .last .1 .1 .1 .1 .1 .1 .1 .1 .1 .1 .0)) (l .made)) (c .before .t .given .1)) ∙ said
+    (c .before .before .before .before .before .before .before .before .before)) in
     ap (toldOf (n ∷ getD (a .line-nos .now) (l .k) 0 ∷ l .made ∷ [])) (e .1)
     ∙ ap (linesTold (a .line-nos .now))
     (batch-stops (λ k. ownStep (a .path) (a .path-nos .now) (a .coords .now) (a .paths .now) (length (a .refs .now) / refWords) (getD (a .line-nos .now) k 0) k) (l .k)
@@ -171,17 +131,18 @@ returns c =
 enum-known-t-2 : tie.Need-enum-known-t-2 Inv-loop μ-loop
 enum-known-t-2 c = search needs
 
+-- and leaves the references within 32 bits
+few : (c : tie.After-t2 Inv-loop μ-loop) →
+    let l = c .before .before .before .before .before .before .before .before .before .before .before .before .before .before .before .loop in
+    l .made + c .t2 .given .0 .0 < 2 ^ 32
+few c =
+    let a = c .before .before .before .before .before .before .before .before .before .before .before .before .before .before .before .before .before .before .before .before .before .before .args in
+    let l = c .before .before .before .before .before .before .before .before .before .before .before .before .before .before .before .loop in
+    own-made (a .path) (a .path-nos .now) (a .coords .now) (a .paths .now) (length (a .refs .now) / refWords) (getD (a .line-nos .now) (l .k) 0) (l .k)
+    (stOf (l .backs) (l .counts) (l .refs) (l .made)) (c .before .before .before .before .before .before .before .before .before .before .before .before .before .before .before .before .before .before .before .before .before .before .pre .1) (l .inv .5) _ (took c)
+
 add-made : tie.Need-add-made Inv-loop μ-loop
-add-made c =
-    let a = c .before .before .before .before .before .before .before .before .before .before .before .before .before .before .before .before .before .before .before .before .before .before
-    .before .args in
-    let l = c .before .before .before .before .before .before .before .before .before .before .before .before .before .before .before .before .loop in
-    record {
-      fits = own-made (a .path) (a .path-nos .now) (a .coords .now) (a .paths .now) (length (a .refs .now) / refWords) (getD (a .line-nos .now) (l .k) 0) (l .k)
-          (stOf (l .backs) (l .counts) (l .refs) (l .made))
-          (c .before .before .before .before .before .before .before .before .before .before .before .before .before .before .before .before .before .before .before .before .before .before
-          .before .pre .1) (l .inv .5) _ (took (c .before));
-    }
+add-made c = record { fits = few (c .before) }
 
 add-k : tie.Need-add-k Inv-loop μ-loop
 add-k c = search needs
@@ -191,20 +152,17 @@ loop-less c = search needs
 
 loop-again : tie.Need-loop-again Inv-loop μ-loop
 loop-again c =
-    let a = c .before .before .before .before .before .before .before .before .before .before .before .before .before .before .before .before .before .before .before .before .before .before
-    .before .args in
-    let l = c .before .before .before .before .before .before .before .before .before .before .before .before .before .before .before .before .loop in (
-      omega (arith, c .before .before .before .before .before .before .before .before .before .before .before .before .before .before .before .loop-test .taken),
+    let a = c .before .before .before .before .before .before .before .before .before .before .before .before .before .before .before .before .before .before .before .before .before .before .before .args in
+    let l = c .before .before .before .before .before .before .before .before .before .before .before .before .before .before .before .before .loop in
+    let test = c .before .before .before .before .before .before .before .before .before .before .before .before .before .before .before .loop-test .taken in (
+      omega (arith, test),
       c .before .before .before .before .before .before .before .backs .given ∙ l .inv .1,
       c .before .before .before .before .before .before .counts .given ∙ l .inv .2,
       c .before .before .before .before .refs .given ∙ l .inv .3,
       batch-goes (λ k. ownStep (a .path) (a .path-nos .now) (a .coords .now) (a .paths .now) (length (a .refs .now) / refWords) (getD (a .line-nos .now) k 0) k) (l .k)
-          (length (a .path-nos .now)) (stOf (l .backs) (l .counts) (l .refs) (l .made))
-          (c .before .before .before .before .before .before .before .before .before .before .before .before .before .before .before .loop-test .taken) _ (l .inv .4) _ (took (c .before)),
-      own-made (a .path) (a .path-nos .now) (a .coords .now) (a .paths .now) (length (a .refs .now) / refWords) (getD (a .line-nos .now) (l .k) 0) (l .k)
-          (stOf (l .backs) (l .counts) (l .refs) (l .made))
-          (c .before .before .before .before .before .before .before .before .before .before .before .before .before .before .before .before .before .before .before .before .before .before
-          .before .pre .1) (l .inv .5) _ (took (c .before)),
+          (length (a .path-nos .now)) (stOf (l .backs) (l .counts) (l .refs) (l .made)) test _ (l .inv .4) _ (took (c .before)),
+      few (c .before),
+      c .before .before .before .before .before .before .before .before .notes2 .given,
     )
 
 same-length-4 : tie.Need-same-length-4 Inv-loop μ-loop
@@ -233,15 +191,7 @@ count-lines-spec =
     loop-holds
     mul-l
     shared-slice-read-l
-    mul-at
-    mul-own-line
-    sub-own-line
-    part-own-line-start
-    part-own-line-end
-    mul-own-line-2
-    sub-own-line-2
-    part-own-line-start-2
-    part-own-line-end-2
+    slice-aggregate-own-line
     own-line-requires
     enum-known-t
     same-length

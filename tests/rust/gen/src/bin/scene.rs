@@ -9,7 +9,7 @@
 
 use cases::commands::{Command, Lists};
 use rules::limits::SEGMENT;
-use rules::records::{box_at, first_at, paths_in};
+use rules::records::{self, box_at, first_at, paint_words, paths_in};
 use std::path::PathBuf;
 use std::{env, fs};
 
@@ -56,6 +56,10 @@ fn frame() -> Frame {
     Frame { backdrops, tally, firsts, segments }
 }
 
+fn colour_of(p: usize) -> u32 {
+    records::colour(&PAINTS[paint_words(p)])
+}
+
 /// What path p covers of the screen tile (x, y), as a command for the list, or nothing.
 fn cover(f: &Frame, p: usize, x: u32, y: u32) -> Option<Command> {
     let ([x0, y0, x1, y1], first) = (box_at(&PATHS, p), first_at(&PATHS, p));
@@ -63,7 +67,7 @@ fn cover(f: &Frame, p: usize, x: u32, y: u32) -> Option<Command> {
         return None;
     }
     let t = (first + (y - y0) * (x1 - x0) + x - x0) as usize;
-    let even_odd = PAINTS[2 * p + 1] == 1;
+    let even_odd = records::even_odd(&PAINTS[paint_words(p)]);
     let backdrop = f.backdrops[t];
     if f.tally[t] > 0 {
         return Some(Command::Fill { number: f.tally[t], even_odd, first: f.firsts[t], backdrop });
@@ -91,7 +95,7 @@ fn painted(f: &Frame, x: u32, y: u32) -> Vec<[u8; 4]> {
     let mut rgba = vec![[0f32; 4]; 256];
     for p in 0..paths_in(&PATHS) {
         let Some(command) = cover(f, p, x, y) else { continue };
-        let colour = PAINTS[2 * p].to_be_bytes().map(|b| b as f32 * (1.0 / 255.0));
+        let colour = colour_of(p).to_be_bytes().map(|b| b as f32 * (1.0 / 255.0));
         for (pixel, area) in rgba.iter_mut().zip(area_of(f, command)) {
             let fore = colour.map(|c| c * area);
             for j in 0..4 {
@@ -104,11 +108,11 @@ fn painted(f: &Frame, x: u32, y: u32) -> Vec<[u8; 4]> {
 
 /// The same by the whole of fine.rs, from a list.
 fn by_fine(f: &Frame, x: u32, y: u32) -> Vec<[u8; 4]> {
-    let mut lists = Lists::new(8 * PATHS.len(), 0);
+    let mut lists = Lists::new(40 * paths_in(&PATHS), 0);
     let mut at = 1;
     for p in 0..paths_in(&PATHS) {
         let Some(command) = cover(f, p, x, y) else { continue };
-        for command in [command, Command::Color(PAINTS[2 * p])] {
+        for command in [command, Command::Color(colour_of(p))] {
             at = lists.put(at, command, 0);
         }
     }

@@ -1,9 +1,13 @@
 //! What the program `traces` must print, by the unchanged Rust: `cargo run --profile checked -p gen --bin traces`
 //! writes it to standard output, and crates/traces/stdout holds it; with the word `check` it ends with status 1 where that file
-//! differs. Hand-out isn't in the Rust: it is the rules'.
+//! differs. Hand-out and tags aren't in the Rust: they are the rules'.
 
-use rules::records::path;
+use rules::limits::{REF, SEGMENT};
+use rules::records::{segment_floats, stamped, Line};
 use std::fmt::Write;
+
+/// The beam number of path 0.
+const BEAM: u32 = 7;
 
 fn words<T: std::fmt::Display>(words: &[T]) -> String {
     words.iter().map(|w| format!(" {w}")).collect()
@@ -13,9 +17,9 @@ fn bits(segment: &[f32]) -> String {
     segment.iter().map(|x| format!(" {:x}", x.to_bits())).collect()
 }
 
-fn trace(out: &mut String, name: &str, coords: [f32; 4], x0: u32) -> std::fmt::Result {
-    let (path_nos, paths) = ([0], path([x0, 0, x0 + 2, 2], 0));
-    let (mut backdrops, mut counts, mut refs) = ([0i32; 4], [0u32; 4], [0u32; 8]);
+fn trace(out: &mut String, name: &str, coords: Line, x0: u32) -> std::fmt::Result {
+    let (path_nos, paths) = ([0], stamped([x0, 0, x0 + 2, 2], 0, BEAM));
+    let (mut backdrops, mut counts, mut refs) = ([0i32; 4], [0u32; 4], [0u32; 4 * REF]);
     let made = oracle::count(&path_nos, &coords, &paths, &mut backdrops, &mut counts, &mut refs, 0, 1, 0).unwrap();
     writeln!(out, "{name}: count 0, references {made}")?;
     writeln!(out, "  counts{}", words(&counts))?;
@@ -29,11 +33,14 @@ fn trace(out: &mut String, name: &str, coords: [f32; 4], x0: u32) -> std::fmt::R
         next += n;
     }
     writeln!(out, "  hand-out 0:{}", words(&counts))?;
-    let mut segments = [0.0f32; 10];
+    let mut segments = [0.0f32; 2 * SEGMENT];
     oracle::tile(&path_nos, &coords, &paths, &counts, &refs, 0, made as usize, &mut segments).unwrap();
     writeln!(out, "  tile 0")?;
-    writeln!(out, "  slot 0:{}", bits(&segments[..5]))?;
-    writeln!(out, "  slot 1:{}", bits(&segments[5..]))
+    writeln!(out, "  slot 0:{}", bits(&segments[segment_floats(0)]))?;
+    writeln!(out, "  slot 1:{}", bits(&segments[segment_floats(1)]))?;
+    let (mut again, mut tags) = ([0.0f32; 2 * SEGMENT], [0; 2]);
+    assert_eq!(rules::tile(&path_nos, &coords, &paths, &counts, &refs, 0, made, &mut again, &mut tags, &mut 0), 0);
+    writeln!(out, "  tags{}", words(&tags))
 }
 
 fn all() -> Result<String, std::fmt::Error> {
