@@ -172,10 +172,10 @@ module _ (b : ℕ) (nos : List ℕ) (coords : List Float) (paths : List ℕ) (n 
       slots-gathered after (first cs) (eventPiece nos coords paths) t (getD cs t 0) es ks
       (stands after (first cs) (eventPiece nos coords paths) es ks long
       (λ i k. let im : i < m = omega (arith, k, h .made) in
-          piece-at i im
-          ∙ ap (λ (x : ℕ). segmentAt after x ∷ [])
-          (ap (λ (c : List ℕ). first c (getD (tilesEv es) i 0) + getD ks i 0) (sym (h .counts))
-          ∙ ap (λ (u : ℕ). first cs u + getD ks i 0) (event-tile b nos coords paths n refs bs cs rs m all es h i im))))
+      piece-at i im
+      ∙ ap (λ (x : ℕ). segmentAt after x ∷ [])
+      (ap (λ (c : List ℕ). first c (getD (tilesEv es) i 0) + getD ks i 0) (sym (h .counts))
+      ∙ ap (λ (u : ℕ). first cs u + getD ks i 0) (event-tile b nos coords paths n refs bs cs rs m all es h i im))))
       (slices-are-from n ts t q ∙ ap (λ (c : List ℕ). from 0 (getD c t 0)) (sym (h .counts)))
 
   -- a tile of path p's box

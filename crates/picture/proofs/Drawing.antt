@@ -161,7 +161,7 @@ module _ (b : ℕ) (nos : List ℕ) (coords : List Float) (paths : List ℕ) (n 
   few = omega (arith, sums b nos coords paths n refs bs cs rs m counted .total, whole b nos coords paths n refs bs cs rs m counted .few)
 
   module _ (q x y : ℕ) (there : q < pathCount paths) (box : InBox (pathAt paths q) x y) where
-    pieces-there : readFrom after (not32 (getD (hand 0 cs) (tileOf (pathAt paths q) x y) 0)) (getD cs (tileOf (pathAt paths q) x y) 0) ≡ piecesOf paths q x y lines
+    pub pieces-there : readFrom after (not32 (getD (hand 0 cs) (tileOf (pathAt paths q) x y) 0)) (getD cs (tileOf (pathAt paths q) x y) 0) ≡ piecesOf paths q x y lines
     pieces-there = go (getD cs t 0) refl
       where
         t : ℕ
@@ -196,8 +196,8 @@ module _ (b : ℕ) (nos : List ℕ) (coords : List Float) (paths : List ℕ) (n 
         backdrop-cell paths bs summed added q x y there box
         ∙ row-sum paths (pathAt paths q) x y box (ofPath q lines) (own-boxes paths q lines) bs
         (λ t l k. let h = row-held (pathAt paths q) x y t box l k in
-            let f = checked paths n (passed b nos coords paths n refs bs cs rs m counted) .fits q there in
-            seen-back b nos coords paths n refs bs cs rs m counted q t (there, h .0, h .1) (omega (arith, h .1, f .within)))
+        let f = checked paths n (passed b nos coords paths n refs bs cs rs m counted) .fits q there in
+        seen-back b nos coords paths n refs bs cs rs m counted q t (there, h .0, h .1) (omega (arith, h .1, f .within)))
 
   -- each path puts on a pixel what the picture has of it
   path-same : (x y k q : ℕ) → q < pathCount paths → (px : List Float) → paintPath now after x y k q px ≡ pathOver paths paints lines x y k q px

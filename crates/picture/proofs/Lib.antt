@@ -6,6 +6,7 @@
 --     Windings    a tile's summed backdrop is its path's winding there
 --     Drawing     so the colours that the tables paint are the picture's
 --     Pictures    the theorem, of the calls and of a frame; isolation to the pixel; order
+--     After       batches and ranges; which call can refuse after a done frame; where pieces come from
 pub mod AtSlots
 pub mod Gather
 pub mod OwnPieces
@@ -13,3 +14,4 @@ pub mod AtTile
 pub mod Windings
 pub mod Drawing
 pub mod Pictures
+pub mod After

@@ -186,8 +186,8 @@ module _ (b : Path) (x y : ℕ) (in-box : InBox b x y) where
           rw (ne-eqb r y e)
           (in-no (rowStart b y) (suc (x - b .x0)) u
           (λ p q. let d : ℕ = (r - b .y0) * widthOf b + (c - b .x0) - (y - b .y0) * widthOf b in
-              let o = cell-once (widthOf b) (r - b .y0) (c - b .x0) (y - b .y0) d (omega arith) (omega (arith, in-box .left, in-box .right)) (omega arith) in
-              e (omega (arith, o .0, in-box .top))))
+          let o = cell-once (widthOf b) (r - b .y0) (c - b .x0) (y - b .y0) d (omega arith) (omega (arith, in-box .left, in-box .right)) (omega arith) in
+          e (omega (arith, o .0, in-box .top))))
 
   -- rows that the line passes left of the box
   rows-marked : (n r : ℕ) → b .x0 < b .x1 → b .y0 ≤ r
@@ -239,7 +239,7 @@ module _ (b : Path) (x y : ℕ) (in-box : InBox b x y) where
       go false q = range-none (rowStart b y) (suc (x - b .x0))
       go true q =
           let w = step-told p b i t c r z e .within in
-          let right : c + 1 < b .x1 = ltb-true (c + 1) (b .x1) 
+          let right : c + 1 < b .x1 = ltb-true (c + 1) (b .x1)
           (both (cond (eqb i 0) (p .«on_top») (eq (lastZ p i) z)) (ltb (c + 1) (b .x1)) q .1) in
           let number : t .0 + 1 ≡ b .first + (r - b .y0) * widthOf b + (c + 1 - b .x0) = omega (arith, number-is p b i t c r z e, w .col-least) in
           let cell = cell-in-row (c + 1) r (omega (arith, w .col-least)) right (w .row-least) in
