@@ -7,6 +7,7 @@
 --     Drawing     so the colours that the tables paint are the picture's
 --     Pictures    the theorem, of the calls and of a frame; isolation to the pixel; order
 --     After       batches and ranges; which call can refuse after a done frame; where pieces come from
+--     Instances   the premises can be met; two statements near the theorems' that are false
 pub mod AtSlots
 pub mod Gather
 pub mod OwnPieces
@@ -15,3 +16,4 @@ pub mod Windings
 pub mod Drawing
 pub mod Pictures
 pub mod After
+pub mod Instances
