@@ -8,6 +8,7 @@ pub mod floats;
 pub mod lines;
 pub mod memory;
 pub mod rng;
+pub mod scene;
 pub mod segments;
 pub mod texts;
 

@@ -32,7 +32,7 @@ const ODD: [usize; 4] = [17, 19, 20, 21];
 /// A line so short that its steps are refused with 10, in a box of six tiles.
 const SHORT: [u32; 4] = [0x42a0_0000, 0, 0x42a0_0000, 1_000];
 
-fn lines_of(rng: &mut Rng, families: &[usize], paths: &[u32], n: usize) -> (Vec<u32>, Vec<u32>) {
+pub fn lines_of(rng: &mut Rng, families: &[usize], paths: &[u32], n: usize) -> (Vec<u32>, Vec<u32>) {
     let (mut path_nos, mut coords) = (vec![], vec![]);
     for _ in 0..n {
         let path = rng.below(paths_in(&paths) as u64) as usize;
@@ -46,7 +46,13 @@ fn lines_of(rng: &mut Rng, families: &[usize], paths: &[u32], n: usize) -> (Vec<
 /// A frame over the paths, of lines of these families, or of all: what the tables hold beforehand is anything, and there is
 /// room for all or nearly all.
 pub fn over(rng: &mut Rng, paths: Vec<u32>, tiles: usize, n: usize, families: &[usize]) -> Case {
-    let (path_nos, coords) = if families.is_empty() { some_lines(rng, &paths, n) } else { lines_of(rng, families, &paths, n) };
+    let lines = if families.is_empty() { some_lines(rng, &paths, n) } else { lines_of(rng, families, &paths, n) };
+    of_lines(rng, lines, paths, tiles)
+}
+
+/// The same of lines that are there: path numbers and coordinates.
+pub fn of_lines(rng: &mut Rng, (path_nos, coords): (Vec<u32>, Vec<u32>), paths: Vec<u32>, tiles: usize) -> Case {
+    let n = path_nos.len();
     let reach = (0..paths_in(&paths)).map(|k| box_at(&paths, k)).map(|[x0, y0, x1, y1]| (x1 - x0 + y1 - y0) as usize).max().unwrap_or(0);
     let (mut b, mut c, mut r) = (vec![0; tiles], vec![0; tiles], vec![0; REF * n * (120 + reach)]);
     let (mut lines, mut made) = (0, 0);

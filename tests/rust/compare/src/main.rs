@@ -28,6 +28,7 @@ mod limits;
 mod lists;
 mod order;
 mod origin;
+mod picture;
 mod pixel;
 mod recount;
 mod stage;
@@ -104,7 +105,7 @@ fn run<S: Stage>(stage: &S, args: &Args, linked: bool, seconds: f64) -> bool {
     stage::run(stage, Sides { ours, rust: oracle::AT_HAND }, budget)
 }
 
-const STAGES: [&str; 14] = [
+const STAGES: [&str; 15] = [
     "floats",
     "backdrop",
     "hand_out",
@@ -114,6 +115,7 @@ const STAGES: [&str; 14] = [
     "fine",
     "frame",
     "write_lists",
+    "picture",
     "pixel",
     "recount",
     "svg_lines",
@@ -137,6 +139,7 @@ fn stages(args: &Args) -> bool {
     well &= run(&fine::Fine, args, ours::has::FINE, 12.0);
     well &= run(&frame::Frame, args, ours::has::FRAME, 12.0);
     well &= run(&write_lists::WriteLists, args, ours::has::LISTS, 12.0);
+    well &= picture(args);
     well &= run(&pixel::Pixel, args, ours::has::PIXEL && ours::has::FILL && ours::has::FINE, 8.0);
     well &= run(&recount::Recount, args, ours::has::RECOUNT && ours::has::COUNT, 6.0);
     well &= run(&svg_lines::SvgLines, args, ours::has::SVG, 6.0);
@@ -149,6 +152,12 @@ fn stages(args: &Args) -> bool {
     well &= hostile(args);
     let whole = args.only.is_none();
     well & (!whole || limits::run(args.mode != "rules-vs-oracle", false))
+}
+
+fn picture(args: &Args) -> bool {
+    let well = run(&picture::Picture, args, picture::LINKED, 10.0);
+    let scene = picture::LINKED && args.mode != "rules-vs-oracle" && args.cases.is_none() && args.only.as_deref().is_none_or(|o| o == "picture");
+    well && (!scene || picture::scene())
 }
 
 fn hostile(args: &Args) -> bool {

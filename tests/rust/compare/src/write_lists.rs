@@ -38,7 +38,7 @@ pub struct WriteLists;
 const OWN_BEAM: &str = "slots of FILLs with their path's beam";
 
 /// Paths in painting order whose boxes lie on or near a small screen, many of them over one another; now and then one over all the wall.
-fn near_boxes(rng: &mut Rng, n: usize, most: i64) -> (Vec<u32>, usize) {
+pub fn near_boxes(rng: &mut Rng, n: usize, most: i64) -> (Vec<u32>, usize) {
     let (mut paths, mut next) = (vec![], 0);
     let far = rng.range(0, 2);
     for _ in 0..n {
@@ -53,7 +53,7 @@ fn near_boxes(rng: &mut Rng, n: usize, most: i64) -> (Vec<u32>, usize) {
     (paths, next as usize)
 }
 
-fn paints(rng: &mut Rng, n: usize) -> Vec<u32> {
+pub fn paints(rng: &mut Rng, n: usize) -> Vec<u32> {
     let rule = |rng: &mut Rng| if rng.one_in(12) { rng.u32() } else { rng.below(2) as u32 };
     (0..n).flat_map(|_| paint(color(rng), rule(rng))).collect()
 }
@@ -269,7 +269,7 @@ impl Case {
 }
 
 /// The frame less a path and its lines; the tiles of that path lie between others then.
-fn without_path(f: &frame::Case, k: usize) -> frame::Case {
+pub fn without_path(f: &frame::Case, k: usize) -> frame::Case {
     let mut less = f.clone();
     less.paths.drain(words_of(k));
     (less.path_nos, less.coords) = (vec![], vec![]);
@@ -458,7 +458,7 @@ fn draw(case: &Case, lists: &Memory, by_rules: &Memory, sides: Sides, table: &mu
 
 /// Every path whose box has the tile as a FILL and its colour, one after another, with no regions: no test of covering, but
 /// the Rust's own fill of no segments. Only a backdrop that a float can't hold is made small, odd staying odd.
-fn fills_alone(tables: &Tables, x: i64, y: i64) -> Lists {
+pub fn fills_alone(tables: &Tables, x: i64, y: i64) -> Lists {
     let mut lists = Lists::new(6 * paths_in(&tables.paths) + 2, 0);
     let mut at = 1;
     for (path, paint) in tables.paths.chunks_exact(PATH).zip(tables.paints.chunks_exact(PAINT)) {

@@ -9,7 +9,7 @@ fn unit(v: f32) -> f32 {
 }
 
 /// What one segment adds to the pixel at column `i`, row `j`; nothing where it doesn't reach the row.
-fn added(s: &[f32], i: usize, j: usize, x_tile: f32, y_tile: f32) -> Option<f32> {
+pub fn added(s: &[f32], i: usize, j: usize, x_tile: f32, y_tile: f32) -> Option<f32> {
     let (p, q) = ends(s);
     let (dx, dy) = (q[0] - p[0], q[1] - p[1]);
     let row = y_tile + j as f32;
@@ -44,6 +44,11 @@ pub fn pixel(segments: &[f32], even_odd: bool, backdrop: i32, i: usize, j: usize
             area += more;
         }
     }
+    finished(even_odd, area)
+}
+
+/// The coverage that a summed area is, by the rule.
+pub fn finished(even_odd: bool, area: f32) -> f32 {
     if even_odd {
         (area - 2.0 * (0.5 * area).round()).abs()
     } else {

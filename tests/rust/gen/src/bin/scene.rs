@@ -8,21 +8,11 @@
 //! once more by the whole of fine.rs, from a list of that tile's own, and must be the same.
 
 use cases::commands::{Command, Lists};
+use cases::scene::{self, COLS, PAINTS, PATHS, ROWS};
 use rules::limits::SEGMENT;
 use rules::records::{self, box_at, first_at, paint_words, paths_in};
 use std::path::PathBuf;
 use std::{env, fs};
-
-#[allow(dead_code)]
-#[rustfmt::skip]
-mod panel {
-    pub mod readings { include!("../../../../../crates/scene/src/readings.rt"); }
-    pub mod paths { include!("../../../../../crates/scene/src/paths.rt"); }
-    pub mod pen { include!("../../../../../crates/scene/src/pen.rt"); }
-    pub mod drawing { include!("../../../../../crates/scene/src/drawing.rt"); }
-}
-
-use panel::paths::{COLS, PAINTS, PATHS, ROWS};
 
 /// What the stages before painting leave.
 struct Frame {
@@ -33,11 +23,8 @@ struct Frame {
 }
 
 fn frame() -> Frame {
-    let panel::pen::Pen { lines, path_nos, coords, .. } = panel::drawing::panel();
-    assert!(lines < panel::pen::LINES);
-    let last = paths_in(&PATHS) - 1;
-    let [x0, y0, x1, y1] = box_at(&PATHS, last);
-    let tiles = (first_at(&PATHS, last) + (x1 - x0) * (y1 - y0)) as usize;
+    let ((path_nos, coords), tiles) = (scene::lines(), scene::tiles());
+    let lines = path_nos.len();
     let (mut backdrops, mut tally, mut refs) = (vec![0i32; tiles], vec![0u32; tiles], vec![0u32; 1 << 20]);
     let made = oracle::count(&path_nos, &coords, &PATHS, &mut backdrops, &mut tally, &mut refs, 0, lines, 0).unwrap();
     oracle::backdrop(&PATHS, &mut backdrops).unwrap();
