@@ -1,0 +1,2 @@
+-- Our own count of all lines. Definitions only.
+pub mod Own

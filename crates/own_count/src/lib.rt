@@ -1,0 +1,1 @@
+// Our own count of all lines, from zeroed tiles.
