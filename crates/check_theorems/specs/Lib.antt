@@ -1,0 +1,5 @@
+-- The words of the theorems on the check of another's tables. Definitions only.
+--     Ways   the ways in which the call ends
+--     Good   what a yes says
+pub mod Ways
+pub mod Good
