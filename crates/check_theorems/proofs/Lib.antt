@@ -1,11 +1,15 @@
 -- Proofs of the theorems on the check of another's tables.
 --     Steps    the references of one line that is taken, beside what is made of its steps
 --     Lines    the same of all lines
+--     Ours     our own count, where it is done
+--     Keys     as many keys as there are, no two the same, are all of them
 --     Tables   the first entry at fault
 --     Call     the ways in which the call ends; one answer only
 --     Sound    a yes is as good as our own count
 pub mod Steps
 pub mod Lines
+pub mod Ours
+pub mod Keys
 pub mod Tables
 pub mod Call
 pub mod Sound
