@@ -6,6 +6,7 @@
 --     Tables   the first entry at fault
 --     Call     the ways in which the call ends; one answer only
 --     Sound    a yes is as good as our own count
+--     Alike    a count with more room for references
 pub mod Steps
 pub mod Lines
 pub mod Ours
@@ -13,3 +14,4 @@ pub mod Keys
 pub mod Tables
 pub mod Call
 pub mod Sound
+pub mod Alike

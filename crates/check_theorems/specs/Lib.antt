@@ -1,5 +1,7 @@
 -- The words of the theorems on the check of another's tables. Definitions only.
---     Ways   the ways in which the call ends
---     Good   what a yes says
+--     Ways    the ways in which the call ends
+--     Good    what a yes says
+--     Order   references in another order
 pub mod Ways
 pub mod Good
+pub mod Order
