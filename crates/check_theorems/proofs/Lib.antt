@@ -7,6 +7,7 @@
 --     Call     the ways in which the call ends; one answer only
 --     Sound    a yes is as good as our own count
 --     Alike    a count with more room for references
+--     Complete   what our own calls leave is answered yes
 pub mod Steps
 pub mod Lines
 pub mod Ours
@@ -15,3 +16,4 @@ pub mod Tables
 pub mod Call
 pub mod Sound
 pub mod Alike
+pub mod Complete
