@@ -21,7 +21,7 @@ module _ (key : ℕ → ℕ) where
   keys-new k a zero f = tt
   keys-new k a (suc n) f = (f a (omega arith) (omega arith), keys-new k (suc a) n (λ j p q. f j (omega arith) (omega arith)))
 
-  keys-apart : (a n : ℕ) → ((i j : ℕ) → i < j → j < a + n → key j ≢ key i) → Distinct (map key (from a n))
+  pub keys-apart : (a n : ℕ) → ((i j : ℕ) → i < j → j < a + n → key j ≢ key i) → Distinct (map key (from a n))
   keys-apart a zero f = tt
   keys-apart a (suc n) f = (keys-new (key a) (suc a) n (λ j p q. f a j (omega arith) (omega arith)), keys-apart (suc a) n (λ i j p q. f i j p (omega arith)))
 

@@ -122,7 +122,7 @@ module _ (nos : List ℕ) (coords : List Float) (paths : List ℕ) where
   -- ---- what is made of a step, and its place among all references
 
   module _ (n : ℕ) (short : n ≡ length nos) (goes : (l : ℕ) → l < n → LineGoes l) where
-    made-there : (l k i t : ℕ) → madeOf nos coords paths l k ≡ At i t → (l < n) × (walkMade (walkOf paths (drawnAt nos coords l)) k ≡ At i t)
+    pub made-there : (l k i t : ℕ) → madeOf nos coords paths l k ≡ At i t → (l < n) × (walkMade (walkOf paths (drawnAt nos coords l)) k ≡ At i t)
     unfolding madeOf
     made-there l k i t e = go (ltb l (length nos)) refl e
       where

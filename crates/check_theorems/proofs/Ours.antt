@@ -57,6 +57,9 @@ module _ (nos : List ℕ) (coords : List Float) (paths : List ℕ) (n : ℕ) (pa
   pub tiles-in : Below n (tilesEv own)
   tiles-in = own-below nos coords paths n passed own (counted .own)
 
+  pub all-own : All (EventOwn nos coords paths) own
+  all-own = counted .own
+
   -- the counts' sum is the number of references
   pub total : sum (ours .counts) ≡ ours .made
   total = ap sum counts-are ∙ count-sum n (tilesEv own) tiles-in ∙ length-tiles own ∙ sym made-is

@@ -75,7 +75,7 @@ not-stray ours Not slice e = let z : _≡_ {A = ℕ} 0 1 = cc in absurd (omega a
 -- ---- no entry at fault
 
 module _ (nos : List ℕ) (coords : List Float) (paths refs counts : List ℕ) (backs : List ℤ) (stored : List ℕ) (room : ℕ)
-    (passed : pathsAnswer paths (length counts) ≡ Done) (paired : length backs ≡ length counts) (ours : St)
+    (passed : pathsAnswer paths (length counts) ≡ Done) (backed : length backs ≡ length counts) (paired : length stored ≡ length counts) (ours : St)
     (ran : ownRan nos coords paths (length counts) ≡ done ours)
     (clean : NoFault (madeOf nos coords paths) ours refs counts backs stored room) (most : ours .made ≤ refCount refs) where
   counts-same : counts ≡ ours .counts
@@ -85,7 +85,7 @@ module _ (nos : List ℕ) (coords : List Float) (paths refs counts : List ℕ) (
 
   backs-same : backs ≡ ours .backs
   backs-same =
-      ext-getD (pos 0) backs (ours .backs) (paired ∙ sym (backs-long nos coords paths (length counts) passed ours ran))
+      ext-getD (pos 0) backs (ours .backs) (backed ∙ sym (backs-long nos coords paths (length counts) passed ours ran))
       (λ t h. back-same (getD backs t (pos 0)) (getD (ours .backs) t (pos 0)) (not-false _ (clean .of-backs t h)))
 
   abbrev made : ℕ → Made
@@ -255,6 +255,8 @@ module _ (nos : List ℕ) (coords : List Float) (paths refs counts : List ℕ) (
   pub as-good : AsGood nos coords paths refs counts backs stored room
   as-good =
       record {
+        paths-good = passed;
+        paired = paired;
         ours = ours;
         counted = ran;
         counts-ours = counts-same;
@@ -284,4 +286,4 @@ sound nos coords paths refs counts backs stored room work work′ p = go (check-
     go (looked ours w e y f) =
         let k = all-ok (lentRow nos coords paths refs counts backs stored room work) (w .whole) in
         let c = yes-fine (madeOf nos coords paths) ours refs counts backs stored room (tables-exact (madeOf nos coords paths) ours refs counts backs stored room Yes .1 y) in
-        as-good nos coords paths refs counts backs stored room (w .passed) (eqb-true (length backs) (length counts) (k .1 .1 .1 .0)) ours e (c .0) (c .1)
+        as-good nos coords paths refs counts backs stored room (w .passed) (eqb-true (length backs) (length counts) (k .1 .1 .1 .0)) (eqb-true (length stored) (length counts) (k .1 .1 .1 .1 .0)) ours e (c .0) (c .1)

@@ -9,6 +9,8 @@ use lib.Ieee.{Float}
 use Rattle.lists.specs.Run.{done}
 use Rattle.panel.specs.Limits.{mostSlots}
 use Rattle.panel.specs.Refs.{lineAt}
+use Rattle.panel.specs.Paths.{pathsAnswer}
+use Rattle.panel.specs.declared.kinds.Answer.the-variants.{Done}
 use Rattle.acts.specs.Acts.{St}
 use Rattle.made.specs.Made.{madeOf}
 use Rattle.made.specs.declared.Made.the-variants.{At}
@@ -45,6 +47,9 @@ SlotOf counts stored t k = (firstSlot stored t ≤ k) × (k < firstSlot stored t
 
 -- a yes is as good as our own count
 pub record AsGood (nos : List ℕ) (coords : List Float) (paths refs counts : List ℕ) (backs : List ℤ) (stored : List ℕ) (room : ℕ) : Type 0 where
+  -- the paths are good, of as many tiles as there are stored words
+  pub paths-good : pathsAnswer paths (length counts) ≡ Done
+  pub paired : length stored ≡ length counts
   -- our own count of these lines is done, and counts and backdrops are what it leaves
   pub ours : St
   pub counted : ownRan nos coords paths (length counts) ≡ done ours

@@ -2,6 +2,8 @@
 --     Ways    the ways in which the call ends
 --     Good    what a yes says
 --     Order   references in another order
+--     Stray   no stray piece over another's tables
 pub mod Ways
 pub mod Good
 pub mod Order
+pub mod Stray
