@@ -1,16 +1,16 @@
 -- A count that goes through goes through with more room for references, and whatever list is lent for them: backdrops, counts and the number of
 -- references come out the same. Assumes nothing.
-use mathlib.Core.Path.{_≡_, refl, sym, ap, _∙_}
+use mathlib.Core.Path.{_≡_, refl, ap, _∙_}
 use mathlib.Core.Bool.{Bool, true, false}
 use mathlib.Core.List.{List, [], _∷_}
-use Prim.Native.Nat.{ℕ, _+_, _-_, _≤_, _<_, min}
+use Prim.Native.Nat.{ℕ, _+_, _-_, _≤_, min}
 use native.Mathlib.Omega.{arith}
 use lib.Dec.{leb, ltb}
 use lib.ListN.{getD}
 use lib.IntN.{ℤ, pos, _+ℤ_}
 use lib.Ieee.{Float}
 use borrow.Author.Tests.{le-ltb}
-use Rattle.lists.specs.Run.{Step, taken, halted, Ran, done, refused, onStep, run, run-cons-done, allOrNone}
+use Rattle.lists.specs.Run.{Step, taken, Ran, done, onStep, run, run-cons-done, allOrNone}
 use Rattle.lists.specs.Sums.{from}
 use Rattle.panel.specs.Limits.{mostLines, mostCount, mostSlots}
 use Rattle.panel.specs.Refusals.{countOver, lineNumber, noRoom, sumOver}
@@ -20,9 +20,10 @@ use Rattle.walk.specs.Lent.{walkAt}
 use Rattle.walk.specs.declared.kinds.Walked.{Walked}
 use Rattle.walk.specs.declared.kinds.Walked.the-variants.{Refused, Skipped, Line}
 use Rattle.acts.specs.Acts.{St, stOf, Act, mark, visit, stop, marked, visited, takeIf, runActs, deltaOf}
-use Rattle.acts.specs.Line.{Plan, planActs, haltIf, tooFar, planStep, Refusal, atLine, batchOf}
+use Rattle.acts.specs.Line.{Plan, planActs, haltIf, tooFar, planStep, atLine, batchOf}
 use Rattle.acts.proofs.Whole.{no-stop, plan-taken}
 use Rattle.path_count.specs.Count.{planOf, walkedStep, lineStep, batch}
+use Rattle.check_theorems.proofs.Lines.{at-taken}
 
 -- the same with another list of references
 abbrev pub withRefs : List ℕ → St → St
@@ -57,10 +58,6 @@ go-on true n o u e = let z : _≡_ {A = ℕ} 0 1 = cc in absurd (omega arith)
 not-halted : (b : Bool) (n : ℕ) (o v : Step St ℕ) → b ≡ false → o ≡ v → haltIf b n o ≡ v
 not-halted b n o v h e = rw h e
 
-at-taken : (l : ℕ) (o : Step St ℕ) (u : St) → atLine l o ≡ taken u → o ≡ taken u
-at-taken l (taken s) u e = let q : s ≡ u = cc in ap taken q
-at-taken l (halted n) u e = let z : _≡_ {A = ℕ} 0 1 = cc in absurd (omega arith)
-
 module _ (room more : ℕ) (roomy : min room mostSlots ≤ min more mostSlots) where
   plan-alike : (l : ℕ) (p : Plan) (s u : St) (r : List ℕ) → planStep room l p s ≡ taken u → (r′ : List ℕ) × (planStep more l p (withRefs r s) ≡ taken (withRefs r′ u))
   unfolding planStep
@@ -91,8 +88,7 @@ module _ (room more : ℕ) (roomy : min room mostSlots ≤ min more mostSlots) w
     lines-alike (l ∷ ls) s u r e =
         let w = run-cons-done (λ l t. atLine l (lineStep nos coords paths room l l t)) l ls s u e in
         let a = line-alike l s (w .0) r (at-taken l (lineStep nos coords paths room l l s) (w .0) (w .1)) in
-        let b = lines-alike ls (w .0) u (a .0) (w .2) in
-        (
+        let b = lines-alike ls (w .0) u (a .0) (w .2) in (
           b .0,
           ap (λ (o : Step St ℕ). onStep (atLine l o) (withRefs r s) (run (λ l t. atLine l (lineStep nos coords paths more l l t)) ls)) (a .1) ∙ b .1,
         )

@@ -1,9 +1,8 @@
 -- Exact at the call: the check's promise is met where one of its ways holds, and nowhere else; and it admits one answer only. Assumes nothing.
-use mathlib.Core.Path.{_≡_, refl, sym, ap, subst, _∙_}
+use mathlib.Core.Path.{_≡_, refl, sym, ap, _∙_}
 use mathlib.Core.Logic.{_↔_}
-use mathlib.Core.Bool.{Bool, true, false}
 use mathlib.Core.List.{List, [], _∷_}
-use Prim.Native.Nat.{ℕ, _-_, _/_, _≤_, _<_}
+use Prim.Native.Nat.{ℕ, _<_}
 use native.Mathlib.Omega.{arith}
 use native.Mathlib.Decide.{decLt}
 use lib.Dec.{leb}
@@ -11,10 +10,9 @@ use lib.ListN.{length}
 use lib.IntN.{ℤ}
 use lib.Ieee.{Float}
 use borrow.Author.Tests.{le-leb, lt-leb}
-use Rattle.lists.specs.Run.{Ran, done, refused, halted}
+use Rattle.lists.specs.Run.{Ran, done, refused}
 use Rattle.panel.specs.Limits.{mostSlots}
 use Rattle.panel.specs.Refusals.{noRoom}
-use Rattle.panel.specs.Widths.{refWords}
 use Rattle.panel.specs.Checks.{check, firstNo, unless}
 use Rattle.panel.specs.Paths.{pathsAnswer}
 use Rattle.panel.specs.declared.kinds.Answer.{Answer}
@@ -23,13 +21,12 @@ use Rattle.panel.specs.declared.kinds.Verdict.{Verdict}
 use Rattle.panel.specs.declared.kinds.Verdict.the-variants.{Fine, Against}
 use Rattle.acts.specs.Acts.{St}
 use Rattle.acts.specs.Line.{Refusal}
-use Rattle.path_count.specs.Count.{batch, lineStep}
+use Rattle.path_count.specs.Count.{batch}
 use Rattle.made.specs.Made.{madeOf}
 use Rattle.own_count.specs.Own.{zeroed, ownTo, ownRan}
-use Rattle.tile_check.specs.Faults.{refCount}
-use Rattle.tile_check.specs.Tables.{tablesOf, ranOf, andAnswer, askedOf, Out, outOf, cleared, askedOut, lookedOf, checkedOf, CheckMet}
+use Rattle.tile_check.specs.Tables.{tablesOf, andAnswer, askedOf, Out, cleared, lookedOf, checkedOf, CheckMet}
 use Rattle.tile_check.specs.declared.kinds.Checked.{Checked}
-use Rattle.tile_check.specs.declared.kinds.Checked.the-variants.{Yes, Refused}
+use Rattle.tile_check.specs.declared.kinds.Checked.the-variants.{Refused}
 use Rattle.theorems.specs.Refusing.{BatchWhy}
 use Rattle.theorems.proofs.Exact.{row-exact, line-exact}
 use Rattle.theorems.proofs.ExactPaths.{paths-exact}

@@ -1,18 +1,16 @@
 -- Complete: what our own count of all lines and our hand-out leave is answered yes, in whatever order the references stand. Assumes nothing.
 use mathlib.Core.Path.{_≡_, refl, sym, ap, subst, _∙_}
-use mathlib.Core.Bool.{Bool, true, false, not, _&&_, _||_}
-use mathlib.Core.Logic.{_⊎_, inl, inr, ⊎-elim}
+use mathlib.Core.Bool.{Bool, true, false, not, _||_}
 use mathlib.Core.List.{List, [], _∷_}
 use Prim.Native.Nat.{ℕ, _+_, _*_, _/_, _%_, _≤_, _<_, min, max}
-use native.Mathlib.Decide.{decLt}
 use native.Mathlib.Omega.{arith}
-use lib.Dec.{leb, ltb, eqb}
+use lib.Dec.{ltb, eqb}
 use lib.ListN.{length, getD, take, length-replicate}
 use lib.Seq.{getD-take, length-take-le}
 use lib.IntN.{ℤ, pos, negsuc}
 use lib.Ieee.{Float}
 use borrow.Author.Tests.{lt-leb, ltb-true, eq-eqb, eqb-true}
-use Rattle.lists.specs.Run.{Ran, done, refused}
+use Rattle.lists.specs.Run.{done}
 use Rattle.lists.specs.Sums.{sum, first, first-within, first-apart, from}
 use Rattle.lists.specs.Tally.{Below}
 use Rattle.panel.specs.Limits.{mostSlots}
@@ -21,32 +19,30 @@ use Rattle.panel.specs.Widths.{lineFloats, refWords}
 use Rattle.panel.specs.Kinds.{runningOf}
 use Rattle.panel.specs.Checks.{firstNo}
 use Rattle.panel.specs.Paths.{pathsAnswer}
-use Rattle.panel.specs.Refs.{lineAt, packedAt, stepNo, sliceNo}
+use Rattle.panel.specs.Refs.{lineAt, stepNo, sliceNo}
 use Rattle.panel.specs.declared.kinds.Answer.{Answer}
 use Rattle.panel.specs.declared.kinds.Answer.the-variants as Answer
 use Rattle.panel.proofs.BoolLaws.{both}
 use Rattle.panel.proofs.CheckLaws.{all-ok, none-fails, unless-done}
 use Rattle.acts.specs.Acts.{St, stOf}
-use Rattle.acts.specs.Line.{Refusal}
 use Rattle.path_count.specs.Count as Count
 use Rattle.path_count.specs.Count.{Told, toldOf, batch, batchTold, callAnswer, callTold, counted}
 use Rattle.hand_out.specs.HandOut.{hand, handOutOf, Out, outOf}
 use Rattle.hand_out.proofs.HandLaws.{length-hand, reads-back}
-use Rattle.meeting.specs.First.{someBelow}
 use Rattle.meeting.specs.Meeting.{meets, meetsEarlier}
 use Rattle.meeting.proofs.FirstLaws.{none-is}
-use Rattle.entries.specs.Entries.{countFault, slotFault, firstSlot, slotCount, pastRoom}
+use Rattle.entries.specs.Entries.{slotFault, firstSlot, slotCount, pastRoom}
 use Rattle.made.specs.Made.{madeOf}
 use Rattle.made.specs.declared.Made.{Made}
-use Rattle.made.specs.declared.Made.the-variants.{At, Not}
-use Rattle.own_count.specs.Own.{zeroed, ownTo, ownRan}
-use Rattle.tile_check.specs.Faults.{refCount, stepAt, sliceAt, madeRef, stray, strayRef, sameStep, sameTile, sameSlice, stepTwice, sliceTwice, refFault, sameBack, backFault}
+use Rattle.made.specs.declared.Made.the-variants.{At}
+use Rattle.own_count.specs.Own.{ownTo, ownRan}
+use Rattle.tile_check.specs.Faults.{refCount, stepAt, sliceAt, madeRef, stray, strayRef, sameStep, sameTile, sameSlice, stepTwice, sliceTwice, refFault, sameBack}
 use Rattle.tile_check.specs.Tables as Tables
-use Rattle.tile_check.specs.Tables.{workWords, cleared, tablesOf, lookedOf, CheckMet}
+use Rattle.tile_check.specs.Tables.{workWords, cleared, lookedOf, CheckMet}
 use Rattle.tile_check.specs.declared.kinds.Checked.{Checked}
 use Rattle.tile_check.specs.declared.kinds.Checked.the-variants.{Yes}
 use Rattle.theorems.specs.Events.{Event, eventsOf, tilesEv, countsOf, sliceOf, slotOf}
-use Rattle.theorems.specs.Refs.{AllCounted, Sums}
+use Rattle.theorems.specs.Refs.{AllCounted}
 use Rattle.theorems.proofs.Exact.{hand-exact}
 use Rattle.theorems.proofs.BatchLaws.{same-lengths}
 use Rattle.theorems.proofs.SumLaws as SumLaws
@@ -54,19 +50,19 @@ use Rattle.theorems.proofs.SumLaws.{startOf, eventAt, went, passed, events, who
 use Rattle.theorems.proofs.Counting.{length-tiles}
 use Rattle.theorems.proofs.Slots.{slice-below, slot-injective}
 use Rattle.theorems.proofs.StrayLaws.{handed-is}
-use Rattle.check_theorems.specs.Ways.{NoneAt, NoFault, Asked, lentRow}
+use Rattle.check_theorems.specs.Ways.{NoFault, Asked, lentRow}
 use Rattle.check_theorems.specs.Order.{Reordered}
 use Rattle.check_theorems.proofs.Lines.{LineGoes, lineStart, batch-goes, StepMade, event-made}
 use Rattle.check_theorems.proofs.Tables.{fine-yes}
 use Rattle.check_theorems.proofs.Call.{met-looked, looked-done}
-use Rattle.check_theorems.proofs.Alike.{withRefs, batch-alike}
+use Rattle.check_theorems.proofs.Alike.{batch-alike}
 
 -- ---- tests
 
 -- what can't be true is false
-not-true : (b : Bool) → (b ≡ true → ⊥) → b ≡ false
-not-true true h = absurd (h refl)
-not-true false h = refl
+is-false : (b : Bool) → (b ≡ true → ⊥) → b ≡ false
+is-false true h = absurd (h refl)
+is-false false h = refl
 
 none : (a b c : Bool) → a ≡ false → b ≡ false → c ≡ false → ((a || b) || c) ≡ false
 none a b c p q r = rw (p, q, r)
@@ -88,7 +84,7 @@ module _ (room : ℕ) (cs : List ℕ) (few : sum cs ≤ min room mostSlots) wher
   slot-at t h k = reads-back cs (omega (arith, few)) t h k
 
   not-past : (t : ℕ) → t < length cs → pastRoom (min room mostSlots) cs (hand 0 cs) t ≡ false
-  not-past t h = not-true (pastRoom (min room mostSlots) cs (hand 0 cs) t) (λ e.
+  not-past t h = is-false (pastRoom (min room mostSlots) cs (hand 0 cs) t) (λ e.
       let k = both (ltb 0 (slotCount cs t)) (ltb (min room mostSlots) (firstSlot (hand 0 cs) t + slotCount cs t)) e in
       let some = ltb-true 0 (slotCount cs t) (k .0) in
       let over = ltb-true (min room mostSlots) (firstSlot (hand 0 cs) t + slotCount cs t) (k .1) in
@@ -96,7 +92,7 @@ module _ (room : ℕ) (cs : List ℕ) (few : sum cs ≤ min room mostSlots) wher
 
   not-over : (t u : ℕ) → u < t → t < length cs → meets (firstSlot (hand 0 cs)) (slotCount cs) t u ≡ false
   not-over t u h k =
-      not-true (meets (firstSlot (hand 0 cs)) (slotCount cs) t u) (λ e.
+      is-false (meets (firstSlot (hand 0 cs)) (slotCount cs) t u) (λ e.
       let a = firstSlot (hand 0 cs) t in
       let b = firstSlot (hand 0 cs) u in
       let q : max a b < min (a + slotCount cs t) (b + slotCount cs u) = ltb-true (max a b) (min (a + slotCount cs t) (b + slotCount cs u)) e in
@@ -242,8 +238,8 @@ module _ (nos : List ℕ) (coords : List Float) (paths : List ℕ) (n : ℕ) (re
         let k = known j h in
         none (strayRef (madeOf nos coords paths) cs rs′ j) (stepTwice rs′ j) (sliceTwice (madeOf nos coords paths) rs′ j)
         (ap (λ (x : Made). stray cs x (sliceAt rs′ j)) (k .made) ∙ lt-leb (getD cs (k .tile) 0) (sliceAt rs′ j) (k .small))
-        (none-is (λ i. sameStep rs′ i j) j (λ i p. not-true (sameStep rs′ i j) (no-step i j p h)))
-        (none-is (λ i. sameSlice (madeOf nos coords paths) rs′ i j) j (λ i p. not-true (sameSlice (madeOf nos coords paths) rs′ i j) (no-slice i j p h)))
+        (none-is (λ i. sameStep rs′ i j) j (λ i p. is-false (sameStep rs′ i j) (no-step i j p h)))
+        (none-is (λ i. sameSlice (madeOf nos coords paths) rs′ i j) j (λ i p. is-false (sameSlice (madeOf nos coords paths) rs′ i j) (no-slice i j p h)))
 
     module _ (room : ℕ) (few : sum cs ≤ min room mostSlots) (r : List ℕ) where
       clean : NoFault (madeOf nos coords paths) (stOf bs cs r m) rs′ cs bs (hand 0 cs) room

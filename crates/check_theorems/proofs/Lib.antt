@@ -9,6 +9,7 @@
 --     Alike      a count with more room for references
 --     Complete   what our own calls leave is answered yes
 --     Stray      no stray piece over another's tables
+--     Tiled      the same of the call that tiles them
 pub mod Steps
 pub mod Lines
 pub mod Ours
@@ -19,3 +20,4 @@ pub mod Sound
 pub mod Alike
 pub mod Complete
 pub mod Stray
+pub mod Tiled

@@ -7,9 +7,9 @@ use Prim.Native.Nat.{ℕ, zero, suc, _+_, _-_, _≤_, _<_}
 use native.Mathlib.Nat.{eq-or-lt-of-le, zero-add}
 use native.Mathlib.Decide.{decLt}
 use native.Mathlib.Omega.{arith}
-use mathlib.Core.Logic.{_⊎_, inl, inr, ⊎-elim}
+use mathlib.Core.Logic.{⊎-elim}
 use lib.Dec.{ltb}
-use lib.ListN.{length, getD, length-append, List·getD-append}
+use lib.ListN.{length, length-append, List·getD-append}
 use lib.Seq.{getD-append-add}
 use lib.Ieee.{Float}
 use borrow.Author.Tests.{ltb-true, lt-ltb}
@@ -18,15 +18,13 @@ use Rattle.lists.specs.Sums.{from, from-add}
 use Rattle.panel.specs.Paths.{pathsAnswer}
 use Rattle.panel.specs.declared.kinds.Answer.the-variants.{Done}
 use Rattle.walk.specs.Lent.{walkAt}
-use Rattle.walk.specs.declared.kinds.Walked.{Walked}
 use Rattle.acts.specs.Acts.{St}
 use Rattle.acts.specs.Line.{atLine, batchOf}
 use Rattle.path_count.specs.Count.{lineStep, batch}
 use Rattle.made.specs.Made.{walkMade, madeOf}
-use Rattle.made.specs.declared.Made.{Made}
 use Rattle.made.specs.declared.Made.the-variants.{At, Not}
 use Rattle.theorems.specs.Drawn.{drawnAt, walkOf, actsBy, deltaBy}
-use Rattle.theorems.specs.Events.{Event, eventsIn, eventsAt, eventsOf}
+use Rattle.theorems.specs.Events.{Event, eventsAt, eventsOf}
 use Rattle.theorems.proofs.Acts.{walk-is}
 use Rattle.theorems.proofs.Own.{took}
 use Rattle.theorems.proofs.SumLaws.{noEvent, eventAt}
@@ -37,14 +35,14 @@ all-from P a zero l p h k = absurd (omega arith)
 all-from P a (suc n) l p h k =
     ⊎-elim (λ (q : a ≡ l). subst P q (p .0)) (λ (q : a < l). all-from P (suc a) n l (p .1) (omega arith) (omega arith)) (eq-or-lt-of-le h)
 
+pub at-taken : (l : ℕ) (o : Step St ℕ) (u : St) → atLine l o ≡ taken u → o ≡ taken u
+at-taken l (taken s) u e = let q : s ≡ u = cc in ap taken q
+at-taken l (halted n) u e = let z : _≡_ {A = ℕ} 0 1 = cc in absurd (omega arith)
+
 module _ (nos : List ℕ) (coords : List Float) (paths : List ℕ) where
   -- no step of line l is refused
   abbrev pub LineGoes : ℕ → Type 0
   LineGoes l = All Goes (actsBy (walkOf paths (drawnAt nos coords l)))
-
-  at-taken : (l : ℕ) (o : Step St ℕ) (u : St) → atLine l o ≡ taken u → o ≡ taken u
-  at-taken l (taken s) u e = let q : s ≡ u = cc in ap taken q
-  at-taken l (halted n) u e = let z : _≡_ {A = ℕ} 0 1 = cc in absurd (omega arith)
 
   lines-go : (tiles : ℕ) → pathsAnswer paths tiles ≡ Done → (room : ℕ) (ls : List ℕ) (s u : St)
       → run (λ l t. atLine l (lineStep nos coords paths room l l t)) ls s ≡ done u → All LineGoes ls

@@ -1,12 +1,12 @@
 -- Sound: a yes is as good as our own count. Assumes nothing.
 use mathlib.Core.Path.{_≡_, refl, sym, ap, subst, _∙_}
 use mathlib.Core.Logic.{_≢_}
-use mathlib.Core.Bool.{Bool, true, false, not, _&&_, _||_}
+use mathlib.Core.Bool.{Bool, true, false, _||_}
 use mathlib.Core.List.{List}
 use Prim.Native.Nat.{ℕ, _+_, _≤_, _<_, min, max}
 use native.Mathlib.Decide.{decLt}
 use native.Mathlib.Omega.{arith}
-use lib.Dec.{leb, ltb, eqb}
+use lib.Dec.{ltb}
 use lib.ListN.{length, getD, List·getD-eq-default}
 use lib.Seq.{ext-getD}
 use lib.IntN.{ℤ, pos, negsuc}
@@ -21,23 +21,22 @@ use Rattle.panel.specs.declared.kinds.Answer.the-variants.{Done}
 use Rattle.panel.proofs.BoolLaws.{second-false}
 use Rattle.panel.proofs.CheckLaws.{all-ok}
 use Rattle.acts.specs.Acts.{St}
-use Rattle.meeting.specs.First.{someBelow}
 use Rattle.meeting.specs.Meeting.{meets, meetsEarlier}
 use Rattle.meeting.proofs.FirstLaws.{none-below}
-use Rattle.entries.specs.Entries.{countFault, slotFault, firstSlot, slotCount, pastRoom}
+use Rattle.entries.specs.Entries.{slotFault, firstSlot, slotCount, pastRoom}
 use Rattle.entries.proofs.KeyLaws.{key-once}
 use Rattle.made.specs.Made.{madeOf}
 use Rattle.made.specs.declared.Made.{Made}
 use Rattle.made.specs.declared.Made.the-variants.{At, Not}
 use Rattle.own_count.specs.Own.{ownRan}
-use Rattle.tile_check.specs.Faults.{refCount, stepAt, sliceAt, madeRef, stray, strayRef, sameStep, sameTile, sameSlice, stepTwice, sliceTwice, refFault, sameBack, backFault}
+use Rattle.tile_check.specs.Faults.{refCount, stepAt, sliceAt, madeRef, stray, strayRef, sameStep, sameTile, sameSlice, stepTwice, sliceTwice, refFault, sameBack}
 use Rattle.tile_check.specs.Tables.{CheckMet}
 use Rattle.tile_check.specs.declared.kinds.Checked.the-variants.{Yes}
 use Rattle.theorems.specs.Events.{Event}
 use Rattle.theorems.proofs.SumLaws.{eventAt}
 use Rattle.check_theorems.specs.Good.{RefMade, StepThere, SliceThere, SlotOf, AsGood}
-use Rattle.check_theorems.specs.Ways.{NoFault, lentRow, Asked, CheckWay, lent-refused, line-refused, looked}
-use Rattle.check_theorems.proofs.Keys.{KeyAt, few-keys, every-key}
+use Rattle.check_theorems.specs.Ways.{NoFault, lentRow, CheckWay, lent-refused, line-refused, looked}
+use Rattle.check_theorems.proofs.Keys.{few-keys, every-key}
 use Rattle.check_theorems.proofs.Steps.{event}
 use Rattle.check_theorems.proofs.Lines.{lineStart, made-event}
 use Rattle.check_theorems.proofs.Ours.{own, goes, made-is, total, counts-long, backs-long}
@@ -286,4 +285,6 @@ sound nos coords paths refs counts backs stored room work work′ p = go (check-
     go (looked ours w e y f) =
         let k = all-ok (lentRow nos coords paths refs counts backs stored room work) (w .whole) in
         let c = yes-fine (madeOf nos coords paths) ours refs counts backs stored room (tables-exact (madeOf nos coords paths) ours refs counts backs stored room Yes .1 y) in
-        as-good nos coords paths refs counts backs stored room (w .passed) (eqb-true (length backs) (length counts) (k .1 .1 .1 .0)) (eqb-true (length stored) (length counts) (k .1 .1 .1 .1 .0)) ours e (c .0) (c .1)
+        let b = eqb-true (length backs) (length counts) (k .1 .1 .1 .0) in
+        let t = eqb-true (length stored) (length counts) (k .1 .1 .1 .1 .0) in
+        as-good nos coords paths refs counts backs stored room (w .passed) b t ours e (c .0) (c .1)

@@ -22,11 +22,10 @@ use Rattle.acts.specs.Line.{Plan, planActs}
 use Rattle.acts.proofs.Whole.{on-taken, no-stop}
 use Rattle.path_count.specs.Count.{planOf}
 use Rattle.made.specs.Made.{hitMade, planMade, walkMade}
-use Rattle.made.specs.declared.Made.{Made}
 use Rattle.made.specs.declared.Made.the-variants.{At, Not}
 use Rattle.theorems.specs.Drawn.{actsBy}
 use Rattle.theorems.specs.Events.{Event, eventsIn}
-use Rattle.theorems.proofs.SumLaws.{noEvent, eventAt}
+use Rattle.theorems.proofs.SumLaws.{eventAt}
 
 -- ---- acts that are all done
 

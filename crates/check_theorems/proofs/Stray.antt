@@ -1,23 +1,20 @@
 -- No stray piece over another's tables, after a yes. Assumes nothing.
 use mathlib.Core.Path.{_≡_, refl, sym, ap, subst, _∙_}
-use mathlib.Core.Logic.{_≢_, _⊎_, inl, inr, ⊎-elim}
+use mathlib.Core.Logic.{_⊎_, inl, inr, ⊎-elim}
 use mathlib.Core.Bool.{Bool, true, false, cond}
 use mathlib.Core.List.{List, [], _∷_, map}
 use Prim.Native.Nat.{ℕ, zero, suc, _+_, _-_, _≤_, _<_, min}
-use native.Mathlib.Decide.{decLt}
 use native.Mathlib.Omega.{arith}
 use lib.Dec.{ltb}
 use lib.ListN.{length, getD}
 use lib.Ieee.{Float}
 use lib.IntN.{ℤ}
 use borrow.Author.Tests.{lt-ltb, le-ltb, ltb-true}
-use Rattle.lists.specs.Run.{done, All}
+use Rattle.lists.specs.Run.{All}
 use Rattle.lists.specs.Sums.{from}
-use Rattle.lists.specs.Occ.{occ}
-use Rattle.lists.specs.Tally.{Distinct}
 use Rattle.lists.specs.Cells.{once}
 use Rattle.panel.specs.Limits.{mostSlots}
-use Rattle.panel.specs.Refusals.{noSuch, noRoom, crooked}
+use Rattle.panel.specs.Refusals.{noRoom, crooked}
 use Rattle.panel.specs.Kinds.{slotNoOf}
 use Rattle.panel.specs.Refs.{lineAt, packedAt, stepNo, sliceNo}
 use Rattle.panel.specs.Slots.{not32, skips, handedFrom}
@@ -37,7 +34,7 @@ use Rattle.segment.specs.declared.Piece.{Piece}
 use Rattle.segment.specs.declared.Piece.the-variants.{Kept, Crooked}
 use Rattle.entries.specs.Entries.{firstSlot}
 use Rattle.path_tiling.specs.Look.{Lent, lent, pieceTo, wordTo, stepTo, foundTo, foundOf, lookOf}
-use Rattle.path_tiling.specs.Tiling.{Write, Range, range, lookThen, rangeOf}
+use Rattle.path_tiling.specs.Tiling.{Write, Range, lookThen, rangeOf}
 use Rattle.path_tiling.specs.Tiling as Tiling
 use Rattle.path_tiling.specs.declared.look.Look.{Look}
 use Rattle.path_tiling.specs.declared.look.Look.the-variants.{Put, Empty, Against}
@@ -45,12 +42,11 @@ use Rattle.path_tiling.proofs.PutLaws.{Good}
 use Rattle.path_tiling.proofs.WriteLaws.{range-made, range-good}
 use Rattle.made.specs.Made.{madeOf}
 use Rattle.made.specs.declared.Made.{Made}
-use Rattle.own_count.specs.Own.{ownRan}
 use Rattle.tile_check.specs.Faults.{refCount, stepAt, sliceAt}
-use Rattle.theorems.specs.Events.{Event, EventOwn}
+use Rattle.theorems.specs.Events.{EventOwn}
 use Rattle.theorems.specs.Stray.{writtenTo, writtenFrom}
-use Rattle.theorems.proofs.SumLaws.{noEvent, eventAt, all-at}
-use Rattle.check_theorems.specs.Good.{RefMade, SliceThere, SlotOf, AsGood}
+use Rattle.theorems.proofs.SumLaws.{noEvent, all-at}
+use Rattle.check_theorems.specs.Good.{RefMade, SlotOf, AsGood}
 use Rattle.check_theorems.specs.Stray.{OwnPiece, NoStray}
 use Rattle.check_theorems.proofs.Steps.{event}
 use Rattle.check_theorems.proofs.Lines.{LineGoes, allEvents, lineStart, made-there, made-event}

@@ -1,17 +1,15 @@
 -- The ways in which a check of another's tables ends: each has its answer, its ground in the words of docs/RULES.md, and what is left in the working
 -- room. The call's promise is met where one of them holds, and nowhere else. Definitions only.
 use mathlib.Core.Path.{_≡_}
-use mathlib.Core.Logic.{_⊎_}
 use mathlib.Core.Bool.{Bool, true, false}
 use mathlib.Core.List.{List}
-use Prim.Native.Nat.{ℕ, _/_, _≤_, _<_, min}
+use Prim.Native.Nat.{ℕ, _≤_, _<_, min}
 use lib.ListN.{length}
 use lib.IntN.{ℤ}
 use lib.Ieee.{Float}
 use Rattle.lists.specs.Run.{done}
 use Rattle.panel.specs.Limits.{mostSlots}
 use Rattle.panel.specs.Refusals.{noRoom}
-use Rattle.panel.specs.Widths.{refWords}
 use Rattle.panel.specs.Checks.{Check, firstNo}
 use Rattle.panel.specs.Paths.{pathsAnswer}
 use Rattle.panel.specs.declared.kinds.Answer.the-variants as Answer
