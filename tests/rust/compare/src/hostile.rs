@@ -152,6 +152,13 @@ fn good(rng: &mut Rng, kind: u32) -> Call {
             let tables = [words(rng, tiles), words(rng, tiles), words(rng, refs), words(rng, kept), words(rng, kept)];
             (vec![path], [line_nos, of, coords, paths].into_iter().chain(tables).collect())
         }
+        _ if NAMES[kind as usize] == "check" => {
+            let made = rng.below(6) as usize;
+            let refs = (0..made).flat_map(|_| [rng.below(n.max(1) as u64) as u32, rng.below(2) as u32 * STEP_RANGE + rng.below(4) as u32]).collect();
+            let (zeros, stored) = (vec![0; tiles], (0..tiles).map(|_| !(rng.below(20) as u32)).collect());
+            let work = rules::check::WORK_EACH as usize * (tiles + n + made) + rng.below(3) as usize;
+            (vec![rng.below(60) as u32], vec![path_nos, coords, paths, refs, zeros.clone(), zeros, stored, words(rng, work)])
+        }
         FINE => {
             let (cols, rows) = (rng.below(3) as u32, rng.below(2) as u32);
             let list_words = (0..64 * cols * rows).map(|k| if k % 64 == 0 { 0 } else { rng.below(6) as u32 }).collect();

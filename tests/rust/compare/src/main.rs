@@ -14,6 +14,7 @@
 mod backdrop;
 mod borders;
 mod calls;
+mod check;
 mod count;
 #[rustfmt::skip]
 mod dispatch;
@@ -103,7 +104,7 @@ fn run<S: Stage>(stage: &S, args: &Args, linked: bool, seconds: f64) -> bool {
     stage::run(stage, Sides { ours, rust: oracle::AT_HAND }, budget)
 }
 
-const STAGES: [&str; 14] = [
+const STAGES: [&str; 15] = [
     "floats",
     "backdrop",
     "hand_out",
@@ -115,6 +116,7 @@ const STAGES: [&str; 14] = [
     "write_lists",
     "pixel",
     "recount",
+    "check",
     "svg_lines",
     "order",
     hostile::Hostile::NAME,
@@ -138,6 +140,7 @@ fn stages(args: &Args) -> bool {
     well &= run(&write_lists::WriteLists, args, ours::has::LISTS, 12.0);
     well &= run(&pixel::Pixel, args, ours::has::PIXEL && ours::has::FILL && ours::has::FINE, 8.0);
     well &= run(&recount::Recount, args, ours::has::RECOUNT && ours::has::COUNT, 6.0);
+    well &= run(&check::Check, args, ours::has::CHECK, 6.0);
     well &= run(&svg_lines::SvgLines, args, ours::has::SVG, 6.0);
     if ours::has::SVG && args.mode != "rules-vs-oracle" && args.cases.is_none() && args.only.as_deref().is_none_or(|o| o == "svg_lines") {
         well &= svg_lines::fixed();
