@@ -105,7 +105,6 @@ pub fn check(
             &mut found, &mut item,
         )
     };
-    debug_assert_eq!(found == 0, number != 0, "something is found of what is refused");
     let refused = if number == 0 { 0 } else { item };
     answered(number, refused).map(|()| Found::of(found, item))
 }

@@ -158,8 +158,8 @@ fn spoil(rng: &mut Rng, case: &mut Case) {
         3 => _ = case.backdrops.pop(),
         4 => _ = case.stored.pop(),
         5 => _ = case.counts.pop(),
-        6 => case.work = case.work.saturating_sub(1 + rng.below(9) as usize),
-        7 | 8 => case.list.paths = no_tiles(PATHS_MOST as usize + rng.range(0, 1) as usize),
+        6 | 7 => case.work = case.work.saturating_sub(1 + rng.below(9) as usize),
+        8 => case.list.paths = no_tiles(PATHS_MOST as usize + !rng.one_in(6) as usize),
         9 if rng.one_in(20) => {
             // as many lines as have numbers, or one more
             let n = LINES_MOST as usize + rng.below(2) as usize;
@@ -245,7 +245,7 @@ impl Stage for Check {
         }
         if sides.ours {
             let ours = asked!(ours);
-            same("answer, what was found, the entry", (ours.0, ours.1, ours.2), (number, found, item))?;
+            same("answer, what was found, item", (ours.0, ours.1, ours.2), (number, found, item))?;
             same_words("working room", ours.3.u32s(), work.u32s())?;
             same("guards of the working room", ours.3.guards_stand(), true)?;
         }
