@@ -10,6 +10,7 @@
 --     Complete   what our own calls leave is answered yes
 --     Stray      no stray piece over another's tables
 --     Tiled      the same of the call that tiles them
+--     Examples   a check computed, yes and each kind of no
 pub mod Steps
 pub mod Lines
 pub mod Ours
@@ -21,3 +22,4 @@ pub mod Alike
 pub mod Complete
 pub mod Stray
 pub mod Tiled
+pub mod Examples
