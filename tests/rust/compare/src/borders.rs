@@ -149,7 +149,7 @@ fn check(rng: &mut Rng, kind: u32) -> Call {
         }
         _ => (vec![0], wide, path([0, 0, 6, 1], 0).to_vec(), 6),
     };
-    let work = vec![7; rules::check::WORK_EACH as usize * (tiles + path_nos.len())];
+    let work = vec![7; rules::check::work_words(tiles, path_nos.len(), 0)];
     let slices = vec![path_nos, coords, paths, vec![], vec![0; tiles], vec![0; tiles], vec![0; tiles], work];
     Call { kind, numbers: vec![u32::MAX], slices }
 }

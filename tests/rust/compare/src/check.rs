@@ -7,7 +7,7 @@ use crate::stage::{hex, same, same_words, Sides, Stage};
 use crate::table::Table;
 use cases::memory::Lent;
 use cases::{boxes, Rng};
-use rules::check::{FOUND_YES, WORK_EACH};
+use rules::check::{work_words, FOUND_YES};
 use rules::limits::{COUNT_MOST, LINE, LINES_MOST, PATHS_MOST, REF, ROOM_MOST, STEP_RANGE};
 use rules::records::{no_tiles, path, paths_in};
 
@@ -169,7 +169,7 @@ fn spoil(rng: &mut Rng, case: &mut Case) {
                 *t = vec![0; 4];
             }
             case.refs.clear();
-            case.work = WORK_EACH as usize * (n + 4);
+            case.work = work_words(4, n, 0);
         }
         9..=12 => spoil_line(rng, &mut case.list.path_nos, &mut case.list.coords, &case.list.paths),
         _ => boxes::spoil(rng, &mut case.list.paths, case.counts.len()),
@@ -202,7 +202,7 @@ impl Stage for Check {
             case.damage = damage(rng, &mut case);
             case.whole = false;
         }
-        let asked = WORK_EACH as usize * (tiles + case.list.path_nos.len() + case.refs.len() / REF);
+        let asked = work_words(tiles, case.list.path_nos.len(), case.refs.len() / REF);
         case.work = asked + if rng.coin() { 0 } else { rng.below(20) as usize };
         if rng.one_in(3) {
             spoil(rng, &mut case);
@@ -322,7 +322,7 @@ fn made_by_the_rust(case: &Case, sides: Sides, table: &mut Table) -> Result<(), 
     same("the Rust panicked", stopped, false)?;
     let refs = &memory.refs.u32s()[..REF * made as usize];
     let (coords, counts, stored) = (Lent::new(&list.coords), memory.counts.u32s(), &case.stored);
-    let asked = WORK_EACH as usize * (counts.len() + n + made as usize);
+    let asked = work_words(counts.len(), n, made as usize);
     let said = |by_ours: bool| {
         let (mut work, mut found, mut item) = (vec![7; asked], 0, 0);
         let call = if by_ours { ours::check } else { rules::check };

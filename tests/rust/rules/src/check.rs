@@ -15,7 +15,12 @@ pub const FOUND_BACKDROP: u32 = 4;
 pub const FOUND_SLOTS: u32 = 5;
 
 /// So many words of working room for each tile, line and reference.
-pub const WORK_EACH: u64 = 4;
+const WORK_EACH: usize = 4;
+
+/// How many words of working room are asked for.
+pub fn work_words(tiles: usize, lines: usize, references: usize) -> usize {
+    WORK_EACH * (tiles + lines + references)
+}
 
 /// The lines, and the paths that they are of.
 struct Lines<'a> {
@@ -140,11 +145,11 @@ pub fn check(
             return Err((TOO_MANY, 0));
         }
         check_paths(paths, counts.len())?;
-        let asked = WORK_EACH * (counts.len() + path_nos.len() + refs.len() / REF) as u64;
-        if (work.len() as u64) < asked {
+        let asked = work_words(counts.len(), path_nos.len(), refs.len() / REF);
+        if work.len() < asked {
             return Err((NO_ROOM, 0));
         }
-        work[..asked as usize].fill(0);
+        work[..asked].fill(0);
         let lines = Lines { path_nos, coords, paths };
         let own = own(&lines, counts.len())?;
         Ok(looked(&lines, &own, refs, counts, backdrops, stored, room))
