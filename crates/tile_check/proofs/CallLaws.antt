@@ -119,7 +119,7 @@ counts-in counts ws m =
 module _ (ours : St) (lent : ℕ) (counts : List ℕ) (backs : List ℤ) (stored : List ℕ) (room : ℕ) where
   pub rest-count : (c : ℕ) → c ≡ firstCountFault counts (ours .counts) → c < length counts → Count c ≡ restOf ours lent counts backs stored room
   unfolding restOf
-  rest-count c e h = sym (ap (λ (i : ℕ). noIf Count i (length counts) _) (sym e) ∙ named Count c (length counts) _ h)
+  rest-count c e h = rw (sym e, lt-ltb c (length counts) h)
 
   module _ (c : ℕ) (ec : c ≡ firstCountFault counts (ours .counts)) (hc : length counts ≤ c) where
     past-counts : restOf ours lent counts backs stored room
@@ -129,7 +129,7 @@ module _ (ours : St) (lent : ℕ) (counts : List ℕ) (backs : List ℤ) (stored
     past-counts = passed-by Count (firstCountFault counts (ours .counts)) (length counts) _ (omega arith)
 
     pub rest-back : (b : ℕ) → b ≡ firstBackFault backs (ours .backs) → b < length backs → Backdrop b ≡ restOf ours lent counts backs stored room
-    rest-back b e h = sym (past-counts ∙ ap (λ (i : ℕ). noIf Backdrop i (length backs) _) (sym e) ∙ named Backdrop b (length backs) _ h)
+    rest-back b e h = rw (past-counts, sym e, lt-ltb b (length backs) h)
 
     module _ (b : ℕ) (eb : b ≡ firstBackFault backs (ours .backs)) (hb : length backs ≤ b) where
       past-backs : restOf ours lent counts backs stored room
@@ -137,7 +137,7 @@ module _ (ours : St) (lent : ℕ) (counts : List ℕ) (backs : List ℤ) (stored
       past-backs = past-counts ∙ passed-by Backdrop (firstBackFault backs (ours .backs)) (length backs) _ (omega arith)
 
       pub rest-slots : (s : ℕ) → s ≡ firstSlotFault (min room mostSlots) counts stored → s < length counts → Slots s ≡ restOf ours lent counts backs stored room
-      rest-slots s e h = sym (past-backs ∙ ap (λ (i : ℕ). noIf Slots i (length counts) _) (sym e) ∙ named Slots s (length counts) _ h)
+      rest-slots s e h = rw (past-backs, sym e, lt-ltb s (length counts) h)
 
       module _ (s : ℕ) (es : s ≡ firstSlotFault (min room mostSlots) counts stored) (hs : length counts ≤ s) where
         past-slots : restOf ours lent counts backs stored room ≡ noIf Reference lent (ours .made) Yes
@@ -151,45 +151,55 @@ module _ (ours : St) (lent : ℕ) (counts : List ℕ) (backs : List ℤ) (stored
 
 -- ---- so many references are enough
 
-module _ (nos : List ℕ) (coords : List Float) (paths : List ℕ) (tiles : ℕ) (s : St) (own : ownRan nos coords paths tiles ≡ done s) (ours refs : List ℕ) (lent f : ℕ)
-    (e : f ≡ firstOf (refFault (madeOf nos coords paths) ours refs) (lookedAt lent (s .made))) where
+module _ (nos : List ℕ) (coords : List Float) (paths : List ℕ) (tiles m : ℕ) (ws : List ℕ) (own : ownRan nos coords paths tiles ≡ done (viewOf tiles ws m)) (refs : List ℕ) (lent f : ℕ)
+    (e : f ≡ firstOf (refFault (madeOf nos coords paths) (take tiles ws) refs) (lookedAt lent m)) where
   -- one found among them is the first of all
-  pub found-first : f < lookedAt lent (s .made) → f ≡ firstOf (refFault (madeOf nos coords paths) ours refs) lent
+  pub found-first : f < lookedAt lent m → f ≡ firstOf (refFault (madeOf nos coords paths) (take tiles ws) refs) lent
   unfolding lookedAt
   found-first h =
-      first-is (refFault (madeOf nos coords paths) ours refs) lent f (omega arith)
-      (λ g. ap (refFault (madeOf nos coords paths) ours refs) e ∙ first-hit (refFault (madeOf nos coords paths) ours refs) (min lent (s .made + 1)) (omega arith))
-      (λ i l. first-missed (refFault (madeOf nos coords paths) ours refs) (min lent (s .made + 1)) i (omega arith))
+      first-is (refFault (madeOf nos coords paths) (take tiles ws) refs) lent f (omega arith)
+      (λ g. ap (refFault (madeOf nos coords paths) (take tiles ws) refs) e ∙ first-hit (refFault (madeOf nos coords paths) (take tiles ws) refs) (min lent (m + 1)) (omega arith))
+      (λ i l. first-missed (refFault (madeOf nos coords paths) (take tiles ws) refs) (min lent (m + 1)) i (omega arith))
 
   -- and where there is none, all were looked at
-  pub none-found : lookedAt lent (s .made) ≤ f → f ≡ firstOf (refFault (madeOf nos coords paths) ours refs) lent
+  none-more : lookedAt lent m ≤ f → lookedAt lent m ≤ m
+  none-more h =
+      omega (
+        arith,
+        few-clean nos coords paths tiles (viewOf tiles ws m) own (take tiles ws) refs (lookedAt lent m)
+            (λ i l. first-missed (refFault (madeOf nos coords paths) (take tiles ws) refs) (lookedAt lent m) i (omega arith)),
+        view-made tiles ws m,
+      )
+
+  all-looked : lookedAt lent m ≤ f → lookedAt lent m ≡ lent
   unfolding lookedAt
-  none-found h =
-      let k : min lent (s .made + 1) ≤ s .made
-            = few-clean nos coords paths tiles s own ours refs (min lent (s .made + 1)) (λ i l. first-missed (refFault (madeOf nos coords paths) ours refs) (min lent (s .made + 1)) i (omega arith)) in
-      let q : min lent (s .made + 1) ≡ lent = omega arith in
-      e ∙ ap (firstOf (refFault (madeOf nos coords paths) ours refs)) q
+  all-looked h = omega (arith, none-more h)
 
-  pub found-most : f ≤ s .made + 1
-  unfolding lookedAt
-  found-most = omega (arith, first-most (refFault (madeOf nos coords paths) ours refs) (min lent (s .made + 1)))
+  pub none-found : lookedAt lent m ≤ f → f ≡ firstOf (refFault (madeOf nos coords paths) (take tiles ws) refs) lent
+  none-found h = e ∙ ap (firstOf (refFault (madeOf nos coords paths) (take tiles ws) refs)) (all-looked h)
 
-  pub all-looked : lookedAt lent (s .made) ≤ f → lent ≤ f
-  unfolding lookedAt
-  all-looked h =
-      let k : min lent (s .made + 1) ≤ s .made
-            = few-clean nos coords paths tiles s own ours refs (min lent (s .made + 1)) (λ i l. first-missed (refFault (madeOf nos coords paths) ours refs) (min lent (s .made + 1)) i (omega arith)) in
-      omega arith
+  pub none-past : lookedAt lent m ≤ f → lent ≤ f
+  none-past h = omega (arith, all-looked h)
 
-module _ (made : ℕ → ℕ → Made) (ours : St) (refs counts : List ℕ) (backs : List ℤ) (stored : List ℕ) (room f : ℕ)
-    (e : f ≡ firstOf (refFault made (ours .counts) refs) (refCount refs)) where
-  pub tables-ref : f < refCount refs → Reference f ≡ tablesOf made ours refs counts backs stored room
-  unfolding tablesOf firstRefFault
-  tables-ref h = sym (ap (λ (i : ℕ). noIf Reference i (refCount refs) _) (sym e) ∙ named Reference f (refCount refs) _ h)
+module _ (made : ℕ → ℕ → Made) (tiles : ℕ) (ws : List ℕ) (m : ℕ) (refs counts : List ℕ) (backs : List ℤ) (stored : List ℕ) (room f : ℕ)
+    (e : f ≡ firstOf (refFault made (take tiles ws) refs) (refCount refs)) where
+  pub tables-ref : f < refCount refs → Reference f ≡ tablesOf made (viewOf tiles ws m) refs counts backs stored room
+  unfolding tablesOf firstRefFault viewOf
+  tables-ref h = rw (sym e, lt-ltb f (refCount refs) h)
 
-  pub tables-rest : refCount refs ≤ f → restOf ours (refCount refs) counts backs stored room ≡ tablesOf made ours refs counts backs stored room
-  unfolding tablesOf firstRefFault restOf
-  tables-rest h = sym (passed-by Reference (firstOf (refFault made (ours .counts) refs) (refCount refs)) (refCount refs) _ (omega arith))
+  pub tables-rest : refCount refs ≤ f → restOf (viewOf tiles ws m) (refCount refs) counts backs stored room ≡ tablesOf made (viewOf tiles ws m) refs counts backs stored room
+  unfolding tablesOf firstRefFault restOf viewOf
+  tables-rest h = rw (sym e, le-ltb f (refCount refs) h)
+
+-- a backdrop beside the room's words
+pub backs-in : (backs : List ℤ) (ws : List ℕ) (n m : ℕ) → length backs ≡ n → firstBackFault backs (viewOf (length backs) ws 0 .backs) ≡ firstBackFault backs (viewOf n ws m .backs)
+unfolding viewOf
+backs-in backs ws n m e = rw e
+
+-- what the room asks of the numbers lent
+pub looked-most : (lent m : ℕ) → (lookedAt lent m ≤ lent) × (lookedAt lent m ≤ m + 1)
+unfolding lookedAt
+looked-most lent m = (omega arith, omega arith)
 
 -- ---- our own count's answer
 
@@ -214,15 +224,15 @@ cleared-is n part work h e =
     whole = length-append part (drop n work) ∙ omega (arith, length-drop n work)
 
     long : length (part ++ drop n work) ≡ length (cleared n work)
-    long = whole ∙ sym (length-append (replicate n 0) (drop n work) ∙ omega (arith, length-drop n work, length-replicate n 0))
+    long = whole ∙ sym (length-append (replicate n 0) (drop n work) ∙ omega (arith, length-drop n work, length-replicate {A = ℕ} n 0))
 
     at : (i : ℕ) → i < length (part ++ drop n work) → (i < n) ⊎ (n ≤ i) → getD (clearedOf 0 0 n (part ++ drop n work)) i 0 ≡ getD (cleared n work) i 0
     at i g (inl l) =
         cleared-in 0 0 n (part ++ drop n work) i (omega arith) (omega arith) g
-        ∙ sym (List·getD-append (replicate n 0) (drop n work) 0 i (omega (arith, length-replicate n 0)) ∙ getD-replicate n i 0 0 l)
+        ∙ sym (List·getD-append (replicate n 0) (drop n work) 0 i (omega (arith, length-replicate {A = ℕ} n 0)) ∙ getD-replicate n i 0 0 l)
     at i g (inr l) =
         let p : length part + (i - n) ≡ i = omega arith in
-        let q : length (replicate n 0) + (i - n) ≡ i = omega (arith, length-replicate n 0) in
+        let q : length (replicate n 0) + (i - n) ≡ i = omega (arith, length-replicate {A = ℕ} n 0) in
         cleared-out 0 0 n (part ++ drop n work) i (inr (omega arith)) g
         ∙ ap (λ (k : ℕ). getD (part ++ drop n work) k 0) (sym p)
         ∙ getD-append-add part (drop n work) (i - n) 0

@@ -18,7 +18,7 @@ use Rattle.lists.specs.Tally.{Below, Distinct}
 use Rattle.acts.specs.Acts.{St}
 use Rattle.panel.specs.Refs.{lineAt}
 use Rattle.meeting.specs.First.{firstOf, someBelow}
-use Rattle.meeting.specs.Meeting.{firstMeeting}
+use Rattle.meeting.specs.Meeting.{meetsEarlier, firstMeeting}
 use Rattle.meeting.proofs.FirstLaws.{first-most, first-hit, first-missed, first-is, first-or, first-same, none-below}
 use Rattle.entries.proofs.KeyLaws.{key-once, first-repeat}
 use Rattle.entries.proofs.AllThere.{no-more}
@@ -30,6 +30,11 @@ use Rattle.own_count.specs.View.{startOf}
 use Rattle.tile_check.specs.Faults.{stepAt, sliceAt, madeRef, stray, strayRef, sameStep, sameTile, sameSlice, stepTwice, sliceTwice, refFault}
 use Rattle.tile_check.specs.Keys.{beforeIn, tileIn, stepKey, sliceKey}
 use Rattle.tile_check.proofs.StartLaws.{stepsOf, start-apart, start-within, MadeTold, made-told}
+
+-- the first meeting is at most the number of ranges
+pub meet-most : (start len : ℕ → ℕ) (n r : ℕ) → r ≡ firstMeeting start len n → r ≤ n
+unfolding firstMeeting
+meet-most start len n r e = omega (arith, first-most (meetsEarlier start len) n)
 
 -- ---- a reference that isn't stray
 

@@ -18,7 +18,7 @@ use Rattle.acts.specs.Acts.{St, stOf}
 use Rattle.meeting.specs.First.{firstOf}
 use Rattle.meeting.specs.Found.{KeptBelow}
 use Rattle.meeting.proofs.Stores.{kept-store}
-use Rattle.meeting.proofs.FirstLaws.{first-is}
+use Rattle.meeting.proofs.FirstLaws.{first-most, first-is}
 use Rattle.entries.specs.Noted.{SumsNoted}
 use Rattle.made.specs.declared.Made.{Made}
 use Rattle.own_count.specs.Own.{ownRan}
@@ -130,3 +130,6 @@ pub noted-to : (made : ℕ → ℕ → Made) (start : ℕ → ℕ) (ours refs ws
     → ((i : ℕ) → i < r → strayRef made ours refs i ≡ false) → KeptBelow a ws ws′ → KeysNoted made start ours refs ws′ a (a + n) r
     → NotedTo made start ours refs ws ws′ a n r
 noted-to made start ours refs ws ws′ a n r l e f k w = record { first-stray = first-is (strayRef made ours refs) n r l e f; kept = k; noted = w }
+
+pub noted-most : (made : ℕ → ℕ → Made) (start : ℕ → ℕ) (ours refs ws ws′ : List ℕ) (a n r : ℕ) → NotedTo made start ours refs ws ws′ a n r → r ≤ n
+noted-most made start ours refs ws ws′ a n r h = omega (arith, h .first-stray, first-most (strayRef made ours refs) n)

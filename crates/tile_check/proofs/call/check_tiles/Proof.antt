@@ -35,16 +35,12 @@ mul-n : tie.Need-mul-n
 mul-n c = ?
 
 -- src/call.rt:154:9
-sub-looked : tie.Need-sub-looked
-sub-looked c = search needs
+slice-relend-prefix-looked : tie.Need-slice-relend-prefix-looked
+slice-relend-prefix-looked c = ?
 
 -- src/call.rt:154:9
-part-looked-start : tie.Need-part-looked-start
-part-looked-start c = search needs
-
--- src/call.rt:154:9
-part-looked-end : tie.Need-part-looked-end
-part-looked-end c = ?
+slice-aggregate-looked : tie.Need-slice-aggregate-looked
+slice-aggregate-looked c = ?
 
 -- src/call.rt:145:9
 looked-requires : tie.Need-looked-requires
@@ -73,9 +69,8 @@ check-tiles-spec =
     add-n
     add-n-2
     mul-n
-    sub-looked
-    part-looked-start
-    part-looked-end
+    slice-relend-prefix-looked
+    slice-aggregate-looked
     looked-requires
     clear-words-requires
     same-length
