@@ -16,7 +16,7 @@ fn same_back(b: i32, w: u32) -> bool
         if w >= ZERO_BACK {
             return false;
         }
-        return (-(b + 1)) as u32 == ZERO_BACK - 1 - w;
+        return (-1 - b) as u32 == ZERO_BACK - 1 - w;
     }
     if w < ZERO_BACK {
         return false;

@@ -151,7 +151,7 @@ pub fn check_tiles(
         backs,
         stored,
         room,
-        &mut work[0..n],
+        &mut work[..n],
     );
     clear_words(work, 0, n);
     r
