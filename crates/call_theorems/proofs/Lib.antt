@@ -12,3 +12,4 @@ pub mod ExactLists
 pub mod ExactFrame
 pub mod ExactPpm
 pub mod Drawn
+pub mod CheckAnswers

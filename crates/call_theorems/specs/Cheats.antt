@@ -11,6 +11,8 @@ use Rattle.ppm_write.specs.declared.Written.{Written}
 use Rattle.ppm_write.specs.declared.Written.the-variants as Written
 use Rattle.ppm_read.specs.declared.Answer as Read
 use Rattle.ppm_read.specs.declared.Answer.the-variants as Reading
+use Rattle.tile_check.specs.declared.kinds.Checked.{Checked}
+use Rattle.tile_check.specs.declared.kinds.Checked.the-variants as Checked
 use Rattle.svg.specs.declared.Answer as Svg
 use Rattle.svg.specs.declared.Answer.the-variants as Drawing
 
@@ -52,3 +54,11 @@ RefusesRead (Reading.Refused n) = Unit {0}
 abbrev pub RefusesSvg : Svg.Answer → Type 0
 RefusesSvg (Drawing.Done n) = ⊥
 RefusesSvg (Drawing.Refused n at) = Unit {0}
+
+abbrev pub RefusesCheck : Checked → Type 0
+RefusesCheck Checked.Yes = ⊥
+RefusesCheck (Checked.Reference j) = ⊥
+RefusesCheck (Checked.Count t) = ⊥
+RefusesCheck (Checked.Backdrop t) = ⊥
+RefusesCheck (Checked.Slots t) = ⊥
+RefusesCheck (Checked.Refused n item) = Unit {0}

@@ -26,20 +26,20 @@ abbrev said : (refs counts : List ℕ) (backs : List ℤ) (stored : List ℕ) �
 said refs counts backs stored =
     checkedOf (0 ∷ []) (floatsOf (8 ∷ 8 ∷ 8 ∷ 24 ∷ [])) (boxed 0 0 2 2 0) refs counts backs stored 2 (replicate (workWords 4 1 3) 7) .answer
 
-abbrev refs : List ℕ
+abbrev pub refs : List ℕ
 refs = 0 ∷ 0 ∷ 0 ∷ 1 ∷ []
 
-abbrev counts : List ℕ
+abbrev pub counts : List ℕ
 counts = 1 ∷ 0 ∷ 1 ∷ 0 ∷ []
 
-abbrev backs : List ℤ
+abbrev pub backs : List ℤ
 backs = pos 0 ∷ pos 0 ∷ pos 0 ∷ negsuc 0 ∷ []
 
-abbrev stored : List ℕ
+abbrev pub stored : List ℕ
 stored = not32 0 ∷ 0 ∷ not32 1 ∷ 0 ∷ []
 
 -- names all that a check computes with
-unfoldable looking : ℕ
+unfoldable pub looking : ℕ
 unfolding computing checkedOf askedOf lookedOf tablesOf ownTo madeOf planMade firstFrom refFault firstRefFault firstCountFault firstBackFault firstSlotFault
     slotFault meetsEarlier
 looking = 0
