@@ -232,7 +232,7 @@ cleared-is n part work h e =
         ∙ sym (List·getD-append (replicate n 0) (drop n work) 0 i (omega (arith, length-replicate {A = ℕ} n 0)) ∙ getD-replicate n i 0 0 l)
     at i g (inr l) =
         let p : length part + (i - n) ≡ i = omega arith in
-        let q : length (replicate n 0) + (i - n) ≡ i = omega (arith, length-replicate {A = ℕ} n 0) in
+        let q : length {A = ℕ} (replicate n 0) + (i - n) ≡ i = omega (arith, length-replicate {A = ℕ} n 0) in
         cleared-out 0 0 n (part ++ drop n work) i (inr (omega arith)) g
         ∙ ap (λ (k : ℕ). getD (part ++ drop n work) k 0) (sym p)
         ∙ getD-append-add part (drop n work) (i - n) 0
