@@ -3,7 +3,7 @@
  * Everything is lent: a slice is a pointer and the number of its elements. Each pointer must be
  * valid and aligned for that many elements (for none it may be NULL), and slices that a call writes
  * must not overlap any other slice of the call. A pointer to one number (item, stage, lines, made,
- * size, width, height, area, pixel, place) must not be NULL, and the number must lie apart from the others and from
+ * size, width, height, area, pixel, place, found) must not be NULL, and the number must lie apart from the others and from
  * every slice. Floats are IEEE 754 with the default environment:
  * round to nearest, subnormals kept (a program linked with -ffast-math turns them off). Nothing else
  * is asked: any words and floats may be lent. A call touches nothing outside the slices, always ends,
@@ -87,6 +87,14 @@ uint32_t gp_version(void);
 #define GP_STAGE_SUMS 3u     /* the sums of the backdrops; the item is a path */
 #define GP_STAGE_HAND_OUT 4u /* hand-out: too few segments lent; the item is 0 */
 #define GP_STAGE_TILE 5u     /* tiling; the item is a reference */
+
+/* What a check of another's tables found. */
+#define GP_FOUND_NOTHING 0u   /* it was refused: nothing is said of the tables */
+#define GP_FOUND_YES 1u       /* yes: they are as good as our own count */
+#define GP_FOUND_REFERENCE 2u /* no: the reference *item is at fault, or missing where there are *item of them */
+#define GP_FOUND_COUNT 3u     /* no: the count of tile *item */
+#define GP_FOUND_BACKDROP 4u  /* no: the backdrop of tile *item */
+#define GP_FOUND_SLOTS 5u     /* no: the slots of tile *item */
 
 /* Tiles are squares of so many pixels to a side. A path's box is in tiles: x0, y0 are its first column and
  * row, x1, y1 the first ones outside. A box of x0 = x1 or y0 = y1 has no tile. Tile (x, y) of a box is
@@ -298,6 +306,30 @@ uint32_t gp_recount(uint32_t path,
                     int32_t *kept_backdrops, size_t kept_backdrops_len,
                     uint32_t *kept_counts, size_t kept_counts_len,
                     uint32_t *made, uint32_t *item);
+
+/* A check of another's tables: a graphics card has counted the lines and handed out slots, and nothing of it
+ * is trusted. path_nos, coords and paths are ours; refs, counts (what hand-out keeps in the tally), backdrops
+ * (before the sums), stored and room (the slots there are) are the other's. It counts all lines itself, from
+ * zeroed tiles, and is refused where that count is. Then *found is GP_FOUND_YES only where the references,
+ * in any order, are by line and step those that our lines make, each once; every tile's slice numbers
+ * are 0 up to its count less one; counts and backdrops are ours; and the slots of tiles with a count above 0
+ * don't overlap and lie within room and GP_MAX_SLOTS. Otherwise *found names the table, in the order references,
+ * counts, backdrops, slots, and *item its first entry at fault; where only a reference is missing, the number of
+ * those lent. THE ANSWER 0 IS NO YES: look at *found. After a yes gp_tile over these tables writes no stray piece.
+ * work is working room: 9 where it is under four words for each tile, line and reference lent, before the lines.
+ * Where the checks refuse it stays; else its first 4 * (tiles + lines + references) words are 0 afterwards, and the
+ * rest as they were. *item is the path for 3 and 4, the line for our own count's refusal; 0 for 1, 2, that 9 and yes.
+ * 1: coords whole; as many path_nos as lines; refs whole; backdrops, then stored, as long as counts; paths whole. */
+uint32_t gp_check(const uint32_t *path_nos, size_t path_nos_len,
+                  const float *coords, size_t coords_len,
+                  const uint32_t *paths, size_t paths_len,
+                  const uint32_t *refs, size_t refs_len,
+                  const uint32_t *counts, size_t counts_len,
+                  const int32_t *backdrops, size_t backdrops_len,
+                  const uint32_t *stored, size_t stored_len,
+                  uint32_t room,
+                  uint32_t *work, size_t work_len,
+                  uint32_t *found, uint32_t *item);
 
 /* The lines of an outline, from the path data of SVG 1.1: M, L, H, V, Z and Q, large or small, with
  * numbers of up to six digits before the point and three after. They stand at the front of path_nos

@@ -15,3 +15,4 @@ pub mod ExactPpm
 pub mod ExactPixel
 pub mod Drawn
 pub mod FillTags
+pub mod CheckAnswers

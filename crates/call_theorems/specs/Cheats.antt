@@ -14,6 +14,8 @@ use Rattle.ppm_write.specs.declared.Written.{Written}
 use Rattle.ppm_write.specs.declared.Written.the-variants as Written
 use Rattle.ppm_read.specs.declared.Answer as Read
 use Rattle.ppm_read.specs.declared.Answer.the-variants as Reading
+use Rattle.tile_check.specs.declared.kinds.Checked.{Checked}
+use Rattle.tile_check.specs.declared.kinds.Checked.the-variants as Checked
 use Rattle.svg.specs.declared.Answer as Svg
 use Rattle.svg.specs.declared.Answer.the-variants as Drawing
 
@@ -71,3 +73,11 @@ RefusesNo n = n ≢ doneNo
 
 abbrev pub RefusesRecount : RecountTold → Type 0
 RefusesRecount a = RefusesNo (a .number)
+
+abbrev pub RefusesCheck : Checked → Type 0
+RefusesCheck Checked.Yes = ⊥
+RefusesCheck (Checked.Reference j) = ⊥
+RefusesCheck (Checked.Count t) = ⊥
+RefusesCheck (Checked.Backdrop t) = ⊥
+RefusesCheck (Checked.Slots t) = ⊥
+RefusesCheck (Checked.Refused n item) = Unit {0}

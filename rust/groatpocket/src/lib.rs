@@ -64,7 +64,8 @@
 //! their words: [`Path`], [`Reference`], [`Segment`], [`Paint`].
 //!
 //! The stages of a frame are calls too, for whoever feeds lines in batches: [`count`], [`backdrop`], [`hand_out`],
-//! [`tile`]. Where one gauge has moved, its path alone is counted again: [`recount`]. One pixel can be asked for by itself: [`pixel`], [`pixel_area`]. Lines of an outline can be read from
+//! [`tile`]. Where one gauge has moved, its path alone is counted again: [`recount`]. What another has counted, a graphics card, is
+//! held against our own count before it is used: [`check`]. One pixel can be asked for by itself: [`pixel`], [`pixel_area`]. Lines of an outline can be read from
 //! SVG: [`svg_lines`].
 //!
 //! Nothing is allocated and the crate is `no_std`. It links `libgroatpocket.a`: see its README. Colours are multiplied by
@@ -98,6 +99,8 @@
 #![no_std]
 #![warn(missing_docs)]
 
+#[cfg(feature = "check")]
+mod check;
 #[cfg(feature = "frame")]
 mod frame;
 #[cfg(feature = "lists")]
@@ -116,6 +119,8 @@ mod stages;
 #[cfg(feature = "svg")]
 mod svg;
 
+#[cfg(feature = "check")]
+pub use check::{check, work_needed, Found};
 #[cfg(feature = "frame")]
 pub use frame::{frame, Frame, FrameStopped, Stage};
 #[cfg(feature = "lists")]

@@ -117,6 +117,19 @@ extern "C" {
         made: &mut u32, item: &mut u32,
     ) -> u32;
 
+    pub fn gp_check(
+        path_nos: *const u32, path_nos_len: usize,
+        coords: *const f32, coords_len: usize,
+        paths: *const u32, paths_len: usize,
+        refs: *const u32, refs_len: usize,
+        counts: *const u32, counts_len: usize,
+        backdrops: *const i32, backdrops_len: usize,
+        stored: *const u32, stored_len: usize,
+        room: u32,
+        work: *mut u32, work_len: usize,
+        found: &mut u32, item: &mut u32,
+    ) -> u32;
+
     pub fn gp_svg_lines(
         text: *const u8, text_len: usize,
         depth: u32, path: u32,

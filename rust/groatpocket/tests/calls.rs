@@ -375,3 +375,30 @@ fn a_picture_comes_back() {
     assert_eq!(number(ppm_read(&file[..n], &mut back[..35])), 9);
     assert_eq!(ppm_write(&pixels, 0, 3, &mut file).unwrap_err().refusal, Refusal::BadSize);
 }
+
+#[cfg(feature = "check")]
+#[test]
+fn another_s_tables_are_checked() {
+    let (path_nos, coords) = ([0, 0], [8.0, 8.0, 8.0, 24.0, 8.0, 8.0, 24.0, 8.0]);
+    let (mut backdrops, mut stored, mut counts, mut refs) = ([0; 4], [0; 4], [0; 4], [0; 8]);
+    count(Running::default(), 2, &path_nos, &coords, &PATHS, &mut backdrops, &mut stored, &mut refs).unwrap();
+    hand_out(&mut stored, &mut counts, 4).unwrap();
+    let mut work = [7; 45];
+    let mut said = |refs: &[u32], backdrops: &[i32], room: u32, words: usize| {
+        work.fill(7);
+        let found =
+            check(&path_nos, &coords, &PATHS, refs, &counts, backdrops, &stored, room, &mut work[..words]);
+        (found.map_err(|r| (r.refusal.number(), r.item)), work[..words].iter().filter(|&&w| w == 0).count())
+    };
+    let needed = work_needed(4, 2, 4);
+    assert_eq!(needed, 40);
+    assert_eq!(said(&refs, &backdrops, 4, 45), (Ok(Found::Yes), 40));
+    assert_eq!(said(&refs, &backdrops, 4, 39), (Err((9, 0)), 0));
+    assert_eq!(said(&refs, &backdrops[..3], 4, 45), (Err((1, 0)), 0));
+    assert_eq!(said(&refs, &[1, 0, 0, 0], 4, 40), (Ok(Found::Backdrop(0)), 40));
+    assert_eq!(said(&refs, &backdrops, 3, 40), (Ok(Found::Slots(2)), 40));
+    assert_eq!(said(&refs[..6], &backdrops, 4, 40), (Ok(Found::Reference(3)), 36));
+    let mut other = refs;
+    other[1] = 5; // a step that the line doesn't make
+    assert_eq!(said(&other, &backdrops, 4, 40), (Ok(Found::Reference(0)), 40));
+}

@@ -163,6 +163,22 @@ fn places() {
     );
 }
 
+/// What a check found has the header's numbers, which are those of the proved export.
+#[cfg(feature = "check")]
+#[test]
+fn found() {
+    let header = header();
+    let each = [Found::Yes, Found::Reference(7), Found::Count(7), Found::Backdrop(7), Found::Slots(7)];
+    let code = text("crates/groatpocket/src/call_check.rt");
+    for found in each {
+        let name = format!("{found:?}").replace("(7)", "");
+        assert_eq!(header[&format!("FOUND_{}", shouted(&name))], found.numbers().0, "{name}");
+        let arms = ["", "(_)"].map(|of| format!("Checked::{name}{of} => {},", found.numbers().0));
+        assert!(arms.iter().any(|arm| code.contains(arm)), "{name}");
+    }
+    assert_eq!(header["FOUND_NOTHING"], 0);
+}
+
 #[cfg(feature = "frame")]
 #[test]
 fn stages() {

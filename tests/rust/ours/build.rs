@@ -5,8 +5,8 @@ use std::env;
 use std::path::{Path, PathBuf};
 use std::process::Command;
 
-const STAGES: [&str; 13] =
-    ["FLOATS", "BACKDROP", "HAND_OUT", "COUNT", "TILE", "FILL", "FINE", "FRAME", "LISTS", "PICTURE", "PIXEL", "RECOUNT", "SVG"];
+const STAGES: [&str; 14] =
+    ["FLOATS", "BACKDROP", "HAND_OUT", "COUNT", "TILE", "FILL", "FINE", "FRAME", "LISTS", "PICTURE", "PIXEL", "RECOUNT", "CHECK", "SVG"];
 
 fn linked(stage: &str) -> bool {
     env::var(format!("CARGO_FEATURE_{stage}")).is_ok()

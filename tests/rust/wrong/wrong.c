@@ -159,6 +159,17 @@ uint32_t __wrap_gp_recount(uint32_t path, const uint32_t *line_nos, size_t line_
     return answer;
 }
 
+uint32_t __real_gp_check(const uint32_t *path_nos, size_t path_nos_len, const float *coords, size_t coords_len, const uint32_t *paths, size_t paths_len, const uint32_t *refs, size_t refs_len, const uint32_t *counts, size_t counts_len, const int32_t *backdrops, size_t backdrops_len, const uint32_t *stored, size_t stored_len, uint32_t room, uint32_t *work, size_t work_len, uint32_t *found, uint32_t *item);
+uint32_t __wrap_gp_check(const uint32_t *path_nos, size_t path_nos_len, const float *coords, size_t coords_len, const uint32_t *paths, size_t paths_len, const uint32_t *refs, size_t refs_len, const uint32_t *counts, size_t counts_len, const int32_t *backdrops, size_t backdrops_len, const uint32_t *stored, size_t stored_len, uint32_t room, uint32_t *work, size_t work_len, uint32_t *found, uint32_t *item) {
+    uint32_t answer = __real_gp_check(path_nos, path_nos_len, coords, coords_len, paths, paths_len, refs, refs_len, counts, counts_len, backdrops, backdrops_len, stored, stored_len, room, work, work_len, found, item);
+    if (strikes("check work", answer == 0 && work_len > 0)) flip(work + work_len / 2);
+    if (strikes("check work refused", answer != 0 && work_len > 0)) flip(work + work_len / 2);
+    if (strikes("check found", 1)) *found += 1;
+    if (strikes("check item", answer != 0)) *item += 1;
+    if (strikes("check answer", 1)) answer ^= 1;
+    return answer;
+}
+
 uint32_t __real_gp_svg_lines(const uint8_t *text, size_t text_len, uint32_t depth, uint32_t path, uint32_t *path_nos, size_t path_nos_len, float *coords, size_t coords_len, size_t *lines, size_t *place);
 uint32_t __wrap_gp_svg_lines(const uint8_t *text, size_t text_len, uint32_t depth, uint32_t path, uint32_t *path_nos, size_t path_nos_len, float *coords, size_t coords_len, size_t *lines, size_t *place) {
     uint32_t answer = __real_gp_svg_lines(text, text_len, depth, path, path_nos, path_nos_len, coords, coords_len, lines, place);

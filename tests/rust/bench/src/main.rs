@@ -1,10 +1,11 @@
 //! Every stage beside the unchanged Rust: same machine, same run, release builds, buffers cleared beforehand.
 //!
-//!     tests/rust/run bench [ROUNDS] [lists|pixel|recount]
+//!     tests/rust/run bench [ROUNDS] [lists|pixel|recount|check|check-limits]
 //!
 //! Runs of the two are interleaved; a row has a stage at its sizes, the median time of each side for one unit of work, and
 //! the ratios of ours to the Rust's. A ratio under 1 is faster than the Rust.
 
+mod check;
 mod scenes;
 mod stages;
 
@@ -99,6 +100,19 @@ fn main() {
             "\n| One path of a frame of 64 | Lines of each | the frame's count, ns | the path's count, ns | the recount, ns | its range, ns | recount to frame | less its range, to count |\n|---|---|---|---|---|---|---|---|"
         );
         stages::recount(rounds);
+    }
+    const CHECK: &str =
+        "\n| A check beside a plain count | Lines | References | the count, ns each | the check, ns each | ratio |\n|---|---|---|---|---|---|";
+    if ours::has::CHECK && ours::has::COUNT && ours::has::HAND_OUT {
+        if wanted("check") {
+            println!("{CHECK}");
+            check::scenes(rounds);
+        }
+        // some 600 megabytes: by name alone
+        if only.as_deref() == Some("check-limits") {
+            println!("{CHECK}");
+            check::limits();
+        }
     }
     if ours::has::LISTS && wanted("lists") {
         println!("\n| Lists of a screen | Paths | Covered tiles | ms | a screen tile, ns | a covered tile, ns |\n|---|---|---|---|---|---|");

@@ -155,6 +155,22 @@ fn recount(rng: &mut Rng, kind: u32) -> Call {
     Call { kind, numbers: vec![0], slices }
 }
 
+/// A check of another's tables over paths or lines at the limit, or over a line whose step leaves its box.
+fn check(rng: &mut Rng, kind: u32) -> Call {
+    let wide = bits([80.0, 0.0, 80.0, f32::from_bits(rng.range(1, 2_000) as u32)]);
+    let (path_nos, coords, paths, tiles) = match rng.below(6) {
+        0 | 1 => (vec![0], bits([8.0, 8.0, 8.0, 24.0]), many_paths(rng), 4),
+        2 => {
+            let (path_nos, coords, _) = many_lines(rng);
+            (path_nos, coords, path([0, 0, 2, 2], 0).to_vec(), 4)
+        }
+        _ => (vec![0], wide, path([0, 0, 6, 1], 0).to_vec(), 6),
+    };
+    let work = vec![7; rules::check::work_words(tiles, path_nos.len(), 0)];
+    let slices = vec![path_nos, coords, paths, vec![], vec![0; tiles], vec![0; tiles], vec![0; tiles], work];
+    Call { kind, numbers: vec![u32::MAX], slices }
+}
+
 /// A call that leads to a rare answer of the kind, where it has one.
 pub fn toward(rng: &mut Rng, kind: u32) -> Option<Call> {
     Some(match NAMES[kind as usize] {
@@ -171,6 +187,7 @@ pub fn toward(rng: &mut Rng, kind: u32) -> Option<Call> {
         "tile" => tile(rng),
         "frame" => frame(rng),
         "recount" => recount(rng, kind),
+        "check" => check(rng, kind),
         "write_lists" if rng.one_in(4) => write_lists(rng),
         "ppm_read" => {
             let (width, height) = (rng.pick(&[0, 1, SIDE_MOST, SIDE_MOST + 1, u32::MAX]), rng.pick(&[0, 1, SIDE_MOST + 1]));

@@ -23,6 +23,7 @@ pub const NAMES: &[&str] = &[
     "pixel_area",
     "pixel",
     "recount",
+    "check",
     "svg_lines",
 ];
 
@@ -42,6 +43,7 @@ pub const CHANGED: &[&[usize]] = &[
     &[],
     &[],
     &[4, 5, 6, 7, 8],
+    &[7],
     &[1, 2],
 ];
 
@@ -58,6 +60,7 @@ pub const BYTES: &[&[usize]] = &[
     &[],
     &[1],
     &[0, 1],
+    &[],
     &[],
     &[],
     &[],
@@ -80,6 +83,7 @@ pub const SHAPES: &[(usize, usize)] = &[
     (1, 9),
     (2, 4),
     (9, 1),
+    (8, 1),
     (3, 2),
 ];
 
@@ -99,6 +103,7 @@ pub const LINKED: &[bool] = &[
     ours::has::PIXEL,
     ours::has::PIXEL,
     ours::has::RECOUNT,
+    ours::has::CHECK,
     ours::has::SVG,
 ];
 
@@ -300,7 +305,25 @@ macro_rules! answered_by {
                     );
                     vec![no, item, made]
                 }
-                (14, [text, path_nos, coords]) => {
+                (14, [path_nos, coords, paths, refs, counts, backdrops, stored, work]) => {
+                    let mut found = UNTOLD;
+                    let mut item = UNTOLD;
+                    let no = $side::check(
+                        path_nos.u32s(),
+                        coords.f32s(),
+                        paths.u32s(),
+                        refs.u32s(),
+                        counts.u32s(),
+                        backdrops.i32s(),
+                        stored.u32s(),
+                        n[0],
+                        work.u32s_mut(),
+                        &mut found,
+                        &mut item,
+                    );
+                    vec![no, item, found]
+                }
+                (15, [text, path_nos, coords]) => {
                     let mut lines = UNTOLD as usize;
                     let mut place = UNTOLD as usize;
                     let text_bytes = LentBytes::of(text.u32s());

@@ -153,6 +153,13 @@ fn good(rng: &mut Rng, kind: u32) -> Call {
             let tables = [words(rng, tiles), words(rng, tiles), words(rng, refs), words(rng, kept), words(rng, kept)];
             (vec![path], [line_nos, of, coords, paths].into_iter().chain(tables).collect())
         }
+        _ if NAMES[kind as usize] == "check" => {
+            let made = rng.below(6) as usize;
+            let refs = (0..made).flat_map(|_| [rng.below(n.max(1) as u64) as u32, rng.below(2) as u32 * STEP_RANGE + rng.below(4) as u32]).collect();
+            let (zeros, stored) = (vec![0; tiles], (0..tiles).map(|_| !(rng.below(20) as u32)).collect());
+            let work = rules::check::work_words(tiles, n, made) + rng.below(3) as usize;
+            (vec![rng.below(60) as u32], vec![path_nos, coords, paths, refs, zeros.clone(), zeros, stored, words(rng, work)])
+        }
         FINE => {
             let (cols, rows) = (rng.below(3) as u32, rng.below(2) as u32);
             let list_words = (0..REGION as u32 * cols * rows).map(|k| if k % REGION as u32 == 0 { 0 } else { rng.below(6) as u32 }).collect();
@@ -203,7 +210,7 @@ impl Stage for Hostile {
     type Case = Call;
     const NAME: &'static str = "hostile";
     const REACHED: &'static [u32] = &[];
-    const LEAST: u64 = if ours::BRIDGED { 40_000 } else { 800_000 };
+    const LEAST: u64 = if ours::BRIDGED { 43_000 } else { 860_000 };
 
     fn make(&self, rng: &mut Rng) -> Call {
         let mut kind = rng.pick(&self.kinds);

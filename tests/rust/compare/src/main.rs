@@ -14,6 +14,7 @@
 mod backdrop;
 mod borders;
 mod calls;
+mod check;
 mod count;
 #[rustfmt::skip]
 mod dispatch;
@@ -118,6 +119,7 @@ const STAGES: [&str; 15] = [
     "picture",
     "pixel",
     "recount",
+    "check",
     "svg_lines",
     "order",
     hostile::Hostile::NAME,
@@ -142,6 +144,7 @@ fn stages(args: &Args) -> bool {
     well &= picture(args);
     well &= run(&pixel::Pixel, args, ours::has::PIXEL && ours::has::FILL && ours::has::FINE, 8.0);
     well &= run(&recount::Recount, args, ours::has::RECOUNT && ours::has::COUNT, 6.0);
+    well &= run(&check::Check, args, ours::has::CHECK, 6.0);
     well &= run(&svg_lines::SvgLines, args, ours::has::SVG, 6.0);
     if ours::has::SVG && args.mode != "rules-vs-oracle" && args.cases.is_none() && args.only.as_deref().is_none_or(|o| o == "svg_lines") {
         well &= svg_lines::fixed();

@@ -77,3 +77,10 @@ pub fn width_height(answer: Result<(u32, u32), Refused>, width: &mut u32, height
     (*width, *height) = answer.unwrap_or((0, 0));
     nothing(answer.map(|_| ()))
 }
+
+/// What was found, and its entry; a refusal finds nothing and names its item.
+#[cfg(feature = "check")]
+pub fn found_item(answer: Result<groatpocket::Found, Refused>, found: &mut u32, item: &mut u32) -> u32 {
+    (*found, *item) = answer.map_or_else(|r| (0, r.item), groatpocket::Found::numbers);
+    nothing(answer.map(|_| ()))
+}

@@ -327,6 +327,40 @@ unsafe extern "C" fn gp_recount(
     answer
 }
 
+#[cfg(feature = "check")]
+#[no_mangle]
+unsafe extern "C" fn gp_check(
+    path_nos: *const u32, path_nos_len: usize,
+    coords: *const f32, coords_len: usize,
+    paths: *const u32, paths_len: usize,
+    refs: *const u32, refs_len: usize,
+    counts: *const u32, counts_len: usize,
+    backdrops: *const i32, backdrops_len: usize,
+    stored: *const u32, stored_len: usize,
+    room: u32,
+    work: *mut u32, work_len: usize,
+    found: &mut u32, item: &mut u32,
+) -> u32 {
+    let mut n = [room, *found, *item];
+    let answer = call(
+        14,
+        &mut n,
+        vec![
+            read_only(path_nos, path_nos_len),
+            read_only(coords, coords_len),
+            read_only(paths, paths_len),
+            read_only(refs, refs_len),
+            read_only(counts, counts_len),
+            read_only(backdrops, backdrops_len),
+            read_only(stored, stored_len),
+            changed(work, work_len),
+        ],
+    );
+    *found = n[1];
+    *item = n[2];
+    answer
+}
+
 #[cfg(feature = "svg")]
 #[no_mangle]
 unsafe extern "C" fn gp_svg_lines(
@@ -338,7 +372,7 @@ unsafe extern "C" fn gp_svg_lines(
 ) -> u32 {
     let mut n = [depth, path, *lines as u32, *place as u32];
     let answer = call(
-        14,
+        15,
         &mut n,
         vec![
             read_only(text, text_len),

@@ -329,6 +329,32 @@ pub fn recount(
     not_linked(("recount", path, line_nos, path_nos, coords, paths, backdrops, counts, refs, kept_backdrops, kept_counts, made, item))
 }
 
+pub fn check(
+    path_nos: &[u32],
+    coords: &[f32],
+    paths: &[u32],
+    refs: &[u32],
+    counts: &[u32],
+    backdrops: &[i32],
+    stored: &[u32],
+    room: u32,
+    work: &mut [u32],
+    found: &mut u32,
+    item: &mut u32,
+) -> u32 {
+    #[cfg(all(feature = "check", not(bridge)))]
+    if crate::null::is_lent(&[path_nos.len(), coords.len(), paths.len(), refs.len(), counts.len(), backdrops.len(), stored.len(), work.len()]) {
+        // SAFETY: every pointer and length is a slice's, lent for the call alone, or NULL and 0.
+        return unsafe { groatpocket::raw::gp_check(crate::null::at(path_nos), path_nos.len(), crate::null::at(coords), coords.len(), crate::null::at(paths), paths.len(), crate::null::at(refs), refs.len(), crate::null::at(counts), counts.len(), crate::null::at(backdrops), backdrops.len(), crate::null::at(stored), stored.len(), room, crate::null::at_mut(work), work.len(), found, item) };
+    }
+    #[cfg(feature = "check")]
+    let answer = groatpocket::check(path_nos, coords, paths, refs, counts, backdrops, stored, room, work);
+    #[cfg(feature = "check")]
+    return crate::answers::found_item(answer, found, item);
+    #[cfg(not(feature = "check"))]
+    not_linked(("check", path_nos, coords, paths, refs, counts, backdrops, stored, room, work, found, item))
+}
+
 pub fn svg_lines(
     text: &[u8],
     depth: u32,

@@ -1,7 +1,7 @@
 //! Which numbers each call can really give.
 
 /// By the call's name; README.md's table has the same, but for 0. A frame counts into cleared tiles, at most 65,536 lines: no
-/// tile's count and no sum gets over its limit, so it gives neither 8 nor 11.
+/// tile's count and no sum gets over its limit, so it gives neither 8 nor 11; nor does a check of another's tables.
 pub fn answers(call: &str) -> &'static [u32] {
     match call {
         "count" => &[0, 1, 2, 3, 4, 5, 6, 7, 8, 9, 10, 11],
@@ -17,6 +17,7 @@ pub fn answers(call: &str) -> &'static [u32] {
         "pixel_area" => &[0, 1, 13, 19, 20],
         "pixel" => &[0, 1, 13, 14, 15, 19, 20],
         "recount" => &[0, 1, 2, 3, 4, 5, 6, 7, 8, 9, 10],
+        "check" => &[0, 1, 2, 3, 4, 5, 6, 7, 9, 10],
         "svg_lines" => &[0, 1, 9, 21, 22],
         name => panic!("which answers can {name} give?"),
     }

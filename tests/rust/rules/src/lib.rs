@@ -7,6 +7,7 @@
 
 pub mod answers;
 pub mod backdrop;
+pub mod check;
 pub mod checks;
 pub mod count;
 pub mod fill;
@@ -27,6 +28,7 @@ pub mod walk;
 
 pub use answers::answers;
 pub use backdrop::backdrop;
+pub use check::check;
 pub use count::{count, count_seen, Seen};
 pub use fill::fill;
 pub use fine::fine;
