@@ -28,7 +28,7 @@ pub struct Frame;
 /// Families of which lines are rarely refused, so that most frames are drawn whole.
 pub const CALM: [usize; 9] = [0, 3, 6, 7, 8, 12, 13, 14, 15];
 /// Families of which many are refused with 10 or 12.
-const ODD: [usize; 4] = [17, 19, 20, 21];
+pub const ODD: [usize; 4] = [17, 19, 20, 21];
 /// A line so short that its steps are refused with 10, in a box of six tiles.
 const SHORT: [u32; 4] = [0x42a0_0000, 0, 0x42a0_0000, 1_000];
 

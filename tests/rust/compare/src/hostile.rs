@@ -155,7 +155,7 @@ fn good(rng: &mut Rng, kind: u32) -> Call {
         }
         _ if NAMES[kind as usize] == "check" => {
             let made = rng.below(6) as usize;
-            let refs = (0..made).flat_map(|_| [rng.below(n.max(1) as u64) as u32, rng.below(2) as u32 * STEP_RANGE + rng.below(4) as u32]).collect();
+            let refs = (0..made).flat_map(|_| reference(rng.below(n.max(1) as u64) as u32, rng.below(2) as u32, rng.below(4) as u32)).collect();
             let (zeros, stored) = (vec![0; tiles], (0..tiles).map(|_| !(rng.below(20) as u32)).collect());
             let work = rules::check::work_words(tiles, n, made) + rng.below(3) as usize;
             (vec![rng.below(60) as u32], vec![path_nos, coords, paths, refs, zeros.clone(), zeros, stored, words(rng, work)])

@@ -106,7 +106,7 @@ fn run<S: Stage>(stage: &S, args: &Args, linked: bool, seconds: f64) -> bool {
     stage::run(stage, Sides { ours, rust: oracle::AT_HAND }, budget)
 }
 
-const STAGES: [&str; 15] = [
+const STAGES: [&str; 16] = [
     "floats",
     "backdrop",
     "hand_out",

@@ -195,7 +195,7 @@ fn outline(rng: &mut Rng, b: [u32; 4]) -> Vec<[f32; LINE]> {
 /// Lines of several paths: some of them outlines, some of any kind.
 fn some_lines(rng: &mut Rng, paths: &[u32]) -> (Vec<u32>, Vec<u32>) {
     let loose = rng.range(0, 12) as usize;
-    let families: &[usize] = if rng.one_in(12) { &[17, 19, 20, 21] } else { &frame::CALM };
+    let families: &[usize] = if rng.one_in(12) { &frame::ODD } else { &frame::CALM };
     let (mut path_nos, mut coords) = frame::lines_of(rng, families, paths, loose);
     for p in (0..paths_in(paths)).filter(|_| rng.coin()).collect::<Vec<_>>() {
         for line in outline(rng, box_at(paths, p)) {
@@ -268,10 +268,10 @@ impl Stage for Picture {
     const NAME: &'static str = "picture";
     /// The frame's answer, or that of the lists. Where it isn't 0 nothing is claimed.
     const REACHED: &'static [u32] = &[0];
-    const LEAST: u64 = if ours::BRIDGED { 300 } else { 4_000 };
+    const LEAST: u64 = if ours::BRIDGED { 1_500 } else { 4_000 };
 
     fn make(&self, rng: &mut Rng) -> Case {
-        if rng.one_in(150) {
+        if rng.one_in(100) {
             return long(rng);
         }
         let n = rng.range(1, 6) as usize;
@@ -293,23 +293,13 @@ impl Stage for Picture {
     fn check(&self, case: &Case, sides: Sides, table: &mut Table) -> Result<(), String> {
         let calls = if sides.ours { calls!(ours) } else { calls!(rules) };
         let mut rng = Rng::new(case.seed);
-        let left = match calls.framed(&case.frame) {
-            Ok(left) => left,
-            Err(number) => {
-                table.answer(number);
-                return Ok(());
-            }
+        let shown = match calls.framed(&case.frame) {
+            Ok(left) => calls.shown(case, &left, &mut rng)?.inspect_err(|&number| lists_refused(number, table)),
+            Err(number) => Err(number),
         };
+        table.answer(shown.as_ref().err().copied().unwrap_or(0));
+        let Ok(pixels) = shown else { return Ok(()) };
         let page = case.page();
-        let pixels = match calls.shown(case, &left, &mut rng)? {
-            Ok(pixels) => pixels,
-            Err(number) => {
-                table.answer(number);
-                table.add(if number == NO_ROOM { SHORT } else { LONG }, 1);
-                return Ok(());
-            }
-        };
-        table.answer(0);
         same_words("pixels beside the page", &pixels, &page)?;
         table.add(SHOWN, 1);
         table.add("pixels beside the page", (SIDE * SIDE * (case.cols * case.rows) as usize) as u64);
@@ -326,8 +316,8 @@ impl Stage for Picture {
     }
 
     fn rows_wanted(&self) -> Vec<(String, u64)> {
-        let least = if ours::BRIDGED { 1 } else { 10 };
-        let often = [SHOWN, CHANGED, CHANGED_SHOWS, TOGETHER].map(|row| (row.into(), 100 * least));
+        let least = if ours::BRIDGED { 1 } else { 5 };
+        let often = [SHOWN, CHANGED, CHANGED_SHOWS, TOGETHER].map(|row| (row.into(), 200 * least));
         often.into_iter().chain([SHORT, LONG].map(|row| (row.into(), least))).collect()
     }
 
@@ -375,6 +365,10 @@ impl Case {
     }
 }
 
+fn lists_refused(number: u32, table: &mut Table) {
+    table.add(if number == NO_ROOM { SHORT } else { LONG }, 1);
+}
+
 /// Lines of different paths in another order, each path's own order kept: no pixel is another.
 fn ordered(calls: &Calls, case: &Case, page: &[u32], rng: &mut Rng) -> Result<(), String> {
     let other = in_another_order(rng, &case.frame);
@@ -386,11 +380,14 @@ fn ordered(calls: &Calls, case: &Case, page: &[u32], rng: &mut Rng) -> Result<()
 fn isolated(calls: &Calls, case: &Case, page: &[u32], rng: &mut Rng, table: &mut Table) -> Result<(), String> {
     let Some((frame, p)) = one_float_changed(rng, &case.frame) else { return Ok(()) };
     let changed = Case { frame, ..case.clone() };
-    let Ok(left) = calls.framed(&changed.frame) else {
-        table.add("frames refused with one float changed", 1);
+    let pixels = match calls.framed(&changed.frame) {
+        Ok(left) => calls.shown(&changed, &left, rng)?,
+        Err(number) => Err(number),
+    };
+    let Ok(pixels) = pixels else {
+        table.add("refused with one float changed", 1);
         return Ok(());
     };
-    let pixels = calls.must_show(&changed, &left, rng)?;
     let mut here = 0;
     for (k, _) in pixels.iter().zip(page).enumerate().filter(|(_, (now, was))| now != was) {
         let (column, row) = (k % case.width as usize, k / case.width as usize);

@@ -3,6 +3,7 @@
 use crate::checks::*;
 use crate::count::{count_line, Seen, Tiles};
 use crate::limits::*;
+use crate::records::{named, slice_and_step};
 use crate::walk::{good_coords, Place, Walk};
 use std::collections::{BTreeMap, HashSet};
 
@@ -78,7 +79,7 @@ fn own(lines: &Lines, tiles: usize) -> Result<Own, No> {
 fn bad_reference(lines: &Lines, own: &Own, refs: &[u32]) -> Option<usize> {
     let (mut steps, mut slices) = (HashSet::new(), HashSet::new());
     refs.chunks_exact(REF).position(|r| {
-        let (line, step, slice) = (r[0], r[1] % STEP_RANGE, r[1] / STEP_RANGE);
+        let (line, (slice, step)) = (named(r), slice_and_step(r));
         let Some(tile) = lines.made(line, step) else { return true };
         slice >= own.counts[tile] || !steps.insert((line, step)) || !slices.insert((tile, slice))
     })
