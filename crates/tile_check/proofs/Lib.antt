@@ -1,0 +1,6 @@
+pub mod StartLaws
+pub mod RefLaws
+pub mod RoomLaws
+pub mod PlaceLaws
+pub mod CallLaws
+pub mod BackLaws
