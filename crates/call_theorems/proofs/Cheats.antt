@@ -10,6 +10,7 @@ use lib.IntN.{ℤ, pos, negsuc}
 use lib.ListN.{getD, replicate}
 use lib.Ieee.{Float, nan, binary32, ofBits, isNan}
 use Rattle.panel.specs.Pieces.{Pieces, pieces}
+use Rattle.panel.specs.Widths.{segmentFloats}
 use Rattle.util.specs.Constants as Number
 use Rattle.lists.specs.Grid.{tabFrom}
 use Rattle.panel.specs.Paths.{boxed, stamped}
@@ -142,7 +143,7 @@ hand-shut =
 -- ---- tiling: the first reference of (8,8)-(8,24), over NaNs; and a reference to a line that isn't there
 
 abbrev oneSlot : Pieces
-oneSlot = pieces (replicate 5 nan) (0 ∷ [])
+oneSlot = pieces (replicate segmentFloats nan) (0 ∷ [])
 
 abbrev TileAt : (refs : List ℕ) → Answer → Pieces → Type 0
 TileAt refs a m = TileMet 0 1 (lent (0 ∷ []) (floatsOf (8 ∷ 8 ∷ 8 ∷ 24 ∷ [])) (stamped 0 0 2 2 0 7) (4294967295 ∷ 0 ∷ 0 ∷ 0 ∷ []) refs) oneSlot a m
@@ -159,7 +160,7 @@ unfolding computing
 tile-shut =
     shut Answer Pieces Refuses (TileAt (0 ∷ 0 ∷ [])) (TileAt (1 ∷ 0 ∷ [])) oneSlot
     Done (Refused noSuch 0) (pieces piece (7 ∷ [])) oneSlot (once-tile (0 ∷ 0 ∷ [])) (once-tile (1 ∷ 0 ∷ []))
-    refl refl (λ h. h) tt (λ e. apart-nan piece (replicate 5 nan) refl refl (ap (λ (x : Pieces). x .segments) e))
+    refl refl (λ h. h) tt (λ e. apart-nan piece (replicate segmentFloats nan) refl refl (ap (λ (x : Pieces). x .segments) e))
 
 -- ---- coverage: a tile with backdrop 1 and no segment, over NaNs; and an area of another size
 

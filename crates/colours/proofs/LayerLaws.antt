@@ -1,26 +1,20 @@
 -- A colour over a tile's pixels, row by row: parts of a row one after the other, and a row of one area. Assumes nothing.
 use mathlib.Core.Path.{_≡_, refl, sym, ap, subst, _∙_}
-use mathlib.Core.Bool.{Bool, true, false, not, _&&_, true≢false}
+use mathlib.Core.Bool.{Bool, true, _&&_}
 use mathlib.Core.List.{List, []}
 use mathlib.Core.Logic.{⊎-elim}
 use Prim.Native.Nat.{ℕ, _+_, _-_, _≤_, _<_}
 use native.Mathlib.Nat.{eq-or-lt-of-le}
 use native.Mathlib.Omega.{arith}
-use lib.Dec.{T}
 use lib.ListN.{getD, set}
-use lib.Ieee.{Float, nan, inf, fin, binary32, eq, lt, fits, ofBits}
-use Rattle.float32.specs.Meaning.{signOf}
-use Rattle.float32.proofs.Alike.{IsZero, unlike-zeros}
-use Rattle.float32.proofs.Same.{same-sign}
+use lib.Ieee.{Float, nan}
 use Rattle.float32.proofs.Tests.{first, second}
-use Rattle.util.specs.Constants.{zero}
 use Rattle.lists.specs.Grid.{mapi, within}
 use Rattle.lists.specs.GridLaws.{le-or-lt, within-none, within-join, within-cong}
 use Rattle.ranges.proofs.Turn.{Done, turned, turned-to}
 use Rattle.coverage.specs.Tile.{tileWidth, rowStart, rowEnd}
 use Rattle.colours.specs.Colour.{overOf}
 use Rattle.colours.specs.Layer.{shareOf, mixOf, mixed, each, Level}
-use Rattle.colours.proofs.SameByte.{nothing-above}
 
 -- ---- parts of the list one after the other
 pub one-set : (f : ℕ → List Float → List Float) (i : ℕ) (l : List (List Float)) (v : List Float) → v ≡ f i (getD l i []) → set l i v ≡ mapi (within i (i + 1) f) l
@@ -68,29 +62,6 @@ at-level area fg more i level e k lo hi = go (k - i) (omega (arith, lo, hi)) (om
     go x hx q = e ∙ ap (shareOf fg) (sym (level x hx) ∙ ap (λ (z : ℕ). getD area z nan) q)
 
 -- ---- whether a row has one area
-above-none : (y : Float) → IsZero y → lt zero y ≡ false
-unfolding ofBits lt
-above-none nan z = absurd z
-above-none (inf s) z = absurd z
-above-none (fin true m e) z = refl
-above-none (fin false m e) z = nothing-above m e z
-
--- equal to a number above 0 is the same
-pub same-above : (x y : Float) → T (fits binary32 x) → T (fits binary32 y) → (eq x y && lt zero y) ≡ true → x ≡ y
-same-above x y h g t = go (signOf x) refl (signOf y) refl
-  where
-    e : eq x y ≡ true
-    e = first (eq x y) (lt zero y) t
-
-    zeros : signOf x ≡ not (signOf y) → x ≡ y
-    zeros k = absurd (true≢false (sym (second (eq x y) (lt zero y) t) ∙ above-none y (unlike-zeros x y e k .1)))
-
-    go : (s : Bool) → signOf x ≡ s → (t : Bool) → signOf y ≡ t → x ≡ y
-    go true p true q = same-sign x y h g e (p ∙ sym q)
-    go true p false q = zeros (p ∙ sym (ap not q))
-    go false p true q = zeros (p ∙ sym (ap not q))
-    go false p false q = same-sign x y h g e (p ∙ sym q)
-
 pub all-four : (p q r s : Bool) (A B C D : Type 0) → (p ≡ true → A) → (q ≡ true → B) → (r ≡ true → C) → (s ≡ true → D) → (((p && q) && r) && s) ≡ true → A × B × C × D
 all-four p q r s A B C D f g h i e =
     let t = first ((p && q) && r) s e in

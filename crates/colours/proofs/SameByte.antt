@@ -16,7 +16,7 @@ use Rattle.colours.specs.Colour.{byteOf}
 use Rattle.colours.proofs.ByShift.{kept-byte, zero-byte}
 
 -- the byte of a zero is 0
-pub nothing-above : (m : ℕ) (e : ℤ) → m ≡ 0 → lt zero (fin false m e) ≡ false
+nothing-above : (m : ℕ) (e : ℤ) → m ≡ 0 → lt zero (fin false m e) ≡ false
 unfolding ofBits
 nothing-above m e z =
     let n : m * up e ≡ 0 * up e = ap (λ (k : ℕ). k * up e) z in

@@ -1,9 +1,11 @@
 -- A colour over a tile's pixels, row by row: what the functions of src/layer.rt tell each other; no promise leans on it. Definitions only.
 use mathlib.Core.Path.{_≡_}
+use mathlib.Core.Bool.{false}
 use mathlib.Core.List.{List, [], _∷_}
 use Prim.Native.Nat.{ℕ, _+_, _<_}
 use lib.ListN.{getD}
 use lib.Ieee.{Float, nan, binary32, add, sub, mul}
+use Rattle.float32.specs.Meaning.{signOf}
 use Rattle.util.specs.Constants.{one}
 use Rattle.coverage.specs.Tile.{tileWidth}
 use Rattle.colours.specs.Colour.{overOf}
@@ -27,6 +29,10 @@ mixed more k px = mixOf more px
 
 abbrev pub each : List Float → List Float → ℕ → List Float → List Float
 each area fg k px = overOf fg (getD area k nan) px
+
+-- no area has a minus sign, so that `==` tells two areas apart: what a fill ends as is a size, and the others are 0 and 1
+abbrev pub NoMinus : List Float → Type 0
+NoMinus area = (k : ℕ) → signOf (getD area k nan) ≡ false
 
 -- a row's areas, from i on, are all the same
 abbrev pub Level : List Float → ℕ → Type 0

@@ -5,14 +5,15 @@ use coverage::tile::TILE_HEIGHT;
 use coverage::tile::TILE_SIZE;
 use coverage::tile::TILE_WIDTH;
 ghost use mathlib.Core.Path.{_≡_};
-ghost use mathlib.Core.Bool.{true};
+ghost use mathlib.Core.Bool.{true, false};
 ghost use Prim.Native.Nat.{_+_, _≤_, _<_};
 ghost use lib.ListN.{length, getD};
 ghost use lib.Ieee.{nan};
+ghost use Rattle.float32.specs.Meaning.{signOf};
 ghost use Rattle.lists.specs.Grid.{mapi, within};
 ghost use Rattle.coverage.specs.Tile.{tileWidth, tileSize};
 ghost use Rattle.colours.specs.Colour.{compositeOf};
-ghost use Rattle.colours.specs.Layer.{shareOf, mixOf, mixed, each, Level};
+ghost use Rattle.colours.specs.Layer.{shareOf, mixOf, mixed, each, NoMinus, Level};
 
 // What is added to a pixel of which the colour fg covers the part ai.
 pub fn share(fg: [f32; 4], ai: f32) -> [f32; 4]
@@ -96,16 +97,17 @@ pub fn lay_row(rgba: &mut [[f32; 4]; TILE_SIZE], i: usize, fg: [f32; 4], area: &
     lay_four(rgba, i + 12, fg, area);
 }
 
-// Whether an area is v, and v above 0: of two zeros `==` can't tell which is -0.
+// Whether an area is v. Neither has a minus sign: of two zeros `==` can't tell which is -0.
 pub fn level(a: f32, v: f32) -> bool
+    requires { ⌜ (signOf a ≡ false) × (signOf v ≡ false) ⌝ }
     ensures { λ r. ⌜ (r ≡ true → a ≡ v) ⌝ }
 {
-    (a == v) & (0.0 < v)
+    a == v
 }
 
 // Whether four areas from i on are.
 pub fn four_level(area: &[f32], i: usize, v: f32) -> bool
-    requires { ⌜ i + 4 ≤ length (now area) ⌝ }
+    requires { ⌜ (i + 4 ≤ length (now area)) × NoMinus (now area) × (signOf v ≡ false) ⌝ }
     ensures { λ r. ⌜ (r ≡ true → (getD (now (area .entry)) i nan ≡ v) × (getD (now (area .entry)) (i + 1) nan ≡ v)
         × (getD (now (area .entry)) (i + 2) nan ≡ v) × (getD (now (area .entry)) (i + 3) nan ≡ v)) ⌝ }
 {
@@ -114,7 +116,7 @@ pub fn four_level(area: &[f32], i: usize, v: f32) -> bool
 
 // Whether a row's areas, from i on, are all the same.
 pub fn all_level(area: &[f32], i: usize) -> bool
-    requires { ⌜ i + tileWidth ≤ length (now area) ⌝ }
+    requires { ⌜ (i + tileWidth ≤ length (now area)) × NoMinus (now area) ⌝ }
     ensures { λ r. ⌜ (r ≡ true → Level (now (area .entry)) i) ⌝ }
 {
     let v = area[i];
@@ -126,7 +128,7 @@ pub fn all_level(area: &[f32], i: usize) -> bool
 
 // The colour over a row of pixels from i on.
 pub fn over_row(rgba: &mut [[f32; 4]; TILE_SIZE], i: usize, fg: [f32; 4], area: &[f32])
-    requires { ⌜ (i + tileWidth ≤ tileSize) × (length (now area) ≡ tileSize) ⌝ }
+    requires { ⌜ (i + tileWidth ≤ tileSize) × (length (now area) ≡ tileSize) × NoMinus (now area) ⌝ }
     ensures { λ _. ⌜ now (rgba .exit) ≡ mapi (within i (i + tileWidth) (each (now (area .entry)) fg)) (now (rgba .entry)) ⌝ }
 {
     if all_level(area, i) {
@@ -138,7 +140,7 @@ pub fn over_row(rgba: &mut [[f32; 4]; TILE_SIZE], i: usize, fg: [f32; 4], area: 
 
 // The colour over each of a tile's pixels, by its coverage.
 pub fn composite(rgba: &mut [[f32; 4]; TILE_SIZE], area: &[f32], fg: [f32; 4])
-    requires { ⌜ (length (now rgba) ≡ tileSize) × (length (now area) ≡ tileSize) ⌝ }
+    requires { ⌜ (length (now rgba) ≡ tileSize) × (length (now area) ≡ tileSize) × NoMinus (now area) ⌝ }
     ensures { λ _. ⌜ now (rgba .exit) ≡ compositeOf (now (area .entry)) fg (now (rgba .entry)) ⌝ }
 {
     let mut y = 0usize;

@@ -17,11 +17,14 @@ use panel::refusals::TOO_LONG;
 use reader::Look;
 use reader::peek_from;
 ghost use mathlib.Core.Path.{_≡_};
+ghost use mathlib.Core.Bool.{false};
 ghost use Prim.Native.Nat.{_-_, _≤_};
 ghost use lib.ListN.{length};
+ghost use Rattle.float32.specs.Meaning.{signOf};
 ghost use Rattle.util.specs.Constants.{zero};
 ghost use Rattle.panel.specs.Limits.{mostCommands};
 ghost use Rattle.coverage.specs.Tile.{tileSize};
+ghost use Rattle.colours.specs.Layer.{NoMinus};
 ghost use Rattle.commands.specs.Moves.{traceOf};
 ghost use Rattle.commands.specs.Pixel.{signedOf, Within, paint, coverAll, paintAll, ran};
 ghost use Rattle.commands.specs.Alike.{alike, coverOne, sameArea, sameColour, runFrom, endsHere};
@@ -47,7 +50,7 @@ pub fn same_area(a: f32) -> [f32; TILE_SIZE]
 // What one command does to the areas and the colours. fine.rs passes the tile's origin on the screen
 // to fill_path; segments are tile-relative, so here it is 0, 0.
 pub fn carry_out(act: Act, segments: &[f32], area: &mut [f32], rgba: &mut [[f32; 4]; TILE_SIZE])
-    requires { ⌜ (Within act (length (now segments))) × (length (now area) ≡ tileSize) × (length (now rgba) ≡ tileSize) ⌝ }
+    requires { ⌜ (Within act (length (now segments))) × (length (now area) ≡ tileSize) × (length (now rgba) ≡ tileSize) × NoMinus (now area) ⌝ }
     ensures { λ _. ⌜ (now (area .exit) ≡ coverAll act (now (segments .entry)) (now (area .entry))) × (now (rgba .exit) ≡ paintAll act (now (area .entry)) (now (rgba .entry))) ⌝ }
 {
     match act {
@@ -115,7 +118,8 @@ pub fn paint_one(act: Act, a: f32, px: &mut [f32; 4])
 pub fn begin(words: &[u32], segments: &[f32], start: usize, px: &mut [f32; 4]) -> Opening
     ensures { λ r. ⌜ (r .count ≤ mostCommands)
         × (runFrom (now (segments .entry)) (traceOf mostCommands (now (words .entry)) (now (segments .entry)) start) zero (sameColour (now (px .entry)))
-        ≡ runFrom (now (segments .entry)) (traceOf (mostCommands - r .count) (now (words .entry)) (now (segments .entry)) (r .at)) (r .area) (sameColour (now (px .exit)))) ⌝ }
+        ≡ runFrom (now (segments .entry)) (traceOf (mostCommands - r .count) (now (words .entry)) (now (segments .entry)) (r .at)) (r .area) (sameColour (now (px .exit))))
+        × (signOf (r .area) ≡ false) ⌝ }
 {
     let mut area = 0.0f32;
     let mut at = start;
@@ -162,7 +166,7 @@ pub fn run(
     a: f32,
     rgba: &mut [[f32; 4]; TILE_SIZE],
 ) -> Verdict
-    requires { ⌜ (length (now rgba) ≡ tileSize) × (gone ≤ mostCommands) ⌝ }
+    requires { ⌜ (length (now rgba) ≡ tileSize) × (gone ≤ mostCommands) × (signOf a ≡ false) ⌝ }
     ensures { λ r. ⌜ ran r (now (rgba .exit)) ≡ runFrom (now (segments .entry)) (traceOf (mostCommands - gone) (now (words .entry)) (now (segments .entry)) start) a (now (rgba .entry)) ⌝ }
 {
     let mut area = same_area(a);

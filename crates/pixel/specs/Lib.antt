@@ -4,10 +4,12 @@
 --     Coverage   the call for its coverage
 --     Held       its area and its colour, as code holds them between two commands
 --     Colour     the call for its colour under a tile's list of commands
+--     Shares     what a segment adds, apart from the sum; for proofs
 --     Like       what fill and fine say of the same pixel, for the theorems
 pub mod Place
 pub mod Answers
 pub mod Coverage
 pub mod Held
 pub mod Colour
+pub mod Shares
 pub mod Like

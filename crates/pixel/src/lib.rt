@@ -2,6 +2,7 @@
 // of commands. A second engine beside `coverage::fill` and `fine::fine`: no array of pixels, and none of
 // their loops. docs/RULES.md, "One pixel"; fill_path and fine_main of fine.rs.
 pub mod kinds;
+pub mod lanes;
 pub mod run;
 pub mod sums;
 

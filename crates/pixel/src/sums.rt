@@ -1,5 +1,7 @@
 // The area of one pixel, segment by segment, and the coverage that it ends as: fine.rs, lines 51 to
 // 109, for one xi and yi.
+use crate::lanes::LANES;
+use crate::lanes::fours_after;
 use coverage::area::finish;
 use coverage::row::added;
 use coverage::row::reach_of;
@@ -55,7 +57,7 @@ pub fn area_after(
     a
 }
 
-// The coverage.
+// The coverage: fours of segments, then those left over.
 pub fn coverage_of(
     segments: &[f32],
     first: usize,
@@ -71,6 +73,9 @@ pub fn coverage_of(
     ensures { λ r. ⌜ r ≡ pixelOf (now (segments .entry)) first n eo backdrop xt yt (placeAt column row) ⌝ }
 {
     let start = of_i32(backdrop);
-    let sum = area_after(segments, first, n, xt, yt, column, row, start);
+    let m = n / LANES;
+    let some = fours_after(segments, first, m, xt, yt, column, row, start);
+    let at = m * LANES;
+    let sum = area_after(segments, first + at, n - at, xt, yt, column, row, some);
     finish(eo, sum)
 }

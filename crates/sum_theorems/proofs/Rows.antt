@@ -4,13 +4,13 @@
 --     added-tame             what it adds to a pixel is a NaN, or at most 2 ^ 24 in size
 use mathlib.Core.Path.{_≡_, refl, sym, ap, subst, _∙_}
 use mathlib.Core.Bool.{Bool, true, false, not, cond, Bool·beq, _&&_, _||_, true≢false, false≢true}
-use mathlib.Core.Logic.{_⊎_, inl, inr, ⊎-elim}
-use Prim.Native.Nat.{ℕ, zero, suc, _+_, _-_, _*_, _/_, _%_, _^_, _≤_, _<_}
+use mathlib.Core.Logic.{⊎-elim}
+use Prim.Native.Nat.{ℕ, zero, _+_, _-_, _*_, _^_, _≤_, _<_}
 use native.Mathlib.Nat.{mul-le-mul-right, mul-pos, zero-mul}
 use native.Mathlib.Omega.{arith}
 use lib.Dec.{T, eqb, ltb, lit<, lit≤}
 use lib.IntN.{ℤ, pos}
-use lib.Ieee.{Float, nan, inf, fin, binary32, up, down, unlike, round, sum, add, sub, mul, div, neg, lt, eq, le, fits, isNan, ofInt, ofBits}
+use lib.Ieee.{Float, nan, inf, fin, binary32, up, down, unlike, round, sum, add, sub, mul, neg, lt, eq, le, fits, isNan, ofInt, ofBits}
 use lib.Ieee.Fits.{down-pos, add-fits, sub-fits, ofInt-fits}
 use lib.Ieee.Scale.{finite}
 use borrow.Author.Tests.{eqb-true}
@@ -20,7 +20,7 @@ use Rattle.float32.proofs.Order.{not-lt-of-le, lt-irreflexive}
 use Rattle.float32.proofs.MinMax.{min-picks, min-of-nan, max-of-nan, min-with-nan, max-with-nan, max-left, max-right}
 use Rattle.float32.proofs.Whole.{round-no-nan}
 use Rattle.util.specs.Constants as Number
-use Rattle.panel.specs.Segments.{InTile, Straight}
+use Rattle.panel.specs.Segments.{Straight}
 use Rattle.panel.proofs.BoolLaws.{both}
 use Rattle.panel.specs.declared.segments.Segment.{Segment}
 use Rattle.exact.specs.Whole.{Small}
@@ -33,14 +33,14 @@ use Rattle.coverage.specs.Row.{wayOf, rowOf, reachOf, addedOf}
 use Rattle.coverage.specs.declared.row.Way.{Way}
 use Rattle.coverage.specs.declared.row.Row.{Row}
 use Rattle.sum_theorems.specs.Sums.{Tame}
-use Rattle.sum_theorems.proofs.Signed.{own-at, sub-rd, rd-order, rd-number, at-order}
+use Rattle.sum_theorems.proofs.Signed.{own-at, sub-rd, rd-order, at-order}
 use Rattle.sum_theorems.proofs.Tame.{div-wild, sub-wild-left, mul-tame, add-tame}
 use Rattle.sum_theorems.proofs.Shares.{lowOf, heldOf, shareOf, shareMost, share-tame}
 
 -- ---- sizes
 
 -- a number from 0 up to N
-zero-only : (m : ℕ) (e : ℤ) → le Number.zero (fin true m e) ≡ true → m * up e ≡ 0
+pub zero-only : (m : ℕ) (e : ℤ) → le Number.zero (fin true m e) ≡ true → m * up e ≡ 0
 unfolding le lt eq ofBits
 zero-only m e g =
     let w = both (eqb (0 * up (pos 0) * down e) (m * up e * down (pos 0))) (Bool·beq false true || eqb (0 * up (pos 0) * down e) 0) g in
@@ -62,6 +62,9 @@ one-is : Number.one ≡ whole false 1
 unfolding ofBits round
 one-is = refl
 
+pub unit-small : (x : Float) → le Number.zero x ≡ true → le x Number.one ≡ true → Small x 1
+unit-small x g h = between-small x 1 (omega arith) g (ap (le x) (sym one-is) ∙ h)
+
 -- an end's coordinate
 pub in-small : (x : Float) → le Number.zero x ≡ true → le x Number.tileSide ≡ true → Small x 16
 in-small x g h = between-small x 16 (omega arith) g (ap (le x) (sym side) ∙ h)
@@ -79,11 +82,11 @@ pub small-int : (n : ℕ) → n ≤ 2 ^ 24 → Small (ofInt binary32 (pos n)) n
 unfolding ofInt
 small-int n b = small-round false n 1 n (lit< tt) b (omega arith)
 
-no-size : Small Number.zero 0
+pub no-size : Small Number.zero 0
 unfolding ofBits
 no-size = omega arith
 
-one-size : Small Number.one 1
+pub one-size : Small Number.one 1
 unfolding ofBits
 one-size = omega arith
 
@@ -184,7 +187,7 @@ module _ (s : Segment) (xt : Float) (taken : Straight s) (yi : ℕ) (low : yi < 
       sub-small (clampOf y Number.zero Number.one) (clampOf e Number.zero Number.one) 1 1 (lit≤ tt) (clamp-small y (small-number y 32 hy)) (clamp-small e (small-number e 64 he))
 
 -- ---- the ends in the row, from left to right
-ordered : (x y : Float) → T (not (isNan (maxOf x y))) → T (not (isNan (minOf x y))) × (lt (maxOf x y) (minOf x y) ≡ false)
+pub ordered : (x y : Float) → T (not (isNan (maxOf x y))) → T (not (isNan (minOf x y))) × (lt (maxOf x y) (minOf x y) ≡ false)
 ordered x y n = go (isNan x) refl (isNan y) refl
   where
     same : (z : Float) → minOf x y ≡ z → maxOf x y ≡ z → T (not (isNan (minOf x y))) × (lt (maxOf x y) (minOf x y) ≡ false)
@@ -218,7 +221,7 @@ bottom : (s : Bool) (m : ℕ) (e : ℤ) → sub binary32 (inf true) (fin s m e) 
 unfolding sub add neg
 bottom s m e = refl
 
-moved : (l r i : Float) → T (fits binary32 l) → T (fits binary32 r) → T (fits binary32 i) → T (finite i) → T (finite r) → T (not (isNan l)) → lt r l ≡ false
+pub moved : (l r i : Float) → T (fits binary32 l) → T (fits binary32 r) → T (fits binary32 i) → T (finite i) → T (finite r) → T (not (isNan l)) → lt r l ≡ false
     → lt (sub binary32 r i) (sub binary32 l i) ≡ false
 moved nan r i fl fr fi gi gr n o = absurd (unfold isNan in n)
 moved (inf false) nan i fl fr fi gi gr n o = absurd gr
@@ -237,7 +240,7 @@ moved (fin s m e) r i fl fr fi gi gr n o =
     rd-order (sub binary32 l i) (vl .p + vi .n) (vl .n + vi .p) parts (sub binary32 r i) (vr .p + vi .n) (vr .n + vi .p) parts parts-pos parts-pos
     (sub-rd l i (vl .p) (vl .n) (vi .p) (vi .n) (vl .at) (vi .at)) (sub-rd r i (vr .p) (vr .n) (vi .p) (vi .n) (vr .at) (vi .at)) (omega (arith, mul-le-mul-right parts k))
 
-share-moved : (x y i : Float) → T (fits binary32 x) → T (fits binary32 y) → T (fits binary32 i) → finite i ≡ true
+pub share-moved : (x y i : Float) → T (fits binary32 x) → T (fits binary32 y) → T (fits binary32 i) → finite i ≡ true
     → Tame (shareOf (sub binary32 (minOf x y) i) (sub binary32 (maxOf x y) i)) shareMost
 share-moved x y i fx fy fi gi = go (finite (sub binary32 (maxOf x y) i)) refl
   where
@@ -263,7 +266,7 @@ share-moved x y i fx fy fi gi = go (finite (sub binary32 (maxOf x y) i)) refl
 abbrev pub addedMost : ℕ
 addedMost = 1 + shareMost * 2
 
-int-finite : (i : ℕ) → i < tileWidth → finite (ofInt binary32 (pos i)) ≡ true
+pub int-finite : (i : ℕ) → i < tileWidth → finite (ofInt binary32 (pos i)) ≡ true
 int-finite i h = lib.Ieee.Bits.is-true (finite (ofInt binary32 (pos i))) (small-finite (ofInt binary32 (pos i)) i (small-int i (omega (arith, h))))
 
 pub added-tame : (w : Way) (r : Row) (edge dy : Float) (i : ℕ) → i < tileWidth → Small edge 1 → Small dy 2 → Tame (addedOf (reachOf w r) edge dy i) addedMost

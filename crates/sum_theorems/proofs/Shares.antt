@@ -5,33 +5,32 @@
 --     apart        right of it: the divisor is 2 ^ -21 at least
 --     share-tame   both
 use mathlib.Core.Path.{_≡_, refl, sym, ap, _∙_, subst}
-use mathlib.Core.Bool.{Bool, true, false, not, cond, true≢false, false≢true}
-use mathlib.Core.Logic.{_⊎_, inl, inr, ⊎-elim}
-use Prim.Native.Nat.{ℕ, suc, zero, _+_, _-_, _*_, _^_, _≤_, _<_}
-use native.Mathlib.Nat.{le-trans, le-of-eq, mul-pos, mul-one, zero-mul, mul-le-mul-right, mul-le-mul, mul-assoc, le-of-mul-le-mul-right, eq-of-mul-eq-mul-right}
+use mathlib.Core.Bool.{Bool, true, false, not, true≢false, false≢true}
+use mathlib.Core.Logic.{inl, inr, ⊎-elim}
+use Prim.Native.Nat.{ℕ, zero, _+_, _-_, _*_, _^_, _≤_, _<_}
+use native.Mathlib.Nat.{le-trans, le-of-eq, mul-pos, zero-mul, mul-le-mul-right, mul-le-mul, le-of-mul-le-mul-right, eq-of-mul-eq-mul-right}
 use native.Mathlib.Omega.{arith}
 use lib.Dec.{T, ltb, lit<, lit≤}
-use lib.IntN.{ℤ, pos, negsuc}
 use lib.Ieee.{Float, nan, inf, fin, binary32, up, down, round, add, sub, mul, div, neg, sum, lt, le, fits, isNan, ofBits}
 use lib.Ieee.Bits.{is-true, ofBits-fits}
 use lib.Ieee.Fits.{down-pos, add-fits, sub-fits, mul-fits, neg-fits}
 use lib.Ieee.Order.{round-mono}
 use lib.Ieee.Scale.{finite}
 use borrow.Author.Tests.{lt-ltb}
-use Rattle.float32.specs.Meaning.{absOf, minOf, maxOf, whole}
-use Rattle.float32.proofs.Laws.{min-fits, max-fits}
+use Rattle.float32.specs.Meaning.{absOf, minOf, maxOf}
+use Rattle.float32.proofs.Laws.{min-fits}
 use Rattle.float32.proofs.Order.{not-lt-of-le}
 use Rattle.float32.proofs.Tests.{below-or-not}
-use Rattle.float32.proofs.MinMax.{le-of-lt, min-picks, max-picks, min-first, min-left, min-right, max-second, max-left, max-right, max-last}
+use Rattle.float32.proofs.MinMax.{le-of-lt, min-picks, max-picks, min-first, min-left, min-right, max-second, max-last}
 use Rattle.exact.specs.Whole.{Small}
-use Rattle.exact.proofs.Bounds.{small-round, small-more}
+use Rattle.exact.proofs.Bounds.{small-more}
 use Rattle.errors.specs.Sizes.{parts, Is}
 use Rattle.errors.proofs.Sizes.{add-small, sub-small}
 use Rattle.errors.proofs.Parts.{parts-pos}
-use Rattle.errors.proofs.Rounds.{Off, round-error}
+use Rattle.errors.proofs.Rounds.{round-error}
 use Rattle.util.specs.Constants as Number
 use Rattle.sum_theorems.specs.Sums.{Tame}
-use Rattle.sum_theorems.proofs.Signed.{At, Place, Rd, Between, Gap, own-at, own-rd, sub-rd, add-rd, mul-rd, neg-at, rd-order, rd-abs, at-order, at-plus, at-minus, squeeze}
+use Rattle.sum_theorems.proofs.Signed.{At, Place, Rd, Between, own-at, own-rd, sub-rd, add-rd, mul-rd, neg-at, rd-order, rd-abs, at-order, at-plus, at-minus, squeeze}
 use Rattle.sum_theorems.proofs.Tame.{speck, div-wild, div-under, div-wide, sub-wild-left, sub-wild-right, mul-small, half-small}
 
 -- a, of the segment's ends in the row, taken from the pixel's left side
@@ -52,11 +51,11 @@ abbrev pub shareOf : Float → Float → Float
 shareOf l r = quotOf (lowOf l) r
 
 -- ---- the constants, in parts
-zero-at : At Number.zero 0 0
+pub zero-at : At Number.zero 0 0
 unfolding ofBits
 zero-at = (zero-mul parts, refl)
 
-one-at : At Number.one parts 0
+pub one-at : At Number.one parts 0
 unfolding ofBits
 one-at = (omega arith, refl)
 
@@ -75,10 +74,10 @@ ratio x v r px nx pv nv pr nr hx hv hr low high =
     (is-true (le (round binary32 false k parts) (round binary32 false j parts)) (round-mono binary32 k parts j parts parts-pos parts-pos (mul-le-mul-right parts o)))))
 
 -- r below 0, and x with it: b is r, and there is nothing to take off
-zero-fits : T (fits binary32 Number.zero)
+pub zero-fits : T (fits binary32 Number.zero)
 zero-fits = ofBits-fits binary32 0x0000_0000
 
-one-fits : T (fits binary32 Number.one)
+pub one-fits : T (fits binary32 Number.one)
 one-fits = ofBits-fits binary32 0x3f80_0000
 
 below-one : (r : Float) → lt r Number.zero ≡ true → lt r Number.one ≡ true
@@ -108,24 +107,24 @@ squared-at : At (mul binary32 Number.zero Number.zero) 0 0
 unfolding mul round ofBits
 squared-at = (zero-mul parts, refl)
 
-plus-at : (x : Float) (p n : ℕ) → At x p n → n ≤ p → At x p 0
+pub plus-at : (x : Float) (p n : ℕ) → At x p n → n ≤ p → At x p 0
 plus-at x p n h l = subst (λ (k : ℕ). At x p k) (at-plus x p n h l) h
 
-minus-at : (x : Float) (p n : ℕ) → At x p n → p ≤ n → At x 0 n
+pub minus-at : (x : Float) (p n : ℕ) → At x p n → p ≤ n → At x 0 n
 minus-at x p n h l = subst (λ (k : ℕ). At x k n) (at-minus x p n h l) h
 
-at-number : (x : Float) (p n : ℕ) → At x p n → T (not (isNan x))
+pub at-number : (x : Float) (p n : ℕ) → At x p n → T (not (isNan x))
 unfolding isNan
 at-number nan p n h = absurd h
 at-number (inf s) p n h = absurd h
 at-number (fin s m e) p n h = tt
 
-at-finite : (x : Float) (p n : ℕ) → At x p n → T (finite x)
+pub at-finite : (x : Float) (p n : ℕ) → At x p n → T (finite x)
 at-finite nan p n h = absurd h
 at-finite (inf s) p n h = absurd h
 at-finite (fin s m e) p n h = tt
 
-one-number : T (not (isNan Number.one))
+pub one-number : T (not (isNan Number.one))
 unfolding isNan ofBits
 one-number = tt
 
@@ -288,19 +287,26 @@ speck-is = refl
 pub record Eps (p : ℕ) : Type 0 where
   pub at : At Number.epsilon p 0
   pub many : parts ≤ p * 1048576
+  pub more : parts * 33 ≤ p * 33554432
+  pub under : p * 4 < parts
 
-eps-of : (w : Place Number.epsilon) → Eps (w .p)
+pub eps-of : (w : Place Number.epsilon) → Eps (w .p)
 unfolding ofBits
-eps-of w = record { at = plus-at Number.epsilon (w .p) (w .n) (w .at) (omega (arith, w .at .1)); many = omega (arith, w .at .0) }
+eps-of w = record {
+  at = plus-at Number.epsilon (w .p) (w .n) (w .at) (omega (arith, w .at .1));
+  many = omega (arith, w .at .0);
+  more = omega (arith, w .at .0);
+  under = omega (arith, w .at .0, parts-pos);
+}
 
-eps-place : Place Number.epsilon
+pub eps-place : Place Number.epsilon
 eps-place = own-at Number.epsilon (ofBits-fits binary32 0x3586_37bd) (unfold ofBits in tt)
 
-parts-many : 1073741824 ≤ parts
+pub parts-many : 1073741824 ≤ parts
 unfolding parts
 parts-many = lit≤ tt
 
-parts-same : (x : Float) (p n g : ℕ) → At x p n → Is (absOf x) g → p + n ≡ g
+pub parts-same : (x : Float) (p n g : ℕ) → At x p n → Is (absOf x) g → p + n ≡ g
 unfolding absOf
 parts-same nan p n g h k = absurd h
 parts-same (inf s) p n g h k = absurd h
@@ -308,8 +314,22 @@ parts-same (fin false m e) p n g h k = omega (arith, h .1, eq-of-mul-eq-mul-righ
 parts-same (fin true m e) p n g h k = omega (arith, h .1, eq-of-mul-eq-mul-right (down e) (down-pos e) n g (sym (h .0) ∙ k .1))
 
 -- m - e rounded is g, and e is over 2 ^ -20 of P: so m - g is 2 ^ -21 at least
-wide : (g d m e P K : ℕ) → m ≡ d + e → g * 16777216 ≤ d * 16777217 + 16777216 → m ≤ P → P ≤ e * 1048576 → 1073741824 ≤ P → m ≤ K + g → P ≤ K * 2097152
+pub wide : (g d m e P K : ℕ) → m ≡ d + e → g * 16777216 ≤ d * 16777217 + 16777216 → m ≤ P → P ≤ e * 1048576 → 1073741824 ≤ P → m ≤ K + g → P ≤ K * 2097152
 wide g d m e P K a h u v w z = omega arith
+
+-- epsilon taken from an m that isn't below it, and isn't above 1: what is rounded is off by a part in 2 ^ 24 at most
+pub taken-bound : (m : Float) (pm nm e px nx : ℕ) → At m pm nm → Eps e → At (sub binary32 m Number.epsilon) px nx → nm + e ≤ pm → pm ≤ nm + parts
+    → (px + nx) * 16777216 ≤ (pm + 0 - (nm + e)) * 16777217 + 16777216
+taken-bound m pm nm e px nx hm he hx above few =
+    let x = sub binary32 m Number.epsilon in
+    let exact = pm + 0 - (nm + e) in
+    let near = round-error exact parts 1 parts-pos (lit≤ tt) (omega (arith, few, above)) in
+    let sized = rd-abs x (pm + 0) (nm + e) parts (sub-rd m Number.epsilon pm nm e 0 hm (he .at)) (omega (arith, above)) in
+    let same = parts-same x px nx (near .g) hx (subst (λ (y : Float). Is y (near .g)) (sym sized) (near .is)) in
+    cancel (px + nx) exact parts parts-pos (subst (λ (g : ℕ). g * parts * 16777216 ≤ exact * parts * 16777217 + parts * 16777216) (sym same) (near .high))
+  where
+    cancel : (g k P : ℕ) → 0 < P → g * P * 16777216 ≤ k * P * 16777217 + P * 16777216 → g * 16777216 ≤ k * 16777217 + 16777216
+    cancel g k P p h = le-of-mul-le-mul-right (omega (arith, h)) p
 
 module _ (m r : Float) (pm nm pr nr e : ℕ) (hm : At m pm nm) (hr : At r pr nr) (he : Eps e) (order : pm + nr ≤ pr + nm) (few : pm ≤ nm + parts)
     (up-x : lt Number.zero (sub binary32 m Number.epsilon) ≡ true) (px nx : ℕ) (hx : At (sub binary32 m Number.epsilon) px nx) where
@@ -337,22 +357,13 @@ module _ (m r : Float) (pm nm pr nr e : ℕ) (hm : At m pm nm) (hr : At r pr nr)
   abbrev exact : ℕ
   exact = pm + 0 - (nm + e)
 
-  near : Off (round binary32 false exact parts) parts (exact * parts)
-  near = round-error exact parts 1 parts-pos (lit≤ tt) (omega (arith, few, above))
-
-  same : px + nx ≡ near .g
-  same = parts-same taken px nx (near .g) hx (subst (λ (y : Float). Is y (near .g)) (sym (rd-abs taken (pm + 0) (nm + e) parts taken-rd (omega (arith, above)))) (near .is))
-
-  bound : near .g * 16777216 ≤ exact * 16777217 + 16777216
-  bound = cancel (near .g) exact parts parts-pos (near .high)
-    where
-      cancel : (g k P : ℕ) → 0 < P → g * P * 16777216 ≤ k * P * 16777217 + P * 16777216 → g * 16777216 ≤ k * 16777217 + 16777216
-      cancel g k P p h = le-of-mul-le-mul-right (omega (arith, h)) p
+  bound : (px + nx) * 16777216 ≤ exact * 16777217 + 16777216
+  bound = taken-bound m pm nm e px nx hm he hx above few
 
   far-apart : parts ≤ (pr + nx - (nr + px)) * 2097152
   far-apart =
-      wide (near .g) exact pm e parts (pr + nx - (nr + px)) (omega (arith, no-minus, above)) bound (omega (arith, few, no-minus)) (he .many) parts-many
-      (omega (arith, order, no-minus, no-x-minus, same))
+      wide (px + nx) exact pm e parts (pr + nx - (nr + px)) (omega (arith, no-minus, above)) bound (omega (arith, few, no-minus)) (he .many) parts-many
+      (omega (arith, order, no-minus, no-x-minus))
 
   reach : nr + px ≤ pr + nx
   reach = some (pr + nx) (nr + px) parts parts-pos far-apart
@@ -393,10 +404,10 @@ module _ (l r : Float) (fl : T (fits binary32 l)) (fr : T (fits binary32 r)) (nu
   abbrev low : Float
   low = minOf l Number.one
 
-  low-fits : T (fits binary32 low)
+  pub low-fits : T (fits binary32 low)
   low-fits = min-fits l Number.one fl one-fits
 
-  low-under : T (finite r) → lt r low ≡ false
+  pub low-under : T (finite r) → lt r low ≡ false
   low-under f =
       ⊎-elim (λ e. ap (lt r) e ∙ order) (λ e. ap (lt r) e ∙ low-one l r fl fr f (subst (λ (y : Float). le y l ≡ true) e (min-left l Number.one number)) order) (min-picks l Number.one)
 

@@ -4,14 +4,13 @@
 --     rd-order           rounding keeps the order, whatever the signs
 --     at-order           the order of two floats is that of their parts
 use mathlib.Core.Path.{_≡_, refl, sym, ap, _∙_, subst}
-use mathlib.Core.Bool.{Bool, true, false, not, cond, _&&_, true≢false, false≢true}
-use mathlib.Core.Logic.{_⊎_, inl, inr}
+use mathlib.Core.Bool.{Bool, true, false, not, cond, true≢false}
 use Prim.Native.Nat.{ℕ, suc, zero, _+_, _-_, _*_, _^_, _≤_, _<_}
-use native.Mathlib.Nat.{le-trans, le-of-eq, add-mul, mul-assoc, mul-comm, mul-pos, mul-one, zero-mul, mul-right-comm, mul-le-mul-right, le-of-mul-le-mul-right}
+use native.Mathlib.Nat.{le-of-eq, add-mul, mul-assoc, mul-comm, mul-pos, zero-mul, mul-right-comm, le-of-mul-le-mul-right}
 use native.Mathlib.Omega.{arith}
-use lib.Dec.{T, ltb, eqb, ltb→lt, nltb→le}
+use lib.Dec.{T, ltb, ltb→lt, nltb→le}
 use lib.IntN.{ℤ}
-use lib.Ieee.{Float, nan, inf, fin, binary32, up, down, unlike, round, sum, add, sub, mul, neg, lt, le, fits, isNan}
+use lib.Ieee.{Float, nan, inf, fin, binary32, up, down, round, sum, add, sub, mul, neg, lt, le, fits, isNan}
 use lib.Ieee.Bits.{is-true}
 use lib.Ieee.Fits.{down-pos}
 use lib.Ieee.Order.{round-mono, transfer}
@@ -327,6 +326,14 @@ rd-abs y p n c r l = ap absOf (r .is) ∙ abs-round (r .s) (r .k) c ∙ ap (λ (
     size : (s : Bool) (k : ℕ) → Gap s k p n → k ≡ p - n
     size false k g = omega (arith, g, l)
     size true k g = omega (arith, g, l)
+
+-- the size, whichever of p and n is the larger
+pub rd-size : (y : Float) (p n c : ℕ) → Rd y p n c → absOf y ≡ round binary32 false (p - n + (n - p)) c
+rd-size y p n c r = ap absOf (r .is) ∙ abs-round (r .s) (r .k) c ∙ ap (λ (z : ℕ). round binary32 false z c) (size (r .s) (r .k) (r .gap))
+  where
+    size : (s : Bool) (k : ℕ) → Gap s k p n → k ≡ p - n + (n - p)
+    size false k g = omega (arith, g)
+    size true k g = omega (arith, g)
 
 between-finite : (lo y hi : Float) → T (finite lo) → T (finite hi) → T (not (isNan y)) → lt y lo ≡ false → lt hi y ≡ false → T (finite y)
 unfolding lt isNan

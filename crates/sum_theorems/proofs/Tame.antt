@@ -4,22 +4,22 @@
 --     div-wide     a quotient by what isn't too small
 --     mul-tame, add-tame, step-tame   products and sums
 use mathlib.Core.Path.{_≡_, refl, sym, ap, _∙_, subst}
-use mathlib.Core.Bool.{Bool, true, false, not, cond, _&&_, true≢false, false≢true}
-use mathlib.Core.Logic.{_⊎_, inl, inr}
-use Prim.Native.Nat.{ℕ, suc, zero, _+_, _-_, _*_, _^_, _≤_, _<_, zero-le}
-use native.Mathlib.Nat.{le-trans, le-of-eq, mul-assoc, mul-comm, mul-pos, mul-one, zero-mul, mul-right-comm, mul-le-mul-right, mul-le-mul, mul-mul-mul-comm}
+use mathlib.Core.Bool.{Bool, true, false, cond, true≢false}
+use mathlib.Core.Logic.{inl, inr}
+use Prim.Native.Nat.{ℕ, suc, zero, _+_, _*_, _^_, _≤_, _<_}
+use native.Mathlib.Nat.{le-trans, le-of-eq, mul-pos, mul-one, zero-mul, mul-le-mul-right, mul-le-mul, mul-mul-mul-comm}
 use native.Mathlib.Omega.{arith}
-use lib.Dec.{T, ltb, eqb, eqb·suc-zero, lit<, lit≤}
+use lib.Dec.{eqb, eqb·suc-zero, lit<, lit≤}
 use lib.IntN.{ℤ, pos, negsuc}
-use lib.Ieee.{Float, nan, inf, fin, binary32, up, down, unlike, round, sum, add, sub, mul, div, neg, lt, le, fits, isNan, ofBits}
+use lib.Ieee.{Float, nan, inf, fin, binary32, up, down, unlike, round, sum, add, sub, mul, div, neg, lt, le, ofBits}
 use lib.Ieee.Bits.{is-true}
 use lib.Ieee.Fits.{down-pos, up-pos}
 use lib.Ieee.Order.{round-mono}
 use lib.Ieee.Scale.{finite}
 use borrow.Author.Tests.{ltb-false}
-use Rattle.float32.specs.Meaning.{absOf, whole}
+use Rattle.float32.specs.Meaning.{absOf}
 use Rattle.exact.specs.Whole.{Small}
-use Rattle.exact.proofs.Bounds.{small-round, small-more}
+use Rattle.exact.proofs.Bounds.{small-round}
 use Rattle.errors.specs.Sizes.{AtMost}
 use Rattle.errors.proofs.Sizes.{add-small, most-of-le, abs-round}
 use Rattle.util.specs.Constants as Number
@@ -154,23 +154,22 @@ rounds-down : round binary32 false (2 ^ 49 + 2 ^ 24) 1 ≡ fin false 1 (pos 49)
 unfolding round
 rounds-down = refl
 
+pub of-most : (x : Float) (N : ℕ) → AtMost x N 1 → Small x N
+of-most nan N h = h
+of-most (inf s) N h = h
+of-most (fin s m e) N h = le-trans (le-of-eq (sym (mul-one (m * up e)))) h
+
 pub still : (s : Bool) (a c : ℕ) → 0 < c → a ≤ (2 ^ 49 + 2 ^ 24) * c → Small (round binary32 s a c) sumMost
 still s a c C h =
-    of-most (round binary32 s a c)
+    of-most (round binary32 s a c) (2 ^ 49)
     (most-of-le (round binary32 s a c) (fin false 1 (pos 49)) (2 ^ 49) 1 (refl, refl)
     (subst (λ (y : Float). le y (fin false 1 (pos 49)) ≡ true) (sym (abs-round s a c))
     (subst (λ (w : Float). le (round binary32 false a c) w ≡ true) rounds-down
     (is-true (le (round binary32 false a c) (round binary32 false (2 ^ 49 + 2 ^ 24) 1)) (round-mono binary32 a c (2 ^ 49 + 2 ^ 24) 1 C (lit< tt) (le-trans (le-of-eq (mul-one a)) h))))))
-  where
-    of-most : (x : Float) → AtMost x (2 ^ 49) 1 → Small x (2 ^ 49)
-    of-most nan h = h
-    of-most (inf s) h = h
-    of-most (fin s m e) h = le-trans (le-of-eq (sym (mul-one (m * up e)))) h
 
-sum-still : (s : Bool) (a : ℕ) (t : Bool) (b c : ℕ) → 0 < c → a + b ≤ (2 ^ 49 + 2 ^ 24) * c → Small (sum binary32 s a t b c) sumMost
-sum-still s a t b c C h =
-    let r = sum-rd s a t b c in
-    subst (λ (y : Float). Small y sumMost) (sym (r .is)) (still (r .s) (r .k) c C (le-trans (within s t (r .s) (r .k) (r .gap)) h))
+-- a sum is rounded from what is a + b at most
+pub sum-size : (s : Bool) (a : ℕ) (t : Bool) (b c : ℕ) → (u : Bool) × (k : ℕ) × (sum binary32 s a t b c ≡ round binary32 u k c) × (k ≤ a + b)
+sum-size s a t b c = let r = sum-rd s a t b c in (r .s, r .k, r .is, within s t (r .s) (r .k) (r .gap))
   where
     within : (s t u : Bool) (k : ℕ) → Gap u k (pl s a + pl t b) (mi s a + mi t b) → k ≤ a + b
     within false false false k g = omega (arith, g)
@@ -181,6 +180,9 @@ sum-still s a t b c C h =
     within true false true k g = omega (arith, g)
     within true true false k g = omega (arith, g)
     within true true true k g = omega (arith, g)
+
+sum-still : (s : Bool) (a : ℕ) (t : Bool) (b c : ℕ) → 0 < c → a + b ≤ (2 ^ 49 + 2 ^ 24) * c → Small (sum binary32 s a t b c) sumMost
+sum-still s a t b c C h = let w = sum-size s a t b c in subst (λ (y : Float). Small y sumMost) (sym (w .2)) (still (w .0) (w .1) c C (le-trans (w .3) h))
 
 pub step-small : (x y : Float) → Small x sumMost → Small y (2 ^ 24) → Small (add binary32 x y) sumMost
 unfolding add

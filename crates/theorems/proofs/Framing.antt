@@ -280,7 +280,7 @@ tiled-once (Answer.Refused why k) (Answer.Refused m j) s u e =
 
 module _ (nos : List ℕ) (coords : List Float) (paths : List ℕ) (n : ℕ) (refs : List ℕ) (pieces : Pieces) where
   -- lines counted and room for their references: hand-out is done
-  handed-fine : (s : Running) (bs : List ℤ) (cs rs : List ℕ) → Counts nos coords paths n refs s bs cs rs → s .refs ≤ slotsOf (length (pieces .segments))
+  pub handed-fine : (s : Running) (bs : List ℤ) (cs rs : List ℕ) → Counts nos coords paths n refs s bs cs rs → s .refs ≤ slotsOf (length (pieces .segments))
       → HandOut.handOutOf (slotsOf (length (pieces .segments))) cs cs ≡ HandOut.outOf Answer.Done (hand 0 cs) cs
   handed-fine s bs cs rs c h = go (hand-case (slotsOf (length (pieces .segments))) cs cs)
     where
@@ -311,6 +311,7 @@ module _ (nos : List ℕ) (coords : List Float) (paths : List ℕ) (n : ℕ) (re
         handed = refl;
         room = h;
         writes = r .writes;
+        called = same;
         stray = subst (λ (x : Range). NoStray nos coords paths cs rs (s .refs) pieces x) same
             (no-stray (length nos) nos coords paths n refs (c .marks) cs rs (s .refs) (slotsOf (length (pieces .segments))) cs (hand 0 cs) cs pieces (c .all) (handed-fine s bs cs rs c h));
         pieces = sym (ap (λ (t : Tiled). t .pieces) e);

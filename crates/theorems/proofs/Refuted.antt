@@ -2,7 +2,7 @@
 use mathlib.Core.Path.{_≡_, refl, sym, ap, _∙_}
 use mathlib.Core.List.{List, [], _∷_, _++_, Perm, Perm·swap}
 use mathlib.Core.Bool.{true}
-use Prim.Native.Nat.{ℕ, suc, _/_, _≤_, _<_, _^_}
+use Prim.Native.Nat.{ℕ, suc, _*_, _/_, _≤_, _<_, _^_}
 use native.Mathlib.Omega.{arith}
 use lib.Dec.{leb}
 use lib.ListN.{length, getD, replicate}
@@ -15,7 +15,7 @@ use Rattle.lists.specs.Tally.{zeros}
 use Rattle.panel.specs.Paths.{boxed}
 use Rattle.panel.specs.Limits.{coordMost}
 use Rattle.panel.specs.Refusals.{noRoom}
-use Rattle.panel.specs.Widths.{lineFloats}
+use Rattle.panel.specs.Widths.{lineFloats, segmentFloats}
 use Rattle.panel.specs.Pieces.{Pieces, pieces}
 use Rattle.panel.specs.Kinds.{runningOf}
 use Rattle.panel.specs.declared.kinds.Running.{Running}
@@ -160,7 +160,7 @@ pub path-of-the-line : PathOfReference → ⊥
 unfolding computing
 path-of-the-line f =
     let h = f 2 (1 ∷ 0 ∷ []) pointThenDown (boxed 0 0 2 2 0 ++ boxed 0 0 1 1 4) 5 none (pos 0 ∷ pos 0 ∷ pos 0 ∷ negsuc 0 ∷ pos 0 ∷ []) (1 ∷ 0 ∷ 1 ∷ 0 ∷ 0 ∷ [])
-    (1 ∷ 0 ∷ 1 ∷ 1 ∷ []) 2 2 (0 ∷ 0 ∷ 0 ∷ 0 ∷ 0 ∷ []) (4294967295 ∷ 0 ∷ 4294967294 ∷ 0 ∷ 0 ∷ []) (1 ∷ 0 ∷ 1 ∷ 0 ∷ 0 ∷ []) (pieces (replicate 10 (ofBits binary32 0)) (0 ∷ 0 ∷ [])) two-paths two-handed in
+    (1 ∷ 0 ∷ 1 ∷ 1 ∷ []) 2 2 (0 ∷ 0 ∷ 0 ∷ 0 ∷ 0 ∷ []) (4294967295 ∷ 0 ∷ 4294967294 ∷ 0 ∷ 0 ∷ []) (1 ∷ 0 ∷ 1 ∷ 0 ∷ 0 ∷ []) (pieces (replicate (2 * segmentFloats) (ofBits binary32 0)) (0 ∷ 0 ∷ [])) two-paths two-handed in
     let z : _≡_ {A = ℕ} 0 1 = h .0 in omega arith
 
 -- ---- a frame that hand-out refuses has more references than segments, and not fewer

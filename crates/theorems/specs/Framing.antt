@@ -18,7 +18,7 @@ use Rattle.acts.specs.Line.{Refusal}
 use Rattle.backdrop.specs.Backdrop as Backdrop
 use Rattle.hand_out.specs.HandOut.{hand}
 use Rattle.path_tiling.specs.Look.{lent}
-use Rattle.path_tiling.specs.Tiling.{Write, range, applied, slotsOf, tiled, tiledOf}
+use Rattle.path_tiling.specs.Tiling.{Write, range, applied, callOf, slotsOf, tiled, tiledOf}
 use Rattle.frame.specs.Frame.{Out, outOf, checksOf}
 use Rattle.frame.specs.declared.kinds.Stage.the-variants as Stage
 use Rattle.frame.specs.declared.kinds.Framed.{Framed}
@@ -73,5 +73,6 @@ pub record Framing (nos : List ℕ) (coords : List Float) (paths : List ℕ) (n 
   pub room : s .refs ≤ slotsOf (length (p .segments))
   -- no stray piece: the writes, in order, and the segments and tags with them applied
   pub writes : List Write
+  pub called : callOf 0 (s .refs) (lent nos coords paths ts rs) p ≡ range writes a
   pub stray : NoStray nos coords paths ks rs (s .refs) p (range writes a)
   pub pieces : sg ≡ applied writes p

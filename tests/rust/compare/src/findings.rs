@@ -1,5 +1,6 @@
 //! What was found in the Rust, found again: how often, and the smallest input met.
 
+use crate::origin;
 use crate::table::spaced;
 use cases::floats::near;
 use cases::{boxes, lines, Rng};
@@ -10,9 +11,9 @@ use std::sync::Mutex;
 
 /// A line and its box.
 #[derive(Clone, Copy)]
-struct Input {
-    b: [i64; 4],
-    line: Line,
+pub struct Input {
+    pub b: [i64; 4],
+    pub line: Line,
 }
 
 impl Input {
@@ -23,11 +24,11 @@ impl Input {
         (tiles + self.b[0] + self.b[1], Walk::of(&self.line).count, bits)
     }
 
-    fn place(&self) -> Place {
+    pub fn place(&self) -> Place {
         Place { x0: self.b[0], y0: self.b[1], x1: self.b[2], y1: self.b[3], first: 0 }
     }
 
-    fn show(&self) -> String {
+    pub fn show(&self) -> String {
         let bits: Vec<String> = self.line.iter().map(|v| format!("{:08x}", v.to_bits())).collect();
         let b = self.b;
         format!(
@@ -419,22 +420,57 @@ fn margined(rng: &mut Rng) -> Input {
         1 => [x, y, place(rng), near(rng, y, 3).max(16.0)],
         _ => [x, y, place(rng), place(rng)],
     };
+    with_margin(line)
+}
+
+/// A line at 16 or more in the box that reaches one tile further than its ends' tiles on every side.
+fn with_margin(line: [f32; 4]) -> Input {
     let tile = |v: f32| (v / 16.0) as i64;
     let least = |k: usize| tile(line[k].min(line[k + 2])) - 1;
     let last = |k: usize| tile(line[k].max(line[k + 2])) + 2;
     Input { b: [least(0), least(1), last(0), last(1)], line }
 }
 
-/// Such lines alone.
+/// Whether tiling refuses a step of it with 12.
+fn crooked(input: &Input) -> bool {
+    let (w, place) = (Walk::of(&input.line), input.place());
+    let clip = w.clip(&place);
+    let within = |s: [f32; 5]| s[..4].iter().all(|v| (0.0..=16.0).contains(v));
+    !w.skipped(&place) && (clip.from..clip.to).any(|i| w.step(i, &place).is_some_and(|(x, y)| !within(rules::tile::segment(&w, i, x, y))))
+}
+
+/// How many of n lines are refused with 12 in boxes with a margin.
+fn twelves(what: &str, n: u64, seed: u64, make: impl Fn(&mut Rng) -> Input) {
+    let mut rng = Rng::of_case(seed, 81);
+    let mut found = Found::default();
+    for _ in 0..n {
+        let input = make(&mut rng);
+        if crooked(&input) {
+            found.meet(&input);
+        }
+    }
+    println!("  12 in boxes with a margin, {what}: {} of {}", spaced(found.number), spaced(n));
+    if let Some(least) = found.least {
+        println!("      {}", least.show());
+    }
+}
+
+/// Such lines alone, those of them that tiling refuses, and figures near 0.
 pub fn margins_alone(n: u64, seed: u64) -> bool {
-    println!("lines at 16 and more in boxes with a margin, none refused with 10: {}", spaced(margins(n, seed)));
+    print_margins(n, seed);
+    twelves("half of the ends within 3 ulps of a tile's border", n / 10, seed, margined);
+    twelves("sides of outlines", n, seed, |rng| {
+        let side = outline(rng, &[(20.0, 20.0), (60.0, 60.0), (200.0, 200.0), (800.0, 800.0)]).line;
+        with_margin(side.map(|v| v.clamp(16.0, 16.0 * (EDGE_MOST - 2) as f32)))
+    });
+    origin::run(n / 100, seed);
     true
 }
 
-/// How many of n such lines are walked; none of their steps may be outside.
-fn margins(n: u64, seed: u64) -> u64 {
+/// How many of n such lines are walked, and how many of them have a step in the margin above, below, left and right. No step may be outside.
+fn margins(n: u64, seed: u64) -> (u64, [u64; 4]) {
     let mut rng = Rng::of_case(seed, 79);
-    let mut walked = 0;
+    let (mut walked, mut sides) = (0, [0; 4]);
     for _ in 0..n {
         let input = margined(&mut rng);
         let (w, place) = (Walk::of(&input.line), input.place());
@@ -443,9 +479,25 @@ fn margins(n: u64, seed: u64) -> u64 {
         }
         walked += 1;
         let clip = w.clip(&place);
-        assert!((clip.from..clip.to).all(|i| w.step(i, &place).is_some()), "10 in a box with a margin: {}", input.show());
+        let mut met = [false; 4];
+        for i in clip.from..clip.to {
+            let Some((x, y)) = w.step(i, &place) else { panic!("10 in a box with a margin: {}", input.show()) };
+            for (met, is) in met.iter_mut().zip([y == place.y0, y + 1 == place.y1, x == place.x0, x + 1 == place.x1]) {
+                *met |= is;
+            }
+        }
+        for (side, met) in sides.iter_mut().zip(met) {
+            *side += u64::from(met);
+        }
     }
-    walked
+    (walked, sides)
+}
+
+fn print_margins(n: u64, seed: u64) {
+    let (walked, sides) = margins(n, seed);
+    let [above, below, left, right] = sides.map(spaced);
+    println!("  lines at 16 and more in boxes with a margin, none refused with 10: {}", spaced(walked));
+    println!("  with a step in the margin above: {above}, below: {below}, left: {left}, right: {right}");
 }
 
 /// A side of a closed outline of a few corners, drawn around its own box as a flattened path is: half as wide and as high.
@@ -483,6 +535,7 @@ fn known() {
         ("minus 8 denormal ulps", [0, 0, 2, 2], [f32::from_bits(0x8000_0008), 1.0, 5.0, 9.0]),
         ("a margin, 0/0 in the second clip", [0, 6, 12, 10], bits([0x41ff_ffff, 0x4300_0000, 0x4320_0001, 0x42ff_ffff])),
         ("a margin, one column too far", [6, 0, 17, 4], bits([0x437f_6000, 0x4200_0001, 0x42fd_b56c, 0x41ff_ffee])),
+        ("its lower end in the first column", [0, 0, 18, 3], bits([0x4380_abbd, 0x417f_ff54, 0, 0x4180_0002])),
         ("no margin below", [0, 0, 8, 2], bits([0x41ff_ffff, 0x41ff_fffe, 0x42c0_0001, 0x4200_0000])),
         ("a step in the box, not in the walk", [1, 18, 24, 22], bits([0x43f7_c804, 0x43af_fffe, 0x4350_1c18, 0x43b0_0003])),
     ] {
@@ -551,7 +604,8 @@ pub fn run(n: u64, seed: u64, threads: u64) -> bool {
     println!("  12 of a counted reference: an end over 16: {}", spaced(all.above_16));
     let show = |r: Range| format!("{:?} to {:?}", r.0 as f32, r.1 as f32);
     println!("  a {}, b {}, z {}, step numbers {}", show(all.a), show(all.b), show(all.z), show(all.step));
-    println!("  lines at 16 and more in boxes with a margin, none refused with 10: {}", spaced(margins(n / 2, seed)));
+    print_margins(n / 2, seed);
+    origin::run(n / 100, seed);
     println!("Shares refused with 10");
     let m = (n / 20).max(20_000);
     // as many tiles are walked over in a wide box as in a narrow one

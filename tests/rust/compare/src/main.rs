@@ -27,6 +27,7 @@ mod hostile;
 mod limits;
 mod lists;
 mod order;
+mod origin;
 mod picture;
 mod pixel;
 mod recount;
@@ -197,7 +198,7 @@ fn main() {
         "all-numbers" => svg_lines::all_numbers(args.cases.unwrap_or(1), args.seed),
         "lists" => lists::run(),
         "limits" => limits::run(true, true),
-        "margins" => findings::margins_alone(args.cases.unwrap_or(1_000_000), args.seed),
+        "margins" => findings::margins_alone(args.cases.unwrap_or(2_000_000), args.seed),
         "findings" => findings::run(args.cases.unwrap_or(2_000_000), args.seed, args.threads),
         other => fail(&format!("no mode is named {other}")),
     };

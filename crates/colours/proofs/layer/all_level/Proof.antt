@@ -1,6 +1,7 @@
 -- `colours::layer::all_level` meets its contract. Assumes nothing.
 use mathlib.Core.Path.{refl}
 use denote.Ref.{now}
+use native.Mathlib.Omega.{arith}
 use Prim.Native.Nat.{_+_}
 use lib.ListN.{getD}
 use lib.Ieee.{nan}
@@ -16,25 +17,25 @@ shared-slice-read-v : tie.Need-shared-slice-read-v
 shared-slice-read-v c = search needs
 
 four-level-requires : tie.Need-four-level-requires
-four-level-requires c κs = search needs
+four-level-requires c κs = (omega arith, c .before .before .pre .1, c .before .before .pre .1 _)
 
 add-four-level : tie.Need-add-four-level
 add-four-level c = search needs
 
 four-level-requires-2 : tie.Need-four-level-requires-2
-four-level-requires-2 c κs = search needs
+four-level-requires-2 c κs = (omega arith, c .before .before .before .pre .1, c .before .before .before .pre .1 _)
 
 add-four-level-2 : tie.Need-add-four-level-2
 add-four-level-2 c = search needs
 
 four-level-requires-3 : tie.Need-four-level-requires-3
-four-level-requires-3 c κs = search needs
+four-level-requires-3 c κs = (omega arith, c .before .before .before .before .pre .1, c .before .before .before .before .pre .1 _)
 
 add-four-level-3 : tie.Need-add-four-level-3
 add-four-level-3 c = search needs
 
 four-level-requires-4 : tie.Need-four-level-requires-4
-four-level-requires-4 c κs = search needs
+four-level-requires-4 c κs = (omega arith, c .before .before .before .before .before .pre .1, c .before .before .before .before .before .pre .1 _)
 
 returns : tie.Need-returns
 returns c = λ t.

@@ -27,7 +27,7 @@ mul-over-row : tie.Need-mul-over-row Inv-loop μ-loop
 mul-over-row c = search needs
 
 over-row-requires : tie.Need-over-row-requires Inv-loop μ-loop
-over-row-requires c κs = search needs
+over-row-requires c κs = (omega arith, c .before .before .before .before .pre .1, c .before .before .before .before .pre .2)
 
 add-y : tie.Need-add-y Inv-loop μ-loop
 add-y c = search needs

@@ -11,7 +11,7 @@ shared-slice-read-level : tie.Need-shared-slice-read-level
 shared-slice-read-level c = search needs
 
 level-requires : tie.Need-level-requires
-level-requires c κs = search needs
+level-requires c κs = (c .before .before .pre .1 _, c .before .before .pre .2)
 
 add-level : tie.Need-add-level
 add-level c = search needs
@@ -23,7 +23,7 @@ shared-slice-read-level-2 : tie.Need-shared-slice-read-level-2
 shared-slice-read-level-2 c = search needs
 
 level-requires-2 : tie.Need-level-requires-2
-level-requires-2 c κs = search needs
+level-requires-2 c κs = (c .before .before .before .before .pre .1 _, c .before .before .before .before .pre .2)
 
 add-level-2 : tie.Need-add-level-2
 add-level-2 c = search needs
@@ -35,7 +35,7 @@ shared-slice-read-level-3 : tie.Need-shared-slice-read-level-3
 shared-slice-read-level-3 c = search needs
 
 level-requires-3 : tie.Need-level-requires-3
-level-requires-3 c κs = search needs
+level-requires-3 c κs = (c .before .before .before .before .before .before .pre .1 _, c .before .before .before .before .before .before .pre .2)
 
 add-level-3 : tie.Need-add-level-3
 add-level-3 c = search needs
@@ -47,7 +47,7 @@ shared-slice-read-level-4 : tie.Need-shared-slice-read-level-4
 shared-slice-read-level-4 c = search needs
 
 level-requires-4 : tie.Need-level-requires-4
-level-requires-4 c κs = search needs
+level-requires-4 c κs = (c .before .before .before .before .before .before .before .before .pre .1 _, c .before .before .before .before .before .before .before .before .pre .2)
 
 returns : tie.Need-returns
 returns c = all-four _ _ _ _ _ _ _ _ (c .before .before .before .before .before .before .level .ensures) (c .before .before .before .before .level2 .ensures) (c .before .before .level3 .ensures) (c .level4 .ensures)

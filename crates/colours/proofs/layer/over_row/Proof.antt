@@ -1,12 +1,13 @@
 -- `colours::layer::over_row` meets its contract. Assumes nothing.
 use denote.Ref.{now}
+use native.Mathlib.Omega.{arith}
 use Rattle.colours.proofs.LayerLaws.{painted, at-level}
 use borrow.Author.Needs.{needs}
 use Rattle.colours.proofs.layer.over_row.Statement.{statement}
 use Rattle.colours.proofs.layer.over_row.Tie as tie
 
 all-level-requires : tie.Need-all-level-requires
-all-level-requires c κs = search needs
+all-level-requires c κs = (omega arith, c .before .pre .2)
 
 mul-share : tie.Need-mul-share
 mul-share c = search needs

@@ -1,17 +1,20 @@
 -- `commands::run::begin` meets its contract. The invariant: what is left to do, from the present place on pixels that are alike, gives what the
 -- whole gives. Assumes nothing.
 use mathlib.Core.Path.{_≡_, refl, sym, _∙_}
+use mathlib.Core.Bool.{false}
 use Prim.Native.Nat.{_+_, _-_, _≤_}
 use native.Mathlib.Omega.{arith}
 use borrow.Author.Needs.{needs}
 use borrow.Author.Tests.{not-false}
 use denote.Ref.{now}
+use Rattle.float32.specs.Meaning.{signOf}
 use Rattle.util.specs.Constants.{zero}
 use Rattle.panel.specs.Limits.{mostCommands}
 use Rattle.commands.specs.Moves.{traceOf}
 use Rattle.commands.specs.Alike.{sameColour, runFrom}
 use Rattle.commands.proofs.Traced.{found, trace-goes}
 use Rattle.commands.proofs.AlikeLaws.{alike-turn}
+use Rattle.commands.proofs.Signs.{zero-plus, one-covered}
 use Rattle.commands.proofs.run.begin.Statement.{statement}
 use Rattle.commands.proofs.run.begin.Tie as tie
 
@@ -19,12 +22,13 @@ abbrev Inv-loop : tie.InvT-loop
 Inv-loop words segments start px₀ area₀ at₀ count₀ px area at count =
     (count ≤ mostCommands)
     × (runFrom segments (traceOf mostCommands words segments start) zero (sameColour px₀) ≡ runFrom segments (traceOf (mostCommands - count) words segments at) area (sameColour px))
+    × (signOf area ≡ false)
 
 abbrev μ-loop : tie.MeasureT-loop
 μ-loop words segments start px₀ area₀ at₀ count₀ px area at count = mostCommands - count
 
 loop-holds : tie.Need-loop-holds Inv-loop μ-loop
-loop-holds c = (omega arith, refl)
+loop-holds c = (omega arith, refl, zero-plus)
 
 peek-from-requires : tie.Need-peek-from-requires Inv-loop μ-loop
 peek-from-requires c κs = search needs
@@ -36,10 +40,10 @@ enum-told : tie.Need-enum-told Inv-loop μ-loop
 enum-told c = search needs
 
 returns : tie.Need-returns Inv-loop μ-loop
-returns c = (c .before .before .before .before .loop .inv .0, c .before .before .before .before .loop .inv .1)
+returns c = (c .before .before .before .before .loop .inv .0, c .before .before .before .before .loop .inv .1, c .before .before .before .before .loop .inv .2)
 
 returns-2 : tie.Need-returns-2 Inv-loop μ-loop
-returns-2 c = (c .before .before .before .before .before .before .loop .inv .0, c .before .before .before .before .before .before .loop .inv .1)
+returns-2 c = (c .before .before .before .before .before .before .loop .inv .0, c .before .before .before .before .before .before .loop .inv .1, c .before .before .before .before .before .before .loop .inv .2)
 
 op-of-requires : tie.Need-op-of-requires Inv-loop μ-loop
 op-of-requires c κs = search needs
@@ -58,7 +62,7 @@ enum-told-2 c = search needs
 returns-3 : tie.Need-returns-3 Inv-loop μ-loop
 returns-3 c =
     let s = c .before .before .before .before .before .before .before .before .before .before in
-    (s .loop .inv .0, s .loop .inv .1)
+    (s .loop .inv .0, s .loop .inv .1, s .loop .inv .2)
 
 alike-requires : tie.Need-alike-requires Inv-loop μ-loop
 alike-requires c κs = search needs
@@ -66,7 +70,7 @@ alike-requires c κs = search needs
 returns-4 : tie.Need-returns-4 Inv-loop μ-loop
 returns-4 c =
     let s = c .before .before .before .before .before .before .before .before .before .before .before .before .before in
-    (s .loop .inv .0, s .loop .inv .1)
+    (s .loop .inv .0, s .loop .inv .1, s .loop .inv .2)
 
 paint-one-requires : tie.Need-paint-one-requires Inv-loop μ-loop
 paint-one-requires c κs = search needs
@@ -101,10 +105,11 @@ loop-again c =
           (c .before .before .before .before .before .before .before .before .before .before .before .before .before .before .before .loop-test .taken)
           (l .inv .1) goes (sym (c .before .before .before .before .alike .ensures) ∙ not-false (c .before .before .before .before .alike .result)
           (c .before .before .before .if2 .left)) (c .cover-one .ensures) (c .before .paint-one .ensures),
+      one-covered _ _ _ (l .area) _ goes (c .cover-one .ensures) (l .inv .2),
     )
 
 returns-5 : tie.Need-returns-5 Inv-loop μ-loop
-returns-5 c = (c .before .loop .inv .0, c .before .loop .inv .1)
+returns-5 c = (c .before .loop .inv .0, c .before .loop .inv .1, c .before .loop .inv .2)
 
 pub begin-spec : {M : Type 1} → statement M
 begin-spec =

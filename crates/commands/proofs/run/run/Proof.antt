@@ -15,6 +15,8 @@ use Rattle.commands.specs.declared.steps.Act.{Act}
 use Rattle.commands.proofs.Acts.{length-cover, length-paint, move-within}
 use Rattle.commands.proofs.Traced.{found, more, trace-past, trace-end, trace-full, trace-stop, trace-goes, left, left-ends, left-does, left-starts}
 use Rattle.commands.proofs.AlikeLaws.{same-area-length}
+use Rattle.colours.specs.Layer.{NoMinus}
+use Rattle.commands.proofs.Signs.{all-alike, all-covered}
 use native.Mathlib.Omega.{arith}
 use borrow.Author.Needs.{needs}
 use Rattle.commands.proofs.run.run.Statement.{statement}
@@ -46,6 +48,7 @@ lengths a segs area area′ rgba rgba′ p q m n = (ap length p ∙ length-cover
 abbrev Inv-loop : tie.InvT-loop
 Inv-loop words segments start gone a rgba₀ area₀ at₀ count₀ rgba area at count = (count ≤ mostCommands) × (length area ≡ tileSize) × (length rgba ≡ tileSize) ×
     (left segments (traceOf (mostCommands - count) words segments at) area rgba ≡ runFrom segments (traceOf (mostCommands - gone) words segments start) a rgba₀)
+    × NoMinus area
 
 abbrev μ-loop : tie.MeasureT-loop
 μ-loop words segments start gone a rgba₀ area₀ at₀ count₀ rgba area at count = mostCommands - count
@@ -62,6 +65,7 @@ loop-holds c =
       s .pre .0,
       begins (now (s .args .segments)) t (s .args .a)
           (now (s .args .rgba)) _ (s .pre .0) (c .same-area .ensures),
+      all-alike (s .args .a) _ (c .same-area .ensures) (s .pre .2),
     )
 
 peek-from-requires : tie.Need-peek-from-requires Inv-loop μ-loop
@@ -131,6 +135,7 @@ carry-out-requires c κs =
           (sym (c .before .before .before .before .before .move-at .ensures) ∙ c .before .before .before .act .given .1),
       s .loop .inv .1,
       s .loop .inv .2,
+      s .loop .inv .4,
     )
 
 add-count : tie.Need-add-count Inv-loop μ-loop
@@ -156,6 +161,7 @@ loop-again c =
           (c .before .before .before .before .before .before .before .before .op-of .ensures) _
           (c .before .before .before .before .before .before .before .move-at .ensures) _ _ _ (c .before .before .before .before .before .act .given .1))
           (c .before .carry-out .ensures .0) (c .before .carry-out .ensures .1),
+      all-covered _ _ (l .area) _ (c .before .carry-out .ensures .0) (l .inv .4),
     )
 
 pub run-spec : {M : Type 1} → statement M

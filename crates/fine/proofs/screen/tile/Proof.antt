@@ -97,7 +97,7 @@ same-colour-requires : tie.Need-same-colour-requires
 same-colour-requires c κs = search needs
 
 run-requires : tie.Need-run-requires
-run-requires c κs = (ap length (c .before .same-colour .ensures) ∙ same-colour-length _, c .before .before .before .before .begin .ensures .0)
+run-requires c κs = (ap length (c .before .same-colour .ensures) ∙ same-colour-length _, c .before .before .before .before .begin .ensures .0, c .before .before .before .before .begin .ensures .2)
 
 enum-told : tie.Need-enum-told
 enum-told c = search needs

@@ -1,5 +1,5 @@
 -- `pixel::sums::area_after` meets its contract. The invariant: the first j segments are done. Assumes nothing.
-use mathlib.Core.Path.{_≡_, refl, sym, ap, _∙_}
+use mathlib.Core.Path.{_≡_, sym, ap, _∙_}
 use mathlib.Core.List.{List}
 use Prim.Native.Nat.{ℕ, _-_, _+_, _≤_}
 use native.Mathlib.Numerals.{add-one}
@@ -10,14 +10,11 @@ use Rattle.coverage.specs.Row.{stepSegment}
 use Rattle.coverage.specs.Coverage.{areaAfter}
 use Rattle.panel.specs.declared.segments.Segment.{Segment}
 use Rattle.pixel.specs.Place.{placeAt}
+use Rattle.pixel.proofs.Shares.{after-none}
 use native.Mathlib.Omega.{arith}
 use borrow.Author.Needs.{needs}
 use Rattle.pixel.proofs.sums.area_after.Statement.{statement}
 use Rattle.pixel.proofs.sums.area_after.Tie as tie
-
-none : (segs : List Float) (first : ℕ) (xt yt : Float) (k : ℕ) (a : Float) → a ≡ areaAfter segs first xt yt 0 k a
-unfolding areaAfter
-none segs first xt yt k a = refl
 
 -- one more segment
 turn : (segs : List Float) (first : ℕ) (xt yt : Float) (j k : ℕ) (start a b : Float) (s : Segment) → s ≡ segmentAt segs (first + j) → a ≡ areaAfter segs first xt yt j k start
@@ -34,7 +31,7 @@ abbrev μ-loop : tie.MeasureT-loop
 μ-loop segments first n xt yt column row start a₀ j₀ a j = n - j
 
 loop-holds : tie.Need-loop-holds Inv-loop μ-loop
-loop-holds c = (search needs, none _ _ _ _ _ _)
+loop-holds c = (search needs, after-none _ _ _ _ _ _)
 
 add-segment-at : tie.Need-add-segment-at Inv-loop μ-loop
 add-segment-at c = search needs
