@@ -51,7 +51,8 @@ impl fmt::Display for FrameStopped {
 
 impl FrameStopped {
     /// The line that was refused, if it was a line: the item in counting, and in tiling the line of the
-    /// item's reference. Its path number says whose it is: `path_nos[line]` is the channel to show as faulty.
+    /// item's reference. Its path number says whose it is: `path_nos[line]` is the channel to show as faulty, if the refusal
+    /// is 6, 7, 8, 10 or 12 and there is such a channel. All others, 9 too, are the program's own fault.
     pub fn line(&self, refs: &[u32]) -> Option<usize> {
         let item = self.refused.item as usize;
         match self.stage {
