@@ -103,4 +103,5 @@ module _ (w : Way) (yt : Float) where
     pub all-rows : (l m : List Float) → length l ≡ tileSize → m ≡ mapi (stepIn w ys y0s y1s dys edges) l → m ≡ mapi (stepWay w yt) l
     unfolding stepIn stepWay
     all-rows l m n h =
-        h ∙ mapi-alike (stepIn w ys y0s y1s dys edges) (stepWay w yt) l (λ k x lt. let q : k / tileWidth < tileHeight = omega (arith, n) in ap (λ (r : Row). stepRow w r k x) (row-in (k / tileWidth) q))
+        h ∙ mapi-alike (stepIn w ys y0s y1s dys edges) (stepWay w yt) l
+        (λ k x lt. let q : k / tileWidth < tileHeight = omega (arith, n) in ap (λ (r : Row). stepRow w r k x) (row-in (k / tileWidth) q))

@@ -83,7 +83,8 @@ pub fn add_four(
     yi: usize,
 )
     requires { ⌜ (yi + 4 ≤ tileHeight) × (length (now area) ≡ tileSize) ⌝ }
-    ensures { λ _. ⌜ now (area .exit) ≡ mapi (within (rowStart yi) (rowStart (yi + 4)) (stepIn w (now (ys .entry)) (now (y0s .entry)) (now (y1s .entry)) (now (dys .entry)) (now (edges .entry)))) (now (area .entry)) ⌝ }
+    ensures { λ _. ⌜ now (area .exit) ≡ mapi (within (rowStart yi) (rowStart (yi + 4))
+        (stepIn w (now (ys .entry)) (now (y0s .entry)) (now (y1s .entry)) (now (dys .entry)) (now (edges .entry)))) (now (area .entry)) ⌝ }
 {
     let nothing = four_clear(dys, edges, yi);
     if nothing {

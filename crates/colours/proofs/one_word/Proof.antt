@@ -57,7 +57,9 @@ one-byte-requires-4 : tie.Need-one-byte-requires-4
 one-byte-requires-4 c κs = search needs
 
 returns : tie.Need-returns
-returns c = parts _ _ _ _ (c .before .before .before .before .args .t1) (c .before .before .before .before .args .t2) (c .before .before .before .one-byte .ensures) (c .before .before .one-byte2 .ensures) (c .before .one-byte3 .ensures) (c .one-byte4 .ensures)
+returns c =
+    let a = c .before .before .before .before .args in
+    parts _ _ _ _ (a .t1) (a .t2) (c .before .before .before .one-byte .ensures) (c .before .before .one-byte2 .ensures) (c .before .one-byte3 .ensures) (c .one-byte4 .ensures)
 
 pub one-word-spec : {M : Type 1} → statement M
 one-word-spec =

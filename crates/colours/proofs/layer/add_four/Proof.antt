@@ -31,7 +31,8 @@ add-requires-4 c κs = search needs
 returns : tie.Need-returns
 returns c =
     let a = c .before .before .before .before .before .before .before .before .args in
-    four-on (mixed (a .more)) (a .i) (a .i + 1) (a .i + 2) (a .i + 3) (a .i + 4) (a .i + 1) (a .i + 1 + 1) (a .i + 2 + 1) (a .i + 3 + 1) _ _ _ _ _ (omega arith) (omega arith) (omega arith) (omega arith) (omega arith) (omega arith) (omega arith) (omega arith)
+    four-on (mixed (a .more)) (a .i) (a .i + 1) (a .i + 2) (a .i + 3) (a .i + 4) (a .i + 1) (a .i + 1 + 1) (a .i + 2 + 1) (a .i + 3 + 1) _ _ _ _ _
+    (omega arith) (omega arith) (omega arith) (omega arith) (omega arith) (omega arith) (omega arith) (omega arith)
     (c .before .before .before .before .before .before .add .ensures) (c .before .before .before .before .add2 .ensures) (c .before .before .add3 .ensures) (c .add4 .ensures)
 
 pub add-four-spec : {M : Type 1} → statement M

@@ -32,7 +32,8 @@ add-four-requires-4 c κs = search needs
 returns : tie.Need-returns
 returns c =
     let a = c .before .before .before .before .before .before .before .before .args in
-    four-on (mixed (a .more)) (a .i) (a .i + 4) (a .i + 8) (a .i + 12) (a .i + tileWidth) (a .i + 4) (a .i + 4 + 4) (a .i + 8 + 4) (a .i + 12 + 4) _ _ _ _ _ (omega arith) (omega arith) (omega arith) (omega arith) (omega arith) (omega arith) (omega arith) (omega arith)
+    four-on (mixed (a .more)) (a .i) (a .i + 4) (a .i + 8) (a .i + 12) (a .i + tileWidth) (a .i + 4) (a .i + 4 + 4) (a .i + 8 + 4) (a .i + 12 + 4) _ _ _ _ _
+    (omega arith) (omega arith) (omega arith) (omega arith) (omega arith) (omega arith) (omega arith) (omega arith)
     (c .before .before .before .before .before .before .add-four .ensures) (c .before .before .before .before .add-four2 .ensures) (c .before .before .add-four3 .ensures) (c .add-four4 .ensures)
 
 pub add-row-spec : {M : Type 1} → statement M

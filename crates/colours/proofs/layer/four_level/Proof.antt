@@ -50,7 +50,9 @@ level-requires-4 : tie.Need-level-requires-4
 level-requires-4 c κs = (c .before .before .before .before .before .before .before .before .pre .1 _, c .before .before .before .before .before .before .before .before .pre .2)
 
 returns : tie.Need-returns
-returns c = all-four _ _ _ _ _ _ _ _ (c .before .before .before .before .before .before .level .ensures) (c .before .before .before .before .level2 .ensures) (c .before .before .level3 .ensures) (c .level4 .ensures)
+returns c =
+    all-four _ _ _ _ _ _ _ _
+    (c .before .before .before .before .before .before .level .ensures) (c .before .before .before .before .level2 .ensures) (c .before .before .level3 .ensures) (c .level4 .ensures)
 
 pub four-level-spec : {M : Type 1} → statement M
 four-level-spec =

@@ -32,7 +32,8 @@ lay-requires-4 c κs = search needs
 returns : tie.Need-returns
 returns c =
     let a = c .before .before .before .before .before .before .before .before .before .args in
-    four-on (each (now (a .area)) (a .fg)) (a .i) (a .i + 1) (a .i + 2) (a .i + 3) (a .i + 4) (a .i + 1) (a .i + 1 + 1) (a .i + 2 + 1) (a .i + 3 + 1) _ _ _ _ _ (omega arith) (omega arith) (omega arith) (omega arith) (omega arith) (omega arith) (omega arith) (omega arith)
+    four-on (each (now (a .area)) (a .fg)) (a .i) (a .i + 1) (a .i + 2) (a .i + 3) (a .i + 4) (a .i + 1) (a .i + 1 + 1) (a .i + 2 + 1) (a .i + 3 + 1) _ _ _ _ _
+    (omega arith) (omega arith) (omega arith) (omega arith) (omega arith) (omega arith) (omega arith) (omega arith)
     (c .before .before .before .before .before .before .lay .ensures) (c .before .before .before .before .lay2 .ensures) (c .before .before .lay3 .ensures) (c .lay4 .ensures)
 
 pub lay-four-spec : {M : Type 1} → statement M

@@ -33,7 +33,8 @@ lay-four-requires-4 c κs = search needs
 returns : tie.Need-returns
 returns c =
     let a = c .before .before .before .before .before .before .before .before .before .args in
-    four-on (each (now (a .area)) (a .fg)) (a .i) (a .i + 4) (a .i + 8) (a .i + 12) (a .i + tileWidth) (a .i + 4) (a .i + 4 + 4) (a .i + 8 + 4) (a .i + 12 + 4) _ _ _ _ _ (omega arith) (omega arith) (omega arith) (omega arith) (omega arith) (omega arith) (omega arith) (omega arith)
+    four-on (each (now (a .area)) (a .fg)) (a .i) (a .i + 4) (a .i + 8) (a .i + 12) (a .i + tileWidth) (a .i + 4) (a .i + 4 + 4) (a .i + 8 + 4) (a .i + 12 + 4) _ _ _ _ _
+    (omega arith) (omega arith) (omega arith) (omega arith) (omega arith) (omega arith) (omega arith) (omega arith)
     (c .before .before .before .before .before .before .lay-four .ensures) (c .before .before .before .before .lay-four2 .ensures) (c .before .before .lay-four3 .ensures) (c .lay-four4 .ensures)
 
 pub lay-row-spec : {M : Type 1} → statement M

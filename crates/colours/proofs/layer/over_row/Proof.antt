@@ -27,7 +27,9 @@ lay-row-requires c κs = search needs
 returns : tie.Need-returns
 returns c =
     let a = c .before .before .before .before .before .before .before .args in
-    painted (now (a .area)) (a .fg) _ (a .i) _ _ _ (at-level (now (a .area)) (a .fg) _ (a .i) (c .before .before .before .before .before .all-level .ensures (c .before .before .before .before .if1 .taken)) (c .before .share .ensures)) (c .add-row .ensures)
+    painted (now (a .area)) (a .fg) _ (a .i) _ _ _
+    (at-level (now (a .area)) (a .fg) _ (a .i) (c .before .before .before .before .before .all-level .ensures (c .before .before .before .before .if1 .taken))
+    (c .before .share .ensures)) (c .add-row .ensures)
 
 returns-2 : tie.Need-returns-2
 returns-2 c = search needs

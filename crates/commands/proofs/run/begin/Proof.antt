@@ -43,7 +43,9 @@ returns : tie.Need-returns Inv-loop μ-loop
 returns c = (c .before .before .before .before .loop .inv .0, c .before .before .before .before .loop .inv .1, c .before .before .before .before .loop .inv .2)
 
 returns-2 : tie.Need-returns-2 Inv-loop μ-loop
-returns-2 c = (c .before .before .before .before .before .before .loop .inv .0, c .before .before .before .before .before .before .loop .inv .1, c .before .before .before .before .before .before .loop .inv .2)
+returns-2 c =
+    let l = c .before .before .before .before .before .before .loop in
+    (l .inv .0, l .inv .1, l .inv .2)
 
 op-of-requires : tie.Need-op-of-requires Inv-loop μ-loop
 op-of-requires c κs = search needs

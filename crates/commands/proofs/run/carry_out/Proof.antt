@@ -50,7 +50,9 @@ colour-requires : tie.Need-colour-requires
 colour-requires c κs = search needs
 
 composite-requires : tie.Need-composite-requires
-composite-requires c κs = (c .before .before .before .before .before .before .before .before .pre .2, c .before .before .before .before .before .before .before .before .pre .1, c .before .before .before .before .before .before .before .before .pre .3)
+composite-requires c κs =
+    let p = c .before .before .before .before .before .before .before .before .pre in
+    (p .2, p .1, p .3)
 
 enum-told-2 : tie.Need-enum-told-2
 enum-told-2 c = search needs

@@ -53,7 +53,8 @@ same-length c = search needs
 returns : tie.Need-returns
 returns c =
     let a = c .before .before .before .before .before .before .before .args in
-    slant (a .w) (a .r) _ _ (c .before .before .before .reach-of .result) _ _ (c .before .before .before .before .before .if1 .taken) (c .before .before .before .reach-of .ensures) (c .before .before .add-slant .ensures)
+    slant (a .w) (a .r) _ _ (c .before .before .before .reach-of .result) _ _
+    (c .before .before .before .before .before .if1 .taken) (c .before .before .before .reach-of .ensures) (c .before .before .add-slant .ensures)
 
 same-length-2 : tie.Need-same-length-2
 same-length-2 c = search needs

@@ -35,15 +35,16 @@ same-length c = search needs
 
 returns : tie.Need-returns
 returns c =
-    let a = c .before .before .before .before .before .before .before .before .before .before .before .before .before .before .before .before .before .before .before .before .before .args in
+    let s = c .before .before .before .before .before .before .before .before .before .before .before .before .before .before .before in
+    let a = s .before .before .before .before .before .before .args in
     let t = c .before .before .before .before .before .before .before .before .before .rows-of .ensures in
     all-rows (a .w) (a .yt) _ _ _ _ _
-    (t .0 ∙ ap (column (λ (r : Row). r .y) (a .w) (a .yt)) (c .before .before .before .before .before .before .before .before .before .before .before .before .before .before .before .before .before .before .before .no-rows .ensures))
-    (t .1 ∙ ap (column (λ (r : Row). r .y0) (a .w) (a .yt)) (c .before .before .before .before .before .before .before .before .before .before .before .before .before .before .before .before .before .before .no-rows2 .ensures))
-    (t .2 ∙ ap (column (λ (r : Row). r .y1) (a .w) (a .yt)) (c .before .before .before .before .before .before .before .before .before .before .before .before .before .before .before .before .before .no-rows3 .ensures))
-    (t .3 ∙ ap (column (λ (r : Row). r .dy) (a .w) (a .yt)) (c .before .before .before .before .before .before .before .before .before .before .before .before .before .before .before .before .no-rows4 .ensures))
-    (t .4 ∙ ap (column (λ (r : Row). r .edge) (a .w) (a .yt)) (c .before .before .before .before .before .before .before .before .before .before .before .before .before .before .before .no-rows5 .ensures))
-    _ _ (c .before .before .before .before .before .before .before .before .before .before .before .before .before .before .before .before .before .before .before .before .before .pre) (c .before .before .add-rows .ensures)
+    (t .0 ∙ ap (column (λ (r : Row). r .y) (a .w) (a .yt)) (s .before .before .before .before .no-rows .ensures))
+    (t .1 ∙ ap (column (λ (r : Row). r .y0) (a .w) (a .yt)) (s .before .before .before .no-rows2 .ensures))
+    (t .2 ∙ ap (column (λ (r : Row). r .y1) (a .w) (a .yt)) (s .before .before .no-rows3 .ensures))
+    (t .3 ∙ ap (column (λ (r : Row). r .dy) (a .w) (a .yt)) (s .before .no-rows4 .ensures))
+    (t .4 ∙ ap (column (λ (r : Row). r .edge) (a .w) (a .yt)) (s .no-rows5 .ensures))
+    _ _ (s .before .before .before .before .before .before .pre) (c .before .before .add-rows .ensures)
 
 pub add-segment-spec : {M : Type 1} → statement M
 add-segment-spec =

@@ -84,7 +84,10 @@ same-length c = search needs
 returns : tie.Need-returns Inv-loop μ-loop
 returns c =
     let a = c .before .before .before .before .before .before .before .before .before .args in
-    once (now (a .rgba)) (a .width) (a .tx) (a .ty) (a .y) _ _ _ (c .before .before .before .before .before .before .before .before .before .pre .2) (c .before .before .before .before .before .before .before .before .before .pre .3) (c .before .before .before .before .before .before .before .alike .ensures (c .before .before .before .before .before .before .if1 .taken)) (c .before .before .before .pack .ensures) (c .before .before .fill-row .ensures)
+    let p = c .before .before .before .before .before .before .before .before .before .pre in
+    once (now (a .rgba)) (a .width) (a .tx) (a .ty) (a .y) _ _ _ (p .2) (p .3)
+    (c .before .before .before .before .before .before .before .alike .ensures (c .before .before .before .before .before .before .if1 .taken))
+    (c .before .before .before .pack .ensures) (c .before .before .fill-row .ensures)
 
 loop-holds : tie.Need-loop-holds Inv-loop μ-loop
 loop-holds c =
@@ -120,10 +123,11 @@ loop-less c = search needs
 
 loop-again : tie.Need-loop-again Inv-loop μ-loop
 loop-again c =
+    let p = c .before .before .before .before .before .before .before .pre in
     let a = c .before .before .before .before .before .before .before .args in
     let l = c .before .before .before .loop in (
       search needs,
-      turn (now (a .rgba)) (a .width) (a .tx) (a .ty) (a .y) (l .x) _ (l .pixels) _ (c .before .before .before .before .before .before .before .pre .2) (c .before .before .before .before .before .before .before .pre .3) (c .before .before .loop-test .taken) (l .inv .1) (c .pack2 .ensures),
+      turn (now (a .rgba)) (a .width) (a .tx) (a .ty) (a .y) (l .x) _ (l .pixels) _ (p .2) (p .3) (c .before .before .loop-test .taken) (l .inv .1) (c .pack2 .ensures),
     )
 
 same-length-2 : tie.Need-same-length-2 Inv-loop μ-loop
