@@ -126,7 +126,8 @@ same-length-8 c = search needs
 
 returns-3 : tie.Need-returns-3
 returns-3 c =
-    let a = c .before .before .before .before .before .before .before .before .before .before .before .before .before .before .before .before .before .before .before .before .before .before .before .args in
+    let a = c .before .before .before .before .before .before .before .before .before .before .before .before .before .before .before .before .before .before .before
+    .before .before .before .before .args in
     let s = stOf (a .backs .now) (a .counts .now) (a .refs .now) (a .made) in
     c .before .before .before .before .before .before .before .count-noted2 .ensures
     ∙ ap (λ (o : Step St ℕ). lineRan o s)
