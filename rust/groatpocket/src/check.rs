@@ -46,28 +46,62 @@ pub fn work_needed(tiles: usize, lines: usize, references: usize) -> usize {
     4 * (tiles + lines + references)
 }
 
+/// What [`check`] is lent, by name.
+#[derive(Debug)]
+pub struct Check<'a> {
+    /// The path number of each line: ours.
+    pub path_nos: &'a [u32],
+    /// The lines, [`LINE_FLOATS`](crate::LINE_FLOATS) each: ours.
+    pub coords: &'a [f32],
+    /// The paths, the words of a [`Path`](crate::Path) each: ours.
+    pub paths: &'a [u32],
+    /// The other's references: the words of a [`Reference`](crate::Reference) each.
+    pub refs: &'a [u32],
+    /// The other's counts, one to a tile: what hand-out keeps in the tally.
+    pub counts: &'a [u32],
+    /// The other's backdrops, one to a tile, before the sums.
+    pub backdrops: &'a [i32],
+    /// The other's stored words, one to a tile.
+    pub stored: &'a [u32],
+    /// How many slots there are.
+    pub room: u32,
+    /// Working room: [`work_needed`] words, which are 0 afterwards.
+    pub work: &'a mut [u32],
+}
+
 /// Checks tables that another made of our lines: references, counts (what hand-out keeps in the tally), backdrops
 /// before the sums, stored words, and the slots that there are. It counts the lines itself, and is refused where
 /// that count is. A no names the first entry at fault, in the order references, counts, backdrops, slots. After a
 /// yes [`tile`](crate::tile) over these tables writes no stray piece.
 ///
 /// ```
-/// use groatpocket::{check, count, hand_out, work_needed, Found, Running, PATH_WORDS};
+/// use groatpocket::{check, count, hand_out, work_needed, Check, Count, Found, HandOut, Path, Running};
 /// // Path 0: a box of two by two tiles, from tile 0 on; one line down its first column.
 /// let (path_nos, coords) = ([0], [8.0, 8.0, 8.0, 24.0]);
-/// let mut paths = [0; PATH_WORDS];
-/// paths[..4].copy_from_slice(&[0, 0, 2, 2]);
+/// let paths = Path { x0: 0, y0: 0, x1: 2, y1: 2, first: 0, beam: 7 }.words();
 ///
 /// // The other's work, done here by our own calls.
 /// let (mut backdrops, mut stored, mut counts, mut refs) = ([0; 4], [0; 4], [0; 4], [0; 4]);
 /// count(
-///     Running::default(), 1, &path_nos, &coords, &paths, &mut backdrops, &mut stored, &mut refs,
-/// ).unwrap();
-/// hand_out(&mut stored, &mut counts, 2).unwrap();
+///     Running::default(),
+///     Count {
+///         path_nos: &path_nos,
+///         coords: &coords,
+///         paths: &paths,
+///         backdrops: &mut backdrops,
+///         counts: &mut stored,
+///         refs: &mut refs,
+///         end: 1,
+///     },
+/// )
+/// .unwrap();
+/// hand_out(HandOut { counts: &mut stored, tally: &mut counts, room: 2 }).unwrap();
 ///
 /// let mut work = vec![0; work_needed(4, 1, 2)];
 /// let mut found = |refs: &[u32], counts: &[u32], stored: &[u32]| {
-///     check(&path_nos, &coords, &paths, refs, counts, &backdrops, stored, 2, &mut work).unwrap()
+///     let (path_nos, coords, paths) = (&path_nos, &coords, &paths);
+///     let backdrops = &backdrops;
+///     check(Check { path_nos, coords, paths, refs, counts, backdrops, stored, room: 2, work: &mut work }).unwrap()
 /// };
 /// assert_eq!(found(&refs, &counts, &stored), Found::Yes);
 /// assert_eq!(found(&[refs[2], refs[3], refs[0], refs[1]], &counts, &stored), Found::Yes); // any order
@@ -76,18 +110,8 @@ pub fn work_needed(tiles: usize, lines: usize, references: usize) -> usize {
 /// assert_eq!(found(&refs, &[1, 1, 1, 0], &stored), Found::Count(1));
 /// assert_eq!(found(&refs, &counts, &[stored[0], 0, stored[0], 0]), Found::Slots(2)); // tile 0's slot
 /// ```
-#[allow(clippy::too_many_arguments)]
-pub fn check(
-    path_nos: &[u32],
-    coords: &[f32],
-    paths: &[u32],
-    refs: &[u32],
-    counts: &[u32],
-    backdrops: &[i32],
-    stored: &[u32],
-    room: u32,
-    work: &mut [u32],
-) -> Result<Found, Refused> {
+pub fn check(lent: Check<'_>) -> Result<Found, Refused> {
+    let Check { path_nos, coords, paths, refs, counts, backdrops, stored, room, work } = lent;
     let (mut found, mut item) = (UNTOLD, UNTOLD);
     // SAFETY: as for `count`.
     #[rustfmt::skip]

@@ -120,7 +120,7 @@ mod stages;
 mod svg;
 
 #[cfg(feature = "check")]
-pub use check::{check, work_needed, Found};
+pub use check::{check, work_needed, Check, Found};
 #[cfg(feature = "frame")]
 pub use frame::{frame, Frame, FrameStopped, Stage};
 #[cfg(feature = "lists")]

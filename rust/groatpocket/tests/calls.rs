@@ -381,13 +381,33 @@ fn a_picture_comes_back() {
 fn another_s_tables_are_checked() {
     let (path_nos, coords) = ([0, 0], [8.0, 8.0, 8.0, 24.0, 8.0, 8.0, 24.0, 8.0]);
     let (mut backdrops, mut stored, mut counts, mut refs) = ([0; 4], [0; 4], [0; 4], [0; 8]);
-    count(Running::default(), 2, &path_nos, &coords, &PATHS, &mut backdrops, &mut stored, &mut refs).unwrap();
-    hand_out(&mut stored, &mut counts, 4).unwrap();
+    let lent = Count {
+        path_nos: &path_nos,
+        coords: &coords,
+        paths: &PATHS,
+        backdrops: &mut backdrops,
+        counts: &mut stored,
+        refs: &mut refs,
+        end: 2,
+    };
+    count(Running::default(), lent).unwrap();
+    hand_out(HandOut { counts: &mut stored, tally: &mut counts, room: 4 }).unwrap();
     let mut work = [7; 45];
     let mut said = |refs: &[u32], backdrops: &[i32], room: u32, words: usize| {
         work.fill(7);
-        let found =
-            check(&path_nos, &coords, &PATHS, refs, &counts, backdrops, &stored, room, &mut work[..words]);
+        let (path_nos, coords, paths, counts, stored) =
+            (&path_nos[..], &coords[..], &PATHS[..], &counts[..], &stored[..]);
+        let found = check(Check {
+            path_nos,
+            coords,
+            paths,
+            refs,
+            counts,
+            backdrops,
+            stored,
+            room,
+            work: &mut work[..words],
+        });
         (found.map_err(|r| (r.refusal.number(), r.item)), work[..words].iter().filter(|&&w| w == 0).count())
     };
     let needed = work_needed(4, 2, 4);

@@ -348,7 +348,7 @@ pub fn check(
         return unsafe { groatpocket::raw::gp_check(crate::null::at(path_nos), path_nos.len(), crate::null::at(coords), coords.len(), crate::null::at(paths), paths.len(), crate::null::at(refs), refs.len(), crate::null::at(counts), counts.len(), crate::null::at(backdrops), backdrops.len(), crate::null::at(stored), stored.len(), room, crate::null::at_mut(work), work.len(), found, item) };
     }
     #[cfg(feature = "check")]
-    let answer = groatpocket::check(path_nos, coords, paths, refs, counts, backdrops, stored, room, work);
+    let answer = groatpocket::check(groatpocket::Check { path_nos, coords, paths, refs, counts, backdrops, stored, room, work });
     #[cfg(feature = "check")]
     return crate::answers::found_item(answer, found, item);
     #[cfg(not(feature = "check"))]
