@@ -130,6 +130,12 @@ module _ (nos : List ℕ) (coords : List Float) (paths : List ℕ) (tiles : ℕ)
             (getD-set-same ws (tiles + tiles + l) made 0 fits ∙ sym (view-made tiles ws made) ∙ sym (ap (λ (o : Ran St Refusal). left o .made) e))
 
     -- the number of references fits a word
-    pub own-fits : made < 2 ^ 32 → (k : ℕ) → lineStep nos coords paths mostSlots l l (viewOf tiles (set ws (tiles + tiles + l) made) made) ≡ taken (viewOf tiles ws′ (made + k)) → made + k < 2 ^ 32
+    pub own-fits : made < 2 ^ 32 → (k : ℕ) → lineStep nos coords paths mostSlots l l (viewOf tiles (set ws (tiles + tiles + l) made) made) ≡ taken (viewOf tiles ws′ (made + k)) →
+        made + k < 2 ^ 32
     own-fits h k q =
-        omega (arith, line-made nos coords paths mostSlots l l (viewOf tiles put made) (viewOf tiles ws′ (made + k)) (omega (arith, view-made tiles put made)) q, view-made tiles ws′ (made + k))
+        omega (
+          arith,
+          line-made nos coords paths mostSlots l l (viewOf tiles put made) (viewOf tiles ws′ (made + k)) (omega (arith, view-made tiles put made)) q,
+          view-made tiles
+              ws′ (made + k),
+        )

@@ -45,13 +45,7 @@ fn own_line(
 }
 
 // All of them. How many references are made before each line is noted behind the tiles' words.
-fn own_lines(
-    path_nos: &[u32],
-    coords: &[f32],
-    paths: &[u32],
-    n: usize,
-    work: &mut [u32],
-) -> Own
+fn own_lines(path_nos: &[u32], coords: &[f32], paths: &[u32], n: usize, work: &mut [u32]) -> Own
     requires { ⌜ (pathsAnswer (now paths) n ≡ Done) × (length (now «path_nos») * lineFloats ≤ length (now coords))
         × (n + n + length (now «path_nos») ≤ length (now work)) × (viewOf n (now work) 0 ≡ zeroed n) ⌝ }
     ensures { λ r. ⌜ OwnMet (now («path_nos» .entry)) (now (coords .entry)) (now (paths .entry)) n (now (work .exit)) r ⌝ }
@@ -91,13 +85,7 @@ fn fill(work: &mut [u32], a: usize, n: usize, v: u32)
 }
 
 // All lines, from zeroed tiles, into the room lent.
-pub fn own_count(
-    path_nos: &[u32],
-    coords: &[f32],
-    paths: &[u32],
-    n: usize,
-    work: &mut [u32],
-) -> Own
+pub fn own_count(path_nos: &[u32], coords: &[f32], paths: &[u32], n: usize, work: &mut [u32]) -> Own
     requires { ⌜ (pathsAnswer (now paths) n ≡ Done) × (length (now «path_nos») * lineFloats ≤ length (now coords))
         × (n + n + length (now «path_nos») ≤ length (now work)) ⌝ }
     ensures { λ r. ⌜ OwnMet (now («path_nos» .entry)) (now (coords .entry)) (now (paths .entry)) n (now (work .exit)) r ⌝ }

@@ -67,14 +67,7 @@ fn own_steps(
 }
 
 // Row marks, then steps.
-fn own_acts(
-    work: &mut [u32],
-    n: usize,
-    up: bool,
-    pace: Pace,
-    path: Path,
-    clip: Clip,
-) -> Verdict
+fn own_acts(work: &mut [u32], n: usize, up: bool, pace: Pace, path: Path, clip: Clip) -> Verdict
     requires { ⌜ OnTiles path n n × (n + n ≤ length (now work)) × Clipped path clip ⌝ }
     ensures { λ r. ⌜ Acted (deltaOf up) (planActs (planBy up pace path clip)) n (now (work .entry)) (now (work .exit)) (clip .imax - clip .imin) r ⌝ }
 {

@@ -65,7 +65,8 @@ no-made n t e = let z : _≡_ {A = ℕ} 0 1 = cc in omega arith
 
 pub slice-same : (made : ℕ → ℕ → Made) (ours refs : List ℕ) (i j : ℕ) → strayRef made ours refs i ≡ false → strayRef made ours refs j ≡ false
     → eqb (sliceKey made ours refs i) (sliceKey made ours refs j) ≡ sameSlice made refs i j
-slice-same made ours refs i j p q = go (madeRef made refs i) (madeRef made refs j) (not-stray ours (madeRef made refs i) (sliceAt refs i) p) (not-stray ours (madeRef made refs j) (sliceAt refs j) q)
+slice-same made ours refs i j p q = go (madeRef made refs i) (madeRef made refs j) (not-stray ours (madeRef made refs i) (sliceAt refs i) p) (not-stray ours (madeRef made refs j)
+    (sliceAt refs j) q)
   where
     go : (r s : Made) → Ours ours r (sliceAt refs i) → Ours ours s (sliceAt refs j)
         → eqb (first ours (tileIn r) + sliceAt refs i) (first ours (tileIn s) + sliceAt refs j) ≡ (sameTile r s && eqb (sliceAt refs i) (sliceAt refs j))
@@ -119,7 +120,8 @@ module _ (nos : List ℕ) (coords : List Float) (paths : List ℕ) (tiles : ℕ)
     step-same i j p q =
         pair-eqb (keyOf i) (keyOf j) (lineAt refs i) (lineAt refs j) (stepAt refs i) (stepAt refs j)
         (λ e. keys-one (lineAt refs i) (stepAt refs i) (a .before) (a .tile) (lineAt refs j) (stepAt refs j) (b .before) (b .tile) (a .is-made) (b .is-made)
-        (ap (λ (r : Made). startOf nos coords paths tiles (lineAt refs i) + beforeIn r) (sym (a .is-made)) ∙ e ∙ ap (λ (r : Made). startOf nos coords paths tiles (lineAt refs j) + beforeIn r) (b .is-made)))
+        (ap (λ (r : Made). startOf nos coords paths tiles (lineAt refs i) + beforeIn r) (sym (a .is-made)) ∙ e ∙ ap (λ (r : Made). startOf nos coords paths tiles (lineAt refs j) +
+        beforeIn r) (b .is-made)))
         (λ e f. ap₂ (λ (x y : ℕ). startOf nos coords paths tiles x + beforeIn (madeOf nos coords paths x y)) e f)
       where
         a : Ours ours (madeRef (madeOf nos coords paths) refs i) (sliceAt refs i)

@@ -81,7 +81,8 @@ pub view-counts : (n : ℕ) (ws : List ℕ) (m : ℕ) → viewOf n ws m .counts 
 unfolding viewOf
 view-counts n ws m = refl
 
-pub counted-most : (nos : List ℕ) (coords : List Float) (paths : List ℕ) (tiles m : ℕ) (ws : List ℕ) → ownRan nos coords paths tiles ≡ done (viewOf tiles ws m) → sum (take tiles ws) ≤ m
+pub counted-most : (nos : List ℕ) (coords : List Float) (paths : List ℕ) (tiles m : ℕ) (ws : List ℕ)
+    → ownRan nos coords paths tiles ≡ done (viewOf tiles ws m) → sum (take tiles ws) ≤ m
 counted-most nos coords paths tiles m ws e =
     omega (arith, own-fewer nos coords paths tiles (length nos) (viewOf tiles ws m) e, ap sum (view-counts tiles ws m), view-made tiles ws m)
 

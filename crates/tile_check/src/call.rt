@@ -15,8 +15,8 @@ use own_count::own_count;
 use panel::checks::check_paths;
 use panel::kinds::Answer;
 use panel::kinds::Verdict;
-use panel::refusals::NOT_WHOLE;
 use panel::refusals::NO_ROOM;
+use panel::refusals::NOT_WHOLE;
 use panel::widths::LINE_FLOATS;
 use panel::widths::REF_WORDS;
 use ranges::clear_words;
@@ -103,12 +103,24 @@ fn looked(
     requires { ⌜ (pathsAnswer (now paths) (length (now counts)) ≡ Done) × (length (now «path_nos») * lineFloats ≤ length (now coords))
         × (length (now backs) ≡ length (now counts)) × (length (now stored) ≡ length (now counts))
         × (length (now work) ≡ workWords (length (now counts)) (length (now «path_nos»)) (length (now refs) / refWords)) ⌝ }
-    ensures { λ r. ⌜ r ≡ lookedOf (now («path_nos» .entry)) (now (coords .entry)) (now (paths .entry)) (now (refs .entry)) (now (counts .entry)) (now (backs .entry)) (now (stored .entry)) room ⌝ }
+    ensures { λ r. ⌜ r ≡ lookedOf (now («path_nos» .entry)) (now (coords .entry)) (now (paths .entry)) (now (refs .entry))
+        (now (counts .entry)) (now (backs .entry)) (now (stored .entry)) room ⌝ }
 {
     let own = own_count(path_nos, coords, paths, counts.len(), work);
     match own {
         Own::Refused(why, line) => Checked::Refused(why, line),
-        Own::Done(made) => look(path_nos, coords, paths, refs, counts, backs, stored, room, work, made),
+        Own::Done(made) => look(
+            path_nos,
+            coords,
+            paths,
+            refs,
+            counts,
+            backs,
+            stored,
+            room,
+            work,
+            made,
+        ),
     }
 }
 

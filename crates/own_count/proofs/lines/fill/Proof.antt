@@ -42,7 +42,8 @@ same-length : tie.Need-same-length Inv-loop μ-loop
 same-length c = c .before .loop .inv .1 .same-length
 
 returns : tie.Need-returns Inv-loop μ-loop
-returns c = let e : c .before .loop .k ≡ c .before .before .args .n = omega arith in subst (λ (k : ℕ). Filled (c .before .before .args .a) k (c .before .before .args .v) (c .before .before .args .work .now) (c .before .loop .work)) e (c .before .loop .inv .1)
+returns c = let e : c .before .loop .k ≡ c .before .before .args .n = omega arith in subst (λ (k : ℕ). Filled (c .before .before .args .a) k (c .before .before .args .v) (c .before
+    .before .args .work .now) (c .before .loop .work)) e (c .before .loop .inv .1)
 
 pub fill-spec : {M : Type 1} → statement M
 fill-spec =

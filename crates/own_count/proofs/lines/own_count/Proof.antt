@@ -22,14 +22,28 @@ fill-requires-2 c κs = search needs
 
 own-lines-requires : tie.Need-own-lines-requires
 own-lines-requires c κs = (
-      c .before .before .before .before .before .before .before .before .before .before .before .before .before .pre .0,
-      c .before .before .before .before .before .before .before .before .before .before .before .before .before .pre .1,
-      omega (arith, c .before .before .before .before .before .before .before .fill .ensures .same-length, c .before .before .before .fill2 .ensures .same-length, c .before .before .before .before .before .before .before .before .before .before .before .before .before .pre .2),
-      view-zero (c .before .before .before .before .before .before .before .before .before .before .before .before .before .args .n) _ 0 (omega (arith, c .before .before .before .before .before .before .before .fill .ensures .same-length, c .before .before .before .fill2 .ensures .same-length, c .before .before .before .before .before .before .before .before .before .before .before .before .before .pre .2))
-          (λ t h. c .before .before .before .fill2 .ensures .before t h ∙ ap (λ (k : ℕ). getD (c .before .before .before .before .before .before .before .fill .last .0) k 0) (sym (zero-add t)) ∙ c .before .before .before .before .before .before .before .fill .ensures .filled t h)
-          (λ t h. c .before .before .before .fill2 .ensures .filled t h)
-          refl,
-    )
+  c .before .before .before .before .before .before .before .before .before .before .before .before .before .pre .0,
+  c .before .before .before .before .before .before .before .before .before .before .before .before .before .pre .1,
+  omega (
+    arith,
+    c .before .before .before .before .before .before .before .fill .ensures .same-length,
+    c .before .before .before .fill2 .ensures .same-length,
+    c .before .before
+        .before .before .before .before .before .before .before .before .before .before .before .pre .2,
+  ),
+  view-zero (c .before .before .before .before .before .before .before .before .before .before .before .before .before .args .n) _ 0 (omega (
+    arith,
+    c .before .before .before
+        .before .before .before .before .fill .ensures .same-length,
+    c .before .before .before .fill2 .ensures .same-length,
+    c .before .before .before .before .before .before
+        .before .before .before .before .before .before .before .pre .2,
+  ))
+      (λ t h. c .before .before .before .fill2 .ensures .before t h ∙ ap (λ (k : ℕ). getD (c .before .before .before .before .before .before .before .fill .last .0) k 0) (sym
+      (zero-add t)) ∙ c .before .before .before .before .before .before .before .fill .ensures .filled t h)
+      (λ t h. c .before .before .before .fill2 .ensures .filled t h)
+      refl,
+)
 
 same-length : tie.Need-same-length
 same-length c = search needs

@@ -36,7 +36,16 @@ loop-holds : tie.Need-loop-holds Inv-loop μ-loop
 loop-holds c = ((le-refl _, c .before .pre .2), refl, λ ws v a. a)
 
 own-step-requires : tie.Need-own-step-requires Inv-loop μ-loop
-own-step-requires c κs = (c .before .before .before .before .pre .0, omega (arith, c .before .before .loop .inv .1, c .before .before .before .before .pre .1), omega (arith, c .before .before .before .before .pre .3 (omega (arith, c .before .before .loop .inv .0 .0, c .before .loop-test .taken)), c .before .loop-test .taken))
+own-step-requires c κs = (
+  c .before .before .before .before .pre .0,
+  omega (arith, c .before .before .loop .inv .1, c .before .before .before .before .pre .1),
+  omega (
+    arith,
+    c
+        .before .before .before .before .pre .3 (omega (arith, c .before .before .loop .inv .0 .0, c .before .loop-test .taken)),
+    c .before .loop-test .taken,
+  ),
+)
 
 enum-known-v : tie.Need-enum-known-v Inv-loop μ-loop
 enum-known-v c = search needs
@@ -47,7 +56,9 @@ same-length c = c .before .before .before .before .before .own-step .kept .0 ∙
 returns : tie.Need-returns Inv-loop μ-loop
 returns c =
     c .before .before .before .before .before .before .before .before .loop .inv .2 _ _
-    (turn-stops _ _ _ _ _ _ _ 1 _ (steps-turn (hitAt (c .before .before .before .before .before .before .before .before .before .before .args .pace) (c .before .before .before .before .before .before .before .before .before .before .args .path)) (c .before .before .before .before .before .before .before .before .loop .i) _ (c .before .before .before .before .before .before .before .loop-test .taken)) (c .before .before .before .before .before .own-step .ensures) _ (c .before .v .given .1) _)
+    (turn-stops _ _ _ _ _ _ _ 1 _ (steps-turn (hitAt (c .before .before .before .before .before .before .before .before .before .before .args .pace) (c .before .before .before
+    .before .before .before .before .before .before .before .args .path)) (c .before .before .before .before .before .before .before .before .loop .i) _ (c .before .before
+    .before .before .before .before .before .loop-test .taken)) (c .before .before .before .before .before .own-step .ensures) _ (c .before .v .given .1) _)
 
 enum-told : tie.Need-enum-told Inv-loop μ-loop
 enum-told c = search needs
@@ -60,18 +71,22 @@ loop-less c = omega (arith, c .before .before .before .before .before .before .l
 
 loop-again : tie.Need-loop-again Inv-loop μ-loop
 loop-again c = (
-      (omega (arith, c .before .before .before .before .before .before .before .loop .inv .0 .0), omega (arith, c .before .before .before .before .before .before .loop-test .taken)),
-      c .before .before .before .before .own-step .kept .0 ∙ c .before .before .before .before .before .before .before .loop .inv .1,
-      λ ws v a. c .before .before .before .before .before .before .before .loop .inv .2 ws v
-          (turn-goes _ _ _ _ _ _ _ 1 _ (steps-turn (hitAt (c .before .before .before .before .before .before .before .before .before .args .pace) (c .before .before .before .before .before .before .before .before .before .args .path)) (c .before .before .before .before .before .before .before .loop .i) _ (c .before .before .before .before .before .before .loop-test .taken)) (c .before .before .before .before .own-step .ensures) (c .enum-told .given .1) ws _ _ v
-          (one-more (c .before .before .before .before .before .before .before .loop .i) (c .before .before .before .before .before .before .before .before .before .args .to) (c .before .before .before .before .before .before .loop-test .taken)) a),
-    )
+  (omega (arith, c .before .before .before .before .before .before .before .loop .inv .0 .0), omega (arith, c .before .before .before .before .before .before .loop-test .taken)),
+  c .before .before .before .before .own-step .kept .0 ∙ c .before .before .before .before .before .before .before .loop .inv .1,
+  λ ws v a. c .before .before .before .before .before .before .before .loop .inv .2 ws v
+      (turn-goes _ _ _ _ _ _ _ 1 _ (steps-turn (hitAt (c .before .before .before .before .before .before .before .before .before .args .pace) (c .before .before .before .before
+      .before .before .before .before .before .args .path)) (c .before .before .before .before .before .before .before .loop .i) _ (c .before .before .before .before
+      .before .before .loop-test .taken)) (c .before .before .before .before .own-step .ensures) (c .enum-told .given .1) ws _ _ v
+      (one-more (c .before .before .before .before .before .before .before .loop .i) (c .before .before .before .before .before .before .before .before .before .args .to) (c
+      .before .before .before .before .before .before .loop-test .taken)) a),
+)
 
 same-length-2 : tie.Need-same-length-2 Inv-loop μ-loop
 same-length-2 c = c .before .loop .inv .1
 
 returns-2 : tie.Need-returns-2 Inv-loop μ-loop
-returns-2 c = c .before .loop .inv .2 _ _ (turn-ends _ _ _ _ _ (steps-end (hitAt (c .before .before .before .args .pace) (c .before .before .before .args .path)) (c .before .loop .i) _ (c .loop-test .left)) (omega (arith, c .loop-test .left)))
+returns-2 c = c .before .loop .inv .2 _ _ (turn-ends _ _ _ _ _ (steps-end (hitAt (c .before .before .before .args .pace) (c .before .before .before .args .path)) (c .before .loop
+    .i) _ (c .loop-test .left)) (omega (arith, c .loop-test .left)))
 
 pub own-steps-spec : {M : Type 1} → statement M
 own-steps-spec =

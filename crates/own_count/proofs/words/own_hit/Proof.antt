@@ -29,7 +29,9 @@ same-length c = search needs
 
 returns : tie.Need-returns
 returns c =
-    λ i. turn-stays (deltaOf (c .before .before .before .before .before .before .before .args .up)) (visit (c .before .before .before .before .before .before .before .args .t) i ∷ []) (crossActs (c .before .before .before .before .before .before .before .args .marks) (c .before .before .before .before .before .before .before .args .t)) _ _ _ 1 1 _ _ (c .enum-told2 .given .1)
+    λ i. turn-stays (deltaOf (c .before .before .before .before .before .before .before .args .up)) (visit (c .before .before .before .before .before .before .before .args .t) i ∷
+    []) (crossActs (c .before .before .before .before .before .before .before .args .marks) (c .before .before .before .before .before .before .before .args .t)) _ _ _ 1 1 _ _
+    (c .enum-told2 .given .1)
     (c .before .before .before .before .own-visit .ensures (deltaOf (c .before .before .before .before .before .before .before .args .up)) i)
 
 own-cross-requires : tie.Need-own-cross-requires
@@ -40,8 +42,11 @@ same-length-2 c = search needs
 
 returns-2 : tie.Need-returns-2
 returns-2 c =
-    λ i. turn-goes (deltaOf (c .before .before .before .before .before .before .before .before .before .before .before .args .up)) (visit (c .before .before .before .before .before .before .before .before .before .before .before .args .t) i ∷ []) (crossActs (c .before .before .before .before .before .before .before .before .before .before .before .args .marks) (c .before .before .before .before .before .before .before .before .before .before .before .args .t)) _ _ _ _ 1 _ refl
-    (c .before .before .before .before .before .before .before .before .own-visit .ensures (deltaOf (c .before .before .before .before .before .before .before .before .before .before .before .args .up)) i) (c .before .before .before .before .enum-told .given .1) _ 0 1 _ refl (c .before .before .own-cross .ensures)
+    λ i. turn-goes (deltaOf (c .before .before .before .before .before .before .before .before .before .before .before .args .up)) (visit (c .before .before .before .before .before
+    .before .before .before .before .before .before .args .t) i ∷ []) (crossActs (c .before .before .before .before .before .before .before .before .before .before .before
+    .args .marks) (c .before .before .before .before .before .before .before .before .before .before .before .args .t)) _ _ _ _ 1 _ refl
+    (c .before .before .before .before .before .before .before .before .own-visit .ensures (deltaOf (c .before .before .before .before .before .before .before .before .before
+    .before .before .args .up)) i) (c .before .before .before .before .enum-told .given .1) _ 0 1 _ refl (c .before .before .own-cross .ensures)
 
 pub own-hit-spec : {M : Type 1} → statement M
 own-hit-spec =

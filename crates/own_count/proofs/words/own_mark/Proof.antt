@@ -21,7 +21,10 @@ slice-read-w : tie.Need-slice-read-w
 slice-read-w c = search needs
 
 returns : tie.Need-returns
-returns c = up-stops (c .before .before .before .args .up) (c .before .before .before .args .n) (c .before .before .before .args .t) (c .before .before .before .args .work .now) (c .before .before .before .pre .0) (c .before .before .before .pre .1) (getD (c .before .before .before .args .work .now) (c .before .before .before .args .n + c .before .before .before .args .t) 0) refl (omega (arith, c .before .before .slice-known .given (c .before .before .before .args .n + c .before .before .before .args .t))) (c .before .if1 .taken) (c .if2 .taken)
+returns c = up-stops (c .before .before .before .args .up) (c .before .before .before .args .n) (c .before .before .before .args .t) (c .before .before .before .args .work .now) (c
+    .before .before .before .pre .0) (c .before .before .before .pre .1) (getD (c .before .before .before .args .work .now) (c .before .before .before .args .n + c .before .before
+    .before .args .t) 0) refl (omega (arith, c .before .before .slice-known .given (c .before .before .before .args .n + c .before .before .before .args .t))) (c .before .if1
+    .taken) (c .if2 .taken)
 
 add-work : tie.Need-add-work
 add-work c = omega (arith, c .if2 .left, c .before .before .slice-known .given (c .before .before .before .args .n + c .before .before .before .args .t))
@@ -36,10 +39,16 @@ same-length : tie.Need-same-length
 same-length c = search needs
 
 returns-2 : tie.Need-returns-2
-returns-2 c = up-goes (c .before .before .before .args .up) (c .before .before .before .args .n) (c .before .before .before .args .t) (c .before .before .before .args .work .now) (c .before .before .before .pre .0) (c .before .before .before .pre .1) (getD (c .before .before .before .args .work .now) (c .before .before .before .args .n + c .before .before .before .args .t) 0) refl (omega (arith, c .before .before .slice-known .given (c .before .before .before .args .n + c .before .before .before .args .t))) (c .before .if1 .taken) (c .if2 .left)
+returns-2 c = up-goes (c .before .before .before .args .up) (c .before .before .before .args .n) (c .before .before .before .args .t) (c .before .before .before .args .work .now)
+    (c .before .before .before .pre .0) (c .before .before .before .pre .1) (getD (c .before .before .before .args .work .now) (c .before .before .before .args .n + c .before
+    .before .before .args .t) 0) refl (omega (arith, c .before .before .slice-known .given (c .before .before .before .args .n + c .before .before .before .args .t))) (c .before
+    .if1 .taken) (c .if2 .left)
 
 returns-3 : tie.Need-returns-3
-returns-3 c = down-stops (c .before .before .before .args .up) (c .before .before .before .args .n) (c .before .before .before .args .t) (c .before .before .before .args .work .now) (c .before .before .before .pre .0) (c .before .before .before .pre .1) (getD (c .before .before .before .args .work .now) (c .before .before .before .args .n + c .before .before .before .args .t) 0) refl (omega (arith, c .before .before .slice-known .given (c .before .before .before .args .n + c .before .before .before .args .t))) (c .before .if1 .left) (c .if3 .taken)
+returns-3 c = down-stops (c .before .before .before .args .up) (c .before .before .before .args .n) (c .before .before .before .args .t) (c .before .before .before .args .work
+    .now) (c .before .before .before .pre .0) (c .before .before .before .pre .1) (getD (c .before .before .before .args .work .now) (c .before .before .before .args .n + c .before
+    .before .before .args .t) 0) refl (omega (arith, c .before .before .slice-known .given (c .before .before .before .args .n + c .before .before .before .args .t))) (c .before
+    .if1 .left) (c .if3 .taken)
 
 sub-work : tie.Need-sub-work
 sub-work c = search needs
@@ -54,7 +63,10 @@ same-length-2 : tie.Need-same-length-2
 same-length-2 c = search needs
 
 returns-4 : tie.Need-returns-4
-returns-4 c = down-goes (c .before .before .before .args .up) (c .before .before .before .args .n) (c .before .before .before .args .t) (c .before .before .before .args .work .now) (c .before .before .before .pre .0) (c .before .before .before .pre .1) (getD (c .before .before .before .args .work .now) (c .before .before .before .args .n + c .before .before .before .args .t) 0) refl (omega (arith, c .before .before .slice-known .given (c .before .before .before .args .n + c .before .before .before .args .t))) (c .before .if1 .left) (c .if3 .left)
+returns-4 c = down-goes (c .before .before .before .args .up) (c .before .before .before .args .n) (c .before .before .before .args .t) (c .before .before .before .args .work .now)
+    (c .before .before .before .pre .0) (c .before .before .before .pre .1) (getD (c .before .before .before .args .work .now) (c .before .before .before .args .n + c .before
+    .before .before .args .t) 0) refl (omega (arith, c .before .before .slice-known .given (c .before .before .before .args .n + c .before .before .before .args .t))) (c .before
+    .if1 .left) (c .if3 .left)
 
 pub own-mark-spec : {M : Type 1} → statement M
 own-mark-spec =

@@ -31,8 +31,10 @@ loop-holds : tie.Need-loop-holds Inv-loop μ-loop
 loop-holds c = (le-refl _, refl, λ ws v a. a)
 
 -- the row's tile is one of those lent
-below : (c : tie.In-loop Inv-loop μ-loop) → c .before .before .before .args .rows .first + (c .before .loop .y - c .before .before .before .args .rows .top) * c .before .before .before .args .rows .width < c .before .before .before .args .n
-below c = row-below (c .before .before .before .args .rows) (c .before .before .before .args .n) (c .before .loop .y) (c .before .before .before .pre .0) (c .before .loop .inv .0) (c .loop-test .taken)
+below : (c : tie.In-loop Inv-loop μ-loop) → c .before .before .before .args .rows .first + (c .before .loop .y - c .before .before .before .args .rows .top) * c .before .before
+    .before .args .rows .width < c .before .before .before .args .n
+below c = row-below (c .before .before .before .args .rows) (c .before .before .before .args .n) (c .before .loop .y) (c .before .before .before .pre .0) (c .before .loop .inv .0)
+    (c .loop-test .taken)
 
 sub-t : tie.Need-sub-t Inv-loop μ-loop
 sub-t c = omega (arith, c .before .loop .inv .0, c .before .before .before .pre .0 .below-top)
@@ -58,7 +60,10 @@ same-length c = c .before .before .before .before .before .own-mark .kept .0 ∙
 returns : tie.Need-returns Inv-loop μ-loop
 returns c =
     c .before .before .before .before .before .before .before .before .loop .inv .2 _ _
-    (turn-stops _ _ _ _ _ _ _ 0 _ (rows-turn (c .before .before .before .before .before .before .before .before .before .before .args .rows .first) (c .before .before .before .before .before .before .before .before .before .before .args .rows .top) (c .before .before .before .before .before .before .before .before .before .before .args .rows .width) (c .before .before .before .before .before .before .before .before .loop .y) _ (c .before .before .before .before .before .before .before .loop-test .taken)) (c .before .before .before .before .before .own-mark .ensures) _ (c .before .v .given .1) 0)
+    (turn-stops _ _ _ _ _ _ _ 0 _ (rows-turn (c .before .before .before .before .before .before .before .before .before .before .args .rows .first) (c .before .before .before
+    .before .before .before .before .before .before .before .args .rows .top) (c .before .before .before .before .before .before .before .before .before .before .args .rows
+    .width) (c .before .before .before .before .before .before .before .before .loop .y) _ (c .before .before .before .before .before .before .before .loop-test .taken)) (c
+    .before .before .before .before .before .own-mark .ensures) _ (c .before .v .given .1) 0)
 
 enum-told : tie.Need-enum-told Inv-loop μ-loop
 enum-told c = search needs
@@ -71,17 +76,21 @@ loop-less c = omega (arith, c .before .before .before .before .before .before .l
 
 loop-again : tie.Need-loop-again Inv-loop μ-loop
 loop-again c = (
-      omega (arith, c .before .before .before .before .before .before .before .loop .inv .0),
-      c .before .before .before .before .own-mark .kept .0 ∙ c .before .before .before .before .before .before .before .loop .inv .1,
-      λ ws v a. c .before .before .before .before .before .before .before .loop .inv .2 ws v
-          (turn-goes _ _ _ _ _ _ _ 0 _ (rows-turn (c .before .before .before .before .before .before .before .before .before .args .rows .first) (c .before .before .before .before .before .before .before .before .before .args .rows .top) (c .before .before .before .before .before .before .before .before .before .args .rows .width) (c .before .before .before .before .before .before .before .loop .y) _ (c .before .before .before .before .before .before .loop-test .taken)) (c .before .before .before .before .own-mark .ensures) (c .enum-told .given .1) ws 0 0 v refl a),
-    )
+  omega (arith, c .before .before .before .before .before .before .before .loop .inv .0),
+  c .before .before .before .before .own-mark .kept .0 ∙ c .before .before .before .before .before .before .before .loop .inv .1,
+  λ ws v a. c .before .before .before .before .before .before .before .loop .inv .2 ws v
+      (turn-goes _ _ _ _ _ _ _ 0 _ (rows-turn (c .before .before .before .before .before .before .before .before .before .args .rows .first) (c .before .before .before .before
+      .before .before .before .before .before .args .rows .top) (c .before .before .before .before .before .before .before .before .before .args .rows .width) (c .before
+      .before .before .before .before .before .before .loop .y) _ (c .before .before .before .before .before .before .loop-test .taken)) (c .before .before .before .before
+      .own-mark .ensures) (c .enum-told .given .1) ws 0 0 v refl a),
+)
 
 same-length-2 : tie.Need-same-length-2 Inv-loop μ-loop
 same-length-2 c = c .before .loop .inv .1
 
 returns-2 : tie.Need-returns-2 Inv-loop μ-loop
-returns-2 c = c .before .loop .inv .2 _ _ (turn-ends _ _ _ _ 0 (rows-end (c .before .before .before .args .rows .first) (c .before .before .before .args .rows .top) (c .before .before .before .args .rows .width) (c .before .loop .y) _ (c .loop-test .left)) refl)
+returns-2 c = c .before .loop .inv .2 _ _ (turn-ends _ _ _ _ 0 (rows-end (c .before .before .before .args .rows .first) (c .before .before .before .args .rows .top) (c .before
+    .before .before .args .rows .width) (c .before .loop .y) _ (c .loop-test .left)) refl)
 
 pub own-rows-spec : {M : Type 1} → statement M
 own-rows-spec =

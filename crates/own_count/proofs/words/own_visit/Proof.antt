@@ -18,7 +18,8 @@ slice-read-w : tie.Need-slice-read-w
 slice-read-w c = search needs
 
 returns : tie.Need-returns
-returns c = λ δ i. visit-stops δ i (c .before .before .args .n) (c .before .before .args .t) (c .before .before .args .work .now) (c .before .before .pre .0) (c .before .before .pre .1) (getD (c .before .before .args .work .now) (c .before .before .args .t) 0) refl (c .if1 .taken)
+returns c = λ δ i. visit-stops δ i (c .before .before .args .n) (c .before .before .args .t) (c .before .before .args .work .now) (c .before .before .pre .0) (c .before .before
+    .pre .1) (getD (c .before .before .args .work .now) (c .before .before .args .t) 0) refl (c .if1 .taken)
 
 add-work : tie.Need-add-work
 add-work c = search needs
@@ -33,7 +34,8 @@ same-length : tie.Need-same-length
 same-length c = search needs
 
 returns-2 : tie.Need-returns-2
-returns-2 c = λ δ i. visit-goes δ i (c .before .before .args .n) (c .before .before .args .t) (c .before .before .args .work .now) (c .before .before .pre .0) (c .before .before .pre .1) (getD (c .before .before .args .work .now) (c .before .before .args .t) 0) refl (c .if1 .left)
+returns-2 c = λ δ i. visit-goes δ i (c .before .before .args .n) (c .before .before .args .t) (c .before .before .args .work .now) (c .before .before .pre .0) (c .before .before
+    .pre .1) (getD (c .before .before .args .work .now) (c .before .before .args .t) 0) refl (c .if1 .left)
 
 pub own-visit-spec : {M : Type 1} → statement M
 own-visit-spec =

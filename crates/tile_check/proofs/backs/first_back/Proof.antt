@@ -53,13 +53,20 @@ same-back-requires : tie.Need-same-back-requires Inv-loop μ-loop
 same-back-requires c κs = search needs
 
 -- whether the tile's backdrop is at fault
-at : (c : tie.After-same-back Inv-loop μ-loop) → backFault (c .before .before .before .before .before .before .args .backs .now) (viewOf (length (c .before .before .before .before .before .before .args .backs .now)) (c .before .before .before .before .before .before .args .work .now) 0 .backs) (c .before .before .before .before .loop .t) ≡ not (c .same-back .result)
-at c = back-fault (c .before .before .before .before .before .before .args .backs .now) (c .before .before .before .before .before .before .args .work .now) (c .before .before .before .before .loop .t) (c .same-back .result) (c .before .before .before .before .before .before .pre) (c .before .before .before .loop-test .taken)
-    (back-told (getD (c .before .before .before .before .before .before .args .backs .now) (c .before .before .before .before .loop .t) (pos 0)) (getD (c .before .before .before .before .before .before .args .work .now) (length (c .before .before .before .before .before .before .args .backs .now) + c .before .before .before .before .loop .t) 0) (c .same-back .result) (c .before .before .same-back-arg .given) (c .same-back .ensures))
+at : (c : tie.After-same-back Inv-loop μ-loop) → backFault (c .before .before .before .before .before .before .args .backs .now) (viewOf (length (c .before .before .before .before
+    .before .before .args .backs .now)) (c .before .before .before .before .before .before .args .work .now) 0 .backs) (c .before .before .before .before .loop .t) ≡ not (c
+    .same-back .result)
+at c = back-fault (c .before .before .before .before .before .before .args .backs .now) (c .before .before .before .before .before .before .args .work .now) (c .before .before
+    .before .before .loop .t) (c .same-back .result) (c .before .before .before .before .before .before .pre) (c .before .before .before .loop-test .taken)
+    (back-told (getD (c .before .before .before .before .before .before .args .backs .now) (c .before .before .before .before .loop .t) (pos 0)) (getD (c .before .before .before
+    .before .before .before .args .work .now) (length (c .before .before .before .before .before .before .args .backs .now) + c .before .before .before .before .loop .t) 0) (c
+    .same-back .result) (c .before .before .same-back-arg .given) (c .same-back .ensures))
 
 returns : tie.Need-returns Inv-loop μ-loop
 returns c =
-    first-of (c .before .before .before .before .before .before .before .args .backs .now) (viewOf (length (c .before .before .before .before .before .before .before .args .backs .now)) (c .before .before .before .before .before .before .before .args .work .now) 0 .backs) (c .before .before .before .before .before .loop .t) (c .before .before .before .before .before .loop .inv .0) (λ h. at ((c .before)) ∙ c .if1 .taken) (c .before .before .before .before .before .loop .inv .1)
+    first-of (c .before .before .before .before .before .before .before .args .backs .now) (viewOf (length (c .before .before .before .before .before .before .before .args .backs
+    .now)) (c .before .before .before .before .before .before .before .args .work .now) 0 .backs) (c .before .before .before .before .before .loop .t) (c .before .before
+    .before .before .before .loop .inv .0) (λ h. at ((c .before)) ∙ c .if1 .taken) (c .before .before .before .before .before .loop .inv .1)
 
 add-t : tie.Need-add-t Inv-loop μ-loop
 add-t c = omega (arith, c .before .before .before .before .loop-test .taken)
@@ -68,10 +75,16 @@ loop-less : tie.Need-loop-less Inv-loop μ-loop
 loop-less c = omega (arith, c .before .before .before .before .loop-test .taken)
 
 loop-again : tie.Need-loop-again Inv-loop μ-loop
-loop-again c = (omega (arith, c .before .before .before .before .loop-test .taken), fine-more (backFault (c .before .before .before .before .before .before .before .args .backs .now) (viewOf (length (c .before .before .before .before .before .before .before .args .backs .now)) (c .before .before .before .before .before .before .before .args .work .now) 0 .backs)) (c .before .before .before .before .before .loop .t) (c .before .before .before .before .before .loop .inv .1) (at ((c .before)) ∙ c .if1 .left))
+loop-again c = (
+  omega (arith, c .before .before .before .before .loop-test .taken),
+  fine-more (backFault (c .before .before .before .before .before .before .before .args .backs
+      .now) (viewOf (length (c .before .before .before .before .before .before .before .args .backs .now)) (c .before .before .before .before .before .before .before .args .work
+      .now) 0 .backs)) (c .before .before .before .before .before .loop .t) (c .before .before .before .before .before .loop .inv .1) (at ((c .before)) ∙ c .if1 .left),
+)
 
 returns-2 : tie.Need-returns-2 Inv-loop μ-loop
-returns-2 c = first-of (c .before .before .before .args .backs .now) (viewOf (length (c .before .before .before .args .backs .now)) (c .before .before .before .args .work .now) 0 .backs) (c .before .loop .t) (c .before .loop .inv .0) (λ h. absurd (omega (arith, c .loop-test .left))) (c .before .loop .inv .1)
+returns-2 c = first-of (c .before .before .before .args .backs .now) (viewOf (length (c .before .before .before .args .backs .now)) (c .before .before .before .args .work .now) 0
+    .backs) (c .before .loop .t) (c .before .loop .inv .0) (λ h. absurd (omega (arith, c .loop-test .left))) (c .before .loop .inv .1)
 
 pub first-back-spec : {M : Type 1} → statement M
 first-back-spec =

@@ -13,10 +13,15 @@ returns : tie.Need-returns
 returns c = neg-high (c .before .before .args .b) (c .before .before .args .w) (rw (toZ-ofZ (c .before .before .fits .b)) at (c .before .if1 .taken)) (c .if2 .taken)
 
 sub-result : tie.Need-sub-result
-sub-result c = rw (toZ-ofZ (c .before .before .fits .b)) (neg-fits (c .before .before .args .b) (c .before .before .fits .b) (rw (toZ-ofZ (c .before .before .fits .b)) at (c .before .if1 .taken)))
+sub-result c = rw (toZ-ofZ (c .before .before .fits .b)) (neg-fits (c .before .before .args .b) (c .before .before .fits .b) (rw (toZ-ofZ (c .before .before .fits .b)) at (c
+    .before .if1 .taken)))
 
 cast-result : tie.Need-cast-result
-cast-result c = rw ((toZ-ofZ (c .before .before .fits .b)), toZ-ofZ (neg-fits (c .before .before .args .b) (c .before .before .fits .b) (rw (toZ-ofZ (c .before .before .fits .b)) at (c .before .if1 .taken)))) (neg-cast (c .before .before .args .b) (c .before .before .fits .b) (rw (toZ-ofZ (c .before .before .fits .b)) at (c .before .if1 .taken)))
+cast-result c = rw (
+  (toZ-ofZ (c .before .before .fits .b)),
+  toZ-ofZ (neg-fits (c .before .before .args .b) (c .before .before .fits .b) (rw (toZ-ofZ (c .before .before .fits .b))
+      at (c .before .if1 .taken))),
+) (neg-cast (c .before .before .args .b) (c .before .before .fits .b) (rw (toZ-ofZ (c .before .before .fits .b)) at (c .before .if1 .taken)))
 
 sub-result-2 : tie.Need-sub-result-2
 sub-result-2 c = search needs
@@ -25,16 +30,23 @@ sub-result-3 : tie.Need-sub-result-3
 sub-result-3 c = search needs
 
 returns-2 : tie.Need-returns-2
-returns-2 c = rw ((toZ-ofZ (c .before .before .fits .b)), toZ-ofZ (neg-fits (c .before .before .args .b) (c .before .before .fits .b) (rw (toZ-ofZ (c .before .before .fits .b)) at (c .before .if1 .taken)))) (neg-same (c .before .before .args .b) (c .before .before .args .w) (rw (toZ-ofZ (c .before .before .fits .b)) at (c .before .if1 .taken)) (c .if2 .left))
+returns-2 c = rw (
+  (toZ-ofZ (c .before .before .fits .b)),
+  toZ-ofZ (neg-fits (c .before .before .args .b) (c .before .before .fits .b) (rw (toZ-ofZ (c .before .before .fits .b)) at
+      (c .before .if1 .taken))),
+) (neg-same (c .before .before .args .b) (c .before .before .args .w) (rw (toZ-ofZ (c .before .before .fits .b)) at (c .before .if1 .taken)) (c .if2
+    .left))
 
 returns-3 : tie.Need-returns-3
 returns-3 c = pos-low (c .before .before .args .b) (c .before .before .args .w) (rw (toZ-ofZ (c .before .before .fits .b)) at (c .before .if1 .left)) (c .if3 .taken)
 
 cast-result-2 : tie.Need-cast-result-2
-cast-result-2 c = rw (toZ-ofZ (c .before .before .fits .b)) (pos-cast (c .before .before .args .b) (c .before .before .fits .b) (rw (toZ-ofZ (c .before .before .fits .b)) at (c .before .if1 .left)))
+cast-result-2 c = rw (toZ-ofZ (c .before .before .fits .b)) (pos-cast (c .before .before .args .b) (c .before .before .fits .b) (rw (toZ-ofZ (c .before .before .fits .b)) at (c
+    .before .if1 .left)))
 
 returns-4 : tie.Need-returns-4
-returns-4 c = rw (toZ-ofZ (c .before .before .fits .b)) (pos-same (c .before .before .args .b) (c .before .before .args .w) (rw (toZ-ofZ (c .before .before .fits .b)) at (c .before .if1 .left)) (c .if3 .left))
+returns-4 c = rw (toZ-ofZ (c .before .before .fits .b)) (pos-same (c .before .before .args .b) (c .before .before .args .w) (rw (toZ-ofZ (c .before .before .fits .b)) at (c .before
+    .if1 .left)) (c .if3 .left))
 
 pub same-back-spec : {M : Type 1} → statement M
 same-back-spec =

@@ -17,7 +17,10 @@ enum-known-v : tie.Need-enum-known-v
 enum-known-v c = search needs
 
 returns : tie.Need-returns
-returns c = asked-lent (c .before .before .before .before .before .args .paths .now) (c .before .before .before .before .before .args .nn) (c .before .before .before .before .before .args .nc) (c .before .before .before .before .before .args .nr) (c .before .before .before .before .before .args .nt) (c .before .before .before .before .before .args .nb) (c .before .before .before .before .before .args .ns) (c .before .before .before .before .before .args .nw) (c .before .before .before .check-lent .result) (c .before .before .before .check-lent .ensures) _ (c .before .v .given .1)
+returns c = asked-lent (c .before .before .before .before .before .args .paths .now) (c .before .before .before .before .before .args .nn) (c .before .before .before .before
+    .before .args .nc) (c .before .before .before .before .before .args .nr) (c .before .before .before .before .before .args .nt) (c .before .before .before .before .before .args
+    .nb) (c .before .before .before .before .before .args .ns) (c .before .before .before .before .before .args .nw) (c .before .before .before .check-lent .result) (c .before
+    .before .before .check-lent .ensures) _ (c .before .v .given .1)
 
 enum-told : tie.Need-enum-told
 enum-told c = search needs
@@ -32,16 +35,33 @@ enum-told-3 : tie.Need-enum-told-3
 enum-told-3 c = search needs
 
 returns-2 : tie.Need-returns-2
-returns-2 c = asked-path (c .before .before .before .before .before .before .before .args .paths .now) (c .before .before .before .before .before .before .before .args .nn) (c .before .before .before .before .before .before .before .args .nc) (c .before .before .before .before .before .before .before .args .nr) (c .before .before .before .before .before .before .before .args .nt) (c .before .before .before .before .before .before .before .args .nb) (c .before .before .before .before .before .before .before .args .ns) (c .before .before .before .before .before .before .before .args .nw) (c .before .before .before .before .before .check-lent .result) (c .before .before .before .before .before .check-lent .ensures) (c .before .before .before .enum-told .given .1) (c .before .before .check-paths .result) (c .before .before .check-paths .ensures) _ _ (c .enum-told3 .given .1)
+returns-2 c = asked-path (c .before .before .before .before .before .before .before .args .paths .now) (c .before .before .before .before .before .before .before .args .nn) (c
+    .before .before .before .before .before .before .before .args .nc) (c .before .before .before .before .before .before .before .args .nr) (c .before .before .before .before
+    .before .before .before .args .nt) (c .before .before .before .before .before .before .before .args .nb) (c .before .before .before .before .before .before .before .args .ns)
+    (c .before .before .before .before .before .before .before .args .nw) (c .before .before .before .before .before .check-lent .result) (c .before .before .before .before .before
+    .check-lent .ensures) (c .before .before .before .enum-told .given .1) (c .before .before .check-paths .result) (c .before .before .check-paths .ensures) _ _ (c .enum-told3
+    .given .1)
 
 has-room-requires : tie.Need-has-room-requires
 has-room-requires c κs = search needs
 
 returns-3 : tie.Need-returns-3
-returns-3 c = asked-fine (c .before .before .before .before .before .before .before .before .before .args .paths .now) (c .before .before .before .before .before .before .before .before .before .args .nn) (c .before .before .before .before .before .before .before .before .before .args .nc) (c .before .before .before .before .before .before .before .before .before .args .nr) (c .before .before .before .before .before .before .before .before .before .args .nt) (c .before .before .before .before .before .before .before .before .before .args .nb) (c .before .before .before .before .before .before .before .before .before .args .ns) (c .before .before .before .before .before .before .before .before .before .args .nw) (c .before .before .before .before .before .before .before .check-lent .result) (c .before .before .before .before .before .before .before .check-lent .ensures) (c .before .before .before .before .before .enum-told .given .1) (c .before .before .before .before .check-paths .result) (c .before .before .before .before .check-paths .ensures) (c .before .has-room .result) (c .before .has-room .ensures) (c .before .before .enum-told2 .given .1) (c .if1 .taken)
+returns-3 c = asked-fine (c .before .before .before .before .before .before .before .before .before .args .paths .now) (c .before .before .before .before .before .before .before
+    .before .before .args .nn) (c .before .before .before .before .before .before .before .before .before .args .nc) (c .before .before .before .before .before .before .before
+    .before .before .args .nr) (c .before .before .before .before .before .before .before .before .before .args .nt) (c .before .before .before .before .before .before .before
+    .before .before .args .nb) (c .before .before .before .before .before .before .before .before .before .args .ns) (c .before .before .before .before .before .before .before
+    .before .before .args .nw) (c .before .before .before .before .before .before .before .check-lent .result) (c .before .before .before .before .before .before .before
+    .check-lent .ensures) (c .before .before .before .before .before .enum-told .given .1) (c .before .before .before .before .check-paths .result) (c .before .before .before
+    .before .check-paths .ensures) (c .before .has-room .result) (c .before .has-room .ensures) (c .before .before .enum-told2 .given .1) (c .if1 .taken)
 
 returns-4 : tie.Need-returns-4
-returns-4 c = asked-room (c .before .before .before .before .before .before .before .before .before .args .paths .now) (c .before .before .before .before .before .before .before .before .before .args .nn) (c .before .before .before .before .before .before .before .before .before .args .nc) (c .before .before .before .before .before .before .before .before .before .args .nr) (c .before .before .before .before .before .before .before .before .before .args .nt) (c .before .before .before .before .before .before .before .before .before .args .nb) (c .before .before .before .before .before .before .before .before .before .args .ns) (c .before .before .before .before .before .before .before .before .before .args .nw) (c .before .before .before .before .before .before .before .check-lent .result) (c .before .before .before .before .before .before .before .check-lent .ensures) (c .before .before .before .before .before .enum-told .given .1) (c .before .before .before .before .check-paths .result) (c .before .before .before .before .check-paths .ensures) (c .before .has-room .result) (c .before .has-room .ensures) (c .before .before .enum-told2 .given .1) (c .if1 .left)
+returns-4 c = asked-room (c .before .before .before .before .before .before .before .before .before .args .paths .now) (c .before .before .before .before .before .before .before
+    .before .before .args .nn) (c .before .before .before .before .before .before .before .before .before .args .nc) (c .before .before .before .before .before .before .before
+    .before .before .args .nr) (c .before .before .before .before .before .before .before .before .before .args .nt) (c .before .before .before .before .before .before .before
+    .before .before .args .nb) (c .before .before .before .before .before .before .before .before .before .args .ns) (c .before .before .before .before .before .before .before
+    .before .before .args .nw) (c .before .before .before .before .before .before .before .check-lent .result) (c .before .before .before .before .before .before .before
+    .check-lent .ensures) (c .before .before .before .before .before .enum-told .given .1) (c .before .before .before .before .check-paths .result) (c .before .before .before
+    .before .check-paths .ensures) (c .before .has-room .result) (c .before .has-room .ensures) (c .before .before .enum-told2 .given .1) (c .if1 .left)
 
 pub asked-spec : {M : Type 1} → statement M
 asked-spec =

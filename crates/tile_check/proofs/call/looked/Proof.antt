@@ -25,22 +25,60 @@ enum-known-own-2 c = search needs
 
 look-requires : tie.Need-look-requires
 look-requires c κs =
-    let m = subst (OwnMet (c .before .before .before .before .before .before .before .before .before .before .before .before .before .before .before .args .path-nos .now) (c .before .before .before .before .before .before .before .before .before .before .before .before .before .before .before .args .coords .now) (c .before .before .before .before .before .before .before .before .before .before .before .before .before .before .before .args .paths .now) (length (c .before .before .before .before .before .before .before .before .before .before .before .before .before .before .before .args .counts .now)) (c .before .before .before .before .before .before .own-count .last .1 .1 .1 .1 .0)) (c .before .before .own2 .given .1) (c .before .before .before .before .before .before .own-count .ensures) in
-    (m .0, m .1, c .before .before .before .before .before .before .before .before .before .before .before .before .before .before .before .pre .0, c .before .before .before .before .before .before .before .before .before .before .before .before .before .before .before .pre .1, c .before .before .before .before .before .before .before .before .before .before .before .before .before .before .before .pre .2, c .before .before .before .before .before .before .before .before .before .before .before .before .before .before .before .pre .3, c .before .before .before .before .before .before .own-count .kept .1 .1 .1 .1 .0 ∙ c .before .before .before .before .before .before .before .before .before .before .before .before .before .before .before .pre .4)
+    let m = subst (OwnMet (c .before .before .before .before .before .before .before .before .before .before .before .before .before .before .before .args .path-nos .now) (c
+    .before .before .before .before .before .before .before .before .before .before .before .before .before .before .before .args .coords .now) (c .before .before .before
+    .before .before .before .before .before .before .before .before .before .before .before .before .args .paths .now) (length (c .before .before .before .before .before
+    .before .before .before .before .before .before .before .before .before .before .args .counts .now)) (c .before .before .before .before .before .before .own-count .last .1
+    .1 .1 .1 .0)) (c .before .before .own2 .given .1) (c .before .before .before .before .before .before .own-count .ensures) in (
+      m .0,
+      m .1,
+      c .before .before .before .before .before .before .before .before .before .before .before .before .before .before .before .pre .0,
+      c .before .before .before
+          .before .before .before .before .before .before .before .before .before .before .before .before .pre .1,
+      c .before .before .before .before .before .before .before .before
+          .before .before .before .before .before .before .before .pre .2,
+      c .before .before .before .before .before .before .before .before .before .before .before .before .before
+          .before .before .pre .3,
+      c .before .before .before .before .before .before .own-count .kept .1 .1 .1 .1 .0 ∙ c .before .before .before .before .before .before .before
+          .before .before .before .before .before .before .before .before .pre .4,
+    )
 
 same-length : tie.Need-same-length
 same-length c = search needs
 
 returns : tie.Need-returns
-returns c = looked-refused (c .before .before .before .before .before .before .before .before .before .before .before .before .before .before .args .path-nos .now) (c .before .before .before .before .before .before .before .before .before .before .before .before .before .before .args .coords .now) (c .before .before .before .before .before .before .before .before .before .before .before .before .before .before .args .paths .now) (c .before .before .before .before .before .before .before .before .before .before .before .before .before .before .args .refs .now) (c .before .before .before .before .before .before .before .before .before .before .before .before .before .before .args .counts .now) (c .before .before .before .before .before .before .before .before .before .before .before .before .before .before .args .backs .now) (c .before .before .before .before .before .before .before .before .before .before .before .before .before .before .args .stored .now) (c .before .before .before .before .before .before .before .before .before .before .before .before .before .before .args .room) (c .before .before .before .before .before .own-count .last .1 .1 .1 .1 .0) _ _ (subst (OwnMet (c .before .before .before .before .before .before .before .before .before .before .before .before .before .before .args .path-nos .now) (c .before .before .before .before .before .before .before .before .before .before .before .before .before .before .args .coords .now) (c .before .before .before .before .before .before .before .before .before .before .before .before .before .before .args .paths .now) (length (c .before .before .before .before .before .before .before .before .before .before .before .before .before .before .args .counts .now)) (c .before .before .before .before .before .own-count .last .1 .1 .1 .1 .0)) (c .before .own .given .1) (c .before .before .before .before .before .own-count .ensures))
+returns c = looked-refused (c .before .before .before .before .before .before .before .before .before .before .before .before .before .before .args .path-nos .now) (c .before
+    .before .before .before .before .before .before .before .before .before .before .before .before .before .args .coords .now) (c .before .before .before .before .before .before
+    .before .before .before .before .before .before .before .before .args .paths .now) (c .before .before .before .before .before .before .before .before .before .before .before
+    .before .before .before .args .refs .now) (c .before .before .before .before .before .before .before .before .before .before .before .before .before .before .args .counts .now)
+    (c .before .before .before .before .before .before .before .before .before .before .before .before .before .before .args .backs .now) (c .before .before .before .before .before
+    .before .before .before .before .before .before .before .before .before .args .stored .now) (c .before .before .before .before .before .before .before .before .before .before
+    .before .before .before .before .args .room) (c .before .before .before .before .before .own-count .last .1 .1 .1 .1 .0) _ _ (subst (OwnMet (c .before .before .before .before
+    .before .before .before .before .before .before .before .before .before .before .args .path-nos .now) (c .before .before .before .before .before .before .before .before .before
+    .before .before .before .before .before .args .coords .now) (c .before .before .before .before .before .before .before .before .before .before .before .before .before .before
+    .args .paths .now) (length (c .before .before .before .before .before .before .before .before .before .before .before .before .before .before .args .counts .now)) (c .before
+    .before .before .before .before .own-count .last .1 .1 .1 .1 .0)) (c .before .own .given .1) (c .before .before .before .before .before .own-count .ensures))
 
 same-length-2 : tie.Need-same-length-2
 same-length-2 c = search needs
 
 returns-2 : tie.Need-returns-2
 returns-2 c =
-    let m = subst (OwnMet (c .before .before .before .before .before .before .before .before .before .before .before .before .before .before .before .before .before .before .args .path-nos .now) (c .before .before .before .before .before .before .before .before .before .before .before .before .before .before .before .before .before .before .args .coords .now) (c .before .before .before .before .before .before .before .before .before .before .before .before .before .before .before .before .before .before .args .paths .now) (length (c .before .before .before .before .before .before .before .before .before .before .before .before .before .before .before .before .before .before .args .counts .now)) (c .before .before .before .before .before .before .before .before .before .own-count .last .1 .1 .1 .1 .0)) (c .before .before .before .before .before .own2 .given .1) (c .before .before .before .before .before .before .before .before .before .own-count .ensures) in
-    looked-done (c .before .before .before .before .before .before .before .before .before .before .before .before .before .before .before .before .before .before .args .path-nos .now) (c .before .before .before .before .before .before .before .before .before .before .before .before .before .before .before .before .before .before .args .coords .now) (c .before .before .before .before .before .before .before .before .before .before .before .before .before .before .before .before .before .before .args .paths .now) (c .before .before .before .before .before .before .before .before .before .before .before .before .before .before .before .before .before .before .args .refs .now) (c .before .before .before .before .before .before .before .before .before .before .before .before .before .before .before .before .before .before .args .counts .now) (c .before .before .before .before .before .before .before .before .before .before .before .before .before .before .before .before .before .before .args .backs .now) (c .before .before .before .before .before .before .before .before .before .before .before .before .before .before .before .before .before .before .args .stored .now) (c .before .before .before .before .before .before .before .before .before .before .before .before .before .before .before .before .before .before .args .room) (c .before .before .before .before .before .before .before .before .before .own-count .last .1 .1 .1 .1 .0) _ (c .before .before .look .result) (m .0) (c .before .before .look .ensures)
+    let m = subst (OwnMet (c .before .before .before .before .before .before .before .before .before .before .before .before .before .before .before .before .before .before .args
+    .path-nos .now) (c .before .before .before .before .before .before .before .before .before .before .before .before .before .before .before .before .before .before .args
+    .coords .now) (c .before .before .before .before .before .before .before .before .before .before .before .before .before .before .before .before .before .before .args
+    .paths .now) (length (c .before .before .before .before .before .before .before .before .before .before .before .before .before .before .before .before .before .before
+    .args .counts .now)) (c .before .before .before .before .before .before .before .before .before .own-count .last .1 .1 .1 .1 .0)) (c .before .before .before .before .before
+    .own2 .given .1) (c .before .before .before .before .before .before .before .before .before .own-count .ensures) in
+    looked-done (c .before .before .before .before .before .before .before .before .before .before .before .before .before .before .before .before .before .before .args .path-nos
+    .now) (c .before .before .before .before .before .before .before .before .before .before .before .before .before .before .before .before .before .before .args .coords .now)
+    (c .before .before .before .before .before .before .before .before .before .before .before .before .before .before .before .before .before .before .args .paths .now) (c
+    .before .before .before .before .before .before .before .before .before .before .before .before .before .before .before .before .before .before .args .refs .now) (c .before
+    .before .before .before .before .before .before .before .before .before .before .before .before .before .before .before .before .before .args .counts .now) (c .before
+    .before .before .before .before .before .before .before .before .before .before .before .before .before .before .before .before .before .args .backs .now) (c .before
+    .before .before .before .before .before .before .before .before .before .before .before .before .before .before .before .before .before .args .stored .now) (c .before
+    .before .before .before .before .before .before .before .before .before .before .before .before .before .before .before .before .before .args .room) (c .before .before
+    .before .before .before .before .before .before .before .own-count .last .1 .1 .1 .1 .0) _ (c .before .before .look .result) (m .0) (c .before .before .look .ensures)
 
 pub looked-spec : {M : Type 1} → statement M
 looked-spec =

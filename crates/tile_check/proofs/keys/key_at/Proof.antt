@@ -27,16 +27,25 @@ named-at-requires c κs = search needs
 
 made-at-requires : tie.Need-made-at-requires
 unfolding stepRange
-made-at-requires c κs = (c .before .before .before .before .before .before .before .before .pre .3, (c .before .before .before .before .before .before .before .before .args .tiles, c .before .before .before .before .before .before .before .before .pre .2), omega (arith, c .before .step-of .ensures))
+made-at-requires c κs = (
+  c .before .before .before .before .before .before .before .before .pre .3,
+  (
+    c .before .before .before .before .before .before .before .before .args .tiles,
+    c .before .before .before .before .before .before .before .before .pre .2,
+  ),
+  omega (arith, c .before .step-of .ensures),
+)
 
 place-in-requires : tie.Need-place-in-requires
 place-in-requires c κs = (
-      c .before .before .before .before .before .before .before .before .before .pre .0,
-      c .before .before .before .before .before .before .before .before .before .pre .1,
-      c .before .before .before .before .before .before .before .before .before .pre .4,
-      c .made-at .ensures
-          ∙ ap₂ (madeOf (c .before .before .before .before .before .before .before .before .before .args .path-nos .now) (c .before .before .before .before .before .before .before .before .before .args .coords .now) (c .before .before .before .before .before .before .before .before .before .args .paths .now)) (c .before .named-at .ensures) (c .before .before .step-of .ensures ∙ ap stepNo (c .before .before .before .packed-at .ensures)),
-    )
+  c .before .before .before .before .before .before .before .before .before .pre .0,
+  c .before .before .before .before .before .before .before .before .before .pre .1,
+  c .before .before .before .before .before .before .before .before .before .pre .4,
+  c .made-at .ensures
+      ∙ ap₂ (madeOf (c .before .before .before .before .before .before .before .before .before .args .path-nos .now) (c .before .before .before .before .before .before .before
+      .before .before .args .coords .now) (c .before .before .before .before .before .before .before .before .before .args .paths .now)) (c .before .named-at .ensures) (c
+      .before .before .step-of .ensures ∙ ap stepNo (c .before .before .before .packed-at .ensures)),
+)
 
 returns : tie.Need-returns
 returns c = search needs

@@ -20,13 +20,23 @@ enum-told : tie.Need-enum-told
 enum-told c = search needs
 
 returns : tie.Need-returns
-returns c = place-none (c .before .before .before .before .before .before .before .args .path-nos .now) (c .before .before .before .before .before .before .before .args .coords .now) (c .before .before .before .before .before .before .before .args .paths .now) (c .before .before .before .before .before .before .before .args .tiles) (c .before .before .before .before .before .before .before .args .made) (c .before .before .before .before .before .before .before .args .work .now) (c .before .before .before .before .before .before .before .args .refs .now) (c .before .before .before .before .before .before .before .args .j) (c .before .before .before .before .before .before .before .args .found) (c .before .before .before .before .before .before .before .pre .3) (c .enum-told .given .1)
+returns c = place-none (c .before .before .before .before .before .before .before .args .path-nos .now) (c .before .before .before .before .before .before .before .args .coords
+    .now) (c .before .before .before .before .before .before .before .args .paths .now) (c .before .before .before .before .before .before .before .args .tiles) (c .before .before
+    .before .before .before .before .before .args .made) (c .before .before .before .before .before .before .before .args .work .now) (c .before .before .before .before .before
+    .before .before .args .refs .now) (c .before .before .before .before .before .before .before .args .j) (c .before .before .before .before .before .before .before .args .found)
+    (c .before .before .before .before .before .before .before .pre .3) (c .enum-told .given .1)
 
 cast-t : tie.Need-cast-t
 cast-t c = search needs
 
 returns-2 : tie.Need-returns-2
-returns-2 c = place-past (c .before .before .before .before .before .before .before .before .before .args .path-nos .now) (c .before .before .before .before .before .before .before .before .before .args .coords .now) (c .before .before .before .before .before .before .before .before .before .args .paths .now) (c .before .before .before .before .before .before .before .before .before .args .tiles) (c .before .before .before .before .before .before .before .before .before .args .made) (c .before .before .before .before .before .before .before .before .before .args .work .now) (c .before .before .before .before .before .before .before .before .before .args .refs .now) (c .before .before .before .before .before .before .before .before .before .args .j) (c .before .before .before .before .before .before .before .before .before .args .found) (c .before .before .before .before .before .before .before .before .before .pre .3) (c .before .before .found .given .0 .0) (c .before .before .found .given .0 .1 .0) (c .before .before .found .given .1) (c .if1 .taken)
+returns-2 c = place-past (c .before .before .before .before .before .before .before .before .before .args .path-nos .now) (c .before .before .before .before .before .before .before
+    .before .before .args .coords .now) (c .before .before .before .before .before .before .before .before .before .args .paths .now) (c .before .before .before .before .before
+    .before .before .before .before .args .tiles) (c .before .before .before .before .before .before .before .before .before .args .made) (c .before .before .before .before .before
+    .before .before .before .before .args .work .now) (c .before .before .before .before .before .before .before .before .before .args .refs .now) (c .before .before .before
+    .before .before .before .before .before .before .args .j) (c .before .before .before .before .before .before .before .before .before .args .found) (c .before .before .before
+    .before .before .before .before .before .before .pre .3) (c .before .before .found .given .0 .0) (c .before .before .found .given .0 .1 .0) (c .before .before .found .given .1)
+    (c .if1 .taken)
 
 packed-at-requires : tie.Need-packed-at-requires
 packed-at-requires c κs = search needs
@@ -41,7 +51,16 @@ shared-slice-read-if2 : tie.Need-shared-slice-read-if2
 shared-slice-read-if2 c = search needs
 
 returns-3 : tie.Need-returns-3
-returns-3 c = place-full (c .before .before .before .before .before .before .before .before .before .before .before .before .before .args .path-nos .now) (c .before .before .before .before .before .before .before .before .before .before .before .before .before .args .coords .now) (c .before .before .before .before .before .before .before .before .before .before .before .before .before .args .paths .now) (c .before .before .before .before .before .before .before .before .before .before .before .before .before .args .tiles) (c .before .before .before .before .before .before .before .before .before .before .before .before .before .args .made) (c .before .before .before .before .before .before .before .before .before .before .before .before .before .args .work .now) (c .before .before .before .before .before .before .before .before .before .before .before .before .before .args .refs .now) (c .before .before .before .before .before .before .before .before .before .before .before .before .before .args .j) (c .before .before .before .before .before .before .before .before .before .before .before .before .before .args .found) (c .before .before .before .before .before .before .before .before .before .before .before .before .before .pre .3) (c .before .before .before .before .before .before .found .given .0 .0) (c .before .before .before .before .before .before .found .given .0 .1 .0) (c .before .before .before .before .before .before .found .given .1) (c .before .before .before .before .if1 .left) (c .before .before .slice-of .result) (c .before .before .slice-of .ensures ∙ ap sliceNo (c .before .before .before .packed-at .ensures)) (c .if2 .taken)
+returns-3 c = place-full (c .before .before .before .before .before .before .before .before .before .before .before .before .before .args .path-nos .now) (c .before .before .before
+    .before .before .before .before .before .before .before .before .before .before .args .coords .now) (c .before .before .before .before .before .before .before .before .before
+    .before .before .before .before .args .paths .now) (c .before .before .before .before .before .before .before .before .before .before .before .before .before .args .tiles) (c
+    .before .before .before .before .before .before .before .before .before .before .before .before .before .args .made) (c .before .before .before .before .before .before .before
+    .before .before .before .before .before .before .args .work .now) (c .before .before .before .before .before .before .before .before .before .before .before .before .before
+    .args .refs .now) (c .before .before .before .before .before .before .before .before .before .before .before .before .before .args .j) (c .before .before .before .before
+    .before .before .before .before .before .before .before .before .before .args .found) (c .before .before .before .before .before .before .before .before .before .before .before
+    .before .before .pre .3) (c .before .before .before .before .before .before .found .given .0 .0) (c .before .before .before .before .before .before .found .given .0 .1 .0) (c
+    .before .before .before .before .before .before .found .given .1) (c .before .before .before .before .if1 .left) (c .before .before .slice-of .result) (c .before .before
+    .slice-of .ensures ∙ ap sliceNo (c .before .before .before .packed-at .ensures)) (c .if2 .taken)
 
 named-at-requires : tie.Need-named-at-requires
 named-at-requires c κs = search needs
@@ -62,7 +81,24 @@ mul-start : tie.Need-mul-start
 mul-start c = search needs
 
 shared-slice-read-start : tie.Need-shared-slice-read-start
-shared-slice-read-start c = omega (arith, line-there (c .before .before .before .before .before .before .before .before .before .before .before .before .before .before .before .args .path-nos .now) (c .before .before .before .before .before .before .before .before .before .before .before .before .before .before .before .args .coords .now) (c .before .before .before .before .before .before .before .before .before .before .before .before .before .before .before .args .paths .now) (c .before .before .before .before .before .before .before .before .before .before .before .before .before .before .before .args .tiles) (c .before .before .before .before .before .before .before .before .before .before .before .before .before .before .before .args .made) (c .before .before .before .before .before .before .before .before .before .before .before .before .before .before .before .args .work .now) (c .before .before .before .before .before .before .before .before .before .before .before .before .before .before .before .args .refs .now) (c .before .before .before .before .before .before .before .before .before .before .before .before .before .before .before .args .j) (c .before .before .before .before .before .before .before .before .before .before .before .before .before .before .before .args .found) (c .before .before .before .before .before .before .before .before .before .before .before .before .before .before .before .pre .3) (c .before .before .before .before .before .before .before .before .found .given .0 .0) (c .before .before .before .before .before .before .before .before .found .given .0 .1 .0) (c .before .before .before .before .before .before .before .before .found .given .1) (c .before .before .before .before .before .before .if1 .left) (c .before .before .before .before .slice-of .result) (c .before .before .before .before .slice-of .ensures ∙ ap sliceNo (c .before .before .before .before .before .packed-at .ensures)) (c .before .before .before .before .before .before .before .before .before .before .before .before .before .before .before .pre .0) (c .before .before .if2 .left) (c .before .named-at .result) (c .before .named-at .ensures), c .before .before .before .before .before .before .before .before .before .before .before .before .before .before .before .pre .1)
+shared-slice-read-start c = omega (
+  arith,
+  line-there (c .before .before .before .before .before .before .before .before .before .before .before .before .before .before .before
+      .args .path-nos .now) (c .before .before .before .before .before .before .before .before .before .before .before .before .before .before .before .args .coords .now) (c .before
+      .before .before .before .before .before .before .before .before .before .before .before .before .before .before .args .paths .now) (c .before .before .before .before .before
+      .before .before .before .before .before .before .before .before .before .before .args .tiles) (c .before .before .before .before .before .before .before .before .before .before
+      .before .before .before .before .before .args .made) (c .before .before .before .before .before .before .before .before .before .before .before .before .before .before .before
+      .args .work .now) (c .before .before .before .before .before .before .before .before .before .before .before .before .before .before .before .args .refs .now) (c .before
+      .before .before .before .before .before .before .before .before .before .before .before .before .before .before .args .j) (c .before .before .before .before .before .before
+      .before .before .before .before .before .before .before .before .before .args .found) (c .before .before .before .before .before .before .before .before .before .before .before
+      .before .before .before .before .pre .3) (c .before .before .before .before .before .before .before .before .found .given .0 .0) (c .before .before .before .before .before
+      .before .before .before .found .given .0 .1 .0) (c .before .before .before .before .before .before .before .before .found .given .1) (c .before .before .before .before .before
+      .before .if1 .left) (c .before .before .before .before .slice-of .result) (c .before .before .before .before .slice-of .ensures ∙ ap sliceNo (c .before .before .before .before
+      .before .packed-at .ensures)) (c .before .before .before .before .before .before .before .before .before .before .before .before .before .before .before .pre .0) (c .before
+      .before .if2 .left) (c .before .named-at .result) (c .before .named-at .ensures),
+  c .before .before .before .before .before .before .before .before .before .before .before
+      .before .before .before .before .pre .1,
+)
 
 add-first : tie.Need-add-first
 add-first c = search needs
@@ -74,13 +110,58 @@ shared-slice-read-first : tie.Need-shared-slice-read-first
 shared-slice-read-first c = search needs
 
 add-t20 : tie.Need-add-t20
-add-t20 c = omega (arith, step-small (c .before .before .before .before .before .before .before .before .before .before .before .before .before .before .before .before .args .path-nos .now) (c .before .before .before .before .before .before .before .before .before .before .before .before .before .before .before .before .args .coords .now) (c .before .before .before .before .before .before .before .before .before .before .before .before .before .before .before .before .args .paths .now) (c .before .before .before .before .before .before .before .before .before .before .before .before .before .before .before .before .args .tiles) (c .before .before .before .before .before .before .before .before .before .before .before .before .before .before .before .before .args .made) (c .before .before .before .before .before .before .before .before .before .before .before .before .before .before .before .before .args .work .now) (c .before .before .before .before .before .before .before .before .before .before .before .before .before .before .before .before .args .refs .now) (c .before .before .before .before .before .before .before .before .before .before .before .before .before .before .before .before .args .j) (c .before .before .before .before .before .before .before .before .before .before .before .before .before .before .before .before .args .found) (c .before .before .before .before .before .before .before .before .before .before .before .before .before .before .before .before .pre .3) (c .before .before .before .before .before .before .before .before .before .found .given .0 .0) (c .before .before .before .before .before .before .before .before .before .found .given .0 .1 .0) (c .before .before .before .before .before .before .before .before .before .found .given .1) (c .before .before .before .before .before .before .before .if1 .left) (c .before .before .before .before .before .slice-of .result) (c .before .before .before .before .before .slice-of .ensures ∙ ap sliceNo (c .before .before .before .before .before .before .packed-at .ensures)) (c .before .before .before .before .before .before .before .before .before .before .before .before .before .before .before .before .pre .0) (c .before .before .before .if2 .left) (c .before .before .named-at .result) (c .before .before .named-at .ensures))
+add-t20 c = omega (
+  arith,
+  step-small (c .before .before .before .before .before .before .before .before .before .before .before .before .before .before .before .before .args
+      .path-nos .now) (c .before .before .before .before .before .before .before .before .before .before .before .before .before .before .before .before .args .coords .now) (c
+      .before .before .before .before .before .before .before .before .before .before .before .before .before .before .before .before .args .paths .now) (c .before .before .before
+      .before .before .before .before .before .before .before .before .before .before .before .before .before .args .tiles) (c .before .before .before .before .before .before .before
+      .before .before .before .before .before .before .before .before .before .args .made) (c .before .before .before .before .before .before .before .before .before .before .before
+      .before .before .before .before .before .args .work .now) (c .before .before .before .before .before .before .before .before .before .before .before .before .before .before
+      .before .before .args .refs .now) (c .before .before .before .before .before .before .before .before .before .before .before .before .before .before .before .before .args .j)
+      (c .before .before .before .before .before .before .before .before .before .before .before .before .before .before .before .before .args .found) (c .before .before .before
+      .before .before .before .before .before .before .before .before .before .before .before .before .before .pre .3) (c .before .before .before .before .before .before .before
+      .before .before .found .given .0 .0) (c .before .before .before .before .before .before .before .before .before .found .given .0 .1 .0) (c .before .before .before .before
+      .before .before .before .before .before .found .given .1) (c .before .before .before .before .before .before .before .if1 .left) (c .before .before .before .before .before
+      .slice-of .result) (c .before .before .before .before .before .slice-of .ensures ∙ ap sliceNo (c .before .before .before .before .before .before .packed-at .ensures)) (c
+      .before .before .before .before .before .before .before .before .before .before .before .before .before .before .before .before .pre .0) (c .before .before .before .if2 .left)
+      (c .before .before .named-at .result) (c .before .before .named-at .ensures),
+)
 
 add-t26 : tie.Need-add-t26
-add-t26 c = omega (arith, slice-small (c .before .before .before .before .before .before .before .before .before .before .before .before .before .before .before .before .args .path-nos .now) (c .before .before .before .before .before .before .before .before .before .before .before .before .before .before .before .before .args .coords .now) (c .before .before .before .before .before .before .before .before .before .before .before .before .before .before .before .before .args .paths .now) (c .before .before .before .before .before .before .before .before .before .before .before .before .before .before .before .before .args .tiles) (c .before .before .before .before .before .before .before .before .before .before .before .before .before .before .before .before .args .made) (c .before .before .before .before .before .before .before .before .before .before .before .before .before .before .before .before .args .work .now) (c .before .before .before .before .before .before .before .before .before .before .before .before .before .before .before .before .args .refs .now) (c .before .before .before .before .before .before .before .before .before .before .before .before .before .before .before .before .args .j) (c .before .before .before .before .before .before .before .before .before .before .before .before .before .before .before .before .args .found) (c .before .before .before .before .before .before .before .before .before .before .before .before .before .before .before .before .pre .3) (c .before .before .before .before .before .before .before .before .before .found .given .0 .0) (c .before .before .before .before .before .before .before .before .before .found .given .0 .1 .0) (c .before .before .before .before .before .before .before .before .before .found .given .1) (c .before .before .before .before .before .before .before .if1 .left) (c .before .before .before .before .before .slice-of .result) (c .before .before .before .before .before .slice-of .ensures ∙ ap sliceNo (c .before .before .before .before .before .before .packed-at .ensures)) (c .before .before .before .before .before .before .before .before .before .before .before .before .before .before .before .before .pre .0) (c .before .before .before .if2 .left) (c .before .before .named-at .result) (c .before .before .named-at .ensures))
+add-t26 c = omega (
+  arith,
+  slice-small (c .before .before .before .before .before .before .before .before .before .before .before .before .before .before .before .before .args
+      .path-nos .now) (c .before .before .before .before .before .before .before .before .before .before .before .before .before .before .before .before .args .coords .now) (c
+      .before .before .before .before .before .before .before .before .before .before .before .before .before .before .before .before .args .paths .now) (c .before .before .before
+      .before .before .before .before .before .before .before .before .before .before .before .before .before .args .tiles) (c .before .before .before .before .before .before .before
+      .before .before .before .before .before .before .before .before .before .args .made) (c .before .before .before .before .before .before .before .before .before .before .before
+      .before .before .before .before .before .args .work .now) (c .before .before .before .before .before .before .before .before .before .before .before .before .before .before
+      .before .before .args .refs .now) (c .before .before .before .before .before .before .before .before .before .before .before .before .before .before .before .before .args .j)
+      (c .before .before .before .before .before .before .before .before .before .before .before .before .before .before .before .before .args .found) (c .before .before .before
+      .before .before .before .before .before .before .before .before .before .before .before .before .before .pre .3) (c .before .before .before .before .before .before .before
+      .before .before .found .given .0 .0) (c .before .before .before .before .before .before .before .before .before .found .given .0 .1 .0) (c .before .before .before .before
+      .before .before .before .before .before .found .given .1) (c .before .before .before .before .before .before .before .if1 .left) (c .before .before .before .before .before
+      .slice-of .result) (c .before .before .before .before .before .slice-of .ensures ∙ ap sliceNo (c .before .before .before .before .before .before .packed-at .ensures)) (c
+      .before .before .before .before .before .before .before .before .before .before .before .before .before .before .before .before .pre .0) (c .before .before .before .if2 .left)
+      (c .before .before .named-at .result) (c .before .before .named-at .ensures),
+)
 
 returns-4 : tie.Need-returns-4
-returns-4 c = place-met (c .before .before .before .before .before .before .before .before .before .before .before .before .before .before .before .before .args .path-nos .now) (c .before .before .before .before .before .before .before .before .before .before .before .before .before .before .before .before .args .coords .now) (c .before .before .before .before .before .before .before .before .before .before .before .before .before .before .before .before .args .paths .now) (c .before .before .before .before .before .before .before .before .before .before .before .before .before .before .before .before .args .tiles) (c .before .before .before .before .before .before .before .before .before .before .before .before .before .before .before .before .args .made) (c .before .before .before .before .before .before .before .before .before .before .before .before .before .before .before .before .args .work .now) (c .before .before .before .before .before .before .before .before .before .before .before .before .before .before .before .before .args .refs .now) (c .before .before .before .before .before .before .before .before .before .before .before .before .before .before .before .before .args .j) (c .before .before .before .before .before .before .before .before .before .before .before .before .before .before .before .before .args .found) (c .before .before .before .before .before .before .before .before .before .before .before .before .before .before .before .before .pre .3) (c .before .before .before .before .before .before .before .before .before .found .given .0 .0) (c .before .before .before .before .before .before .before .before .before .found .given .0 .1 .0) (c .before .before .before .before .before .before .before .before .before .found .given .1) (c .before .before .before .before .before .before .before .if1 .left) (c .before .before .before .before .before .slice-of .result) (c .before .before .before .before .before .slice-of .ensures ∙ ap sliceNo (c .before .before .before .before .before .before .packed-at .ensures)) (c .before .before .before .before .before .before .before .before .before .before .before .before .before .before .before .before .pre .0) (c .before .before .before .if2 .left) (c .before .before .named-at .result) (c .before .before .named-at .ensures)
+returns-4 c = place-met (c .before .before .before .before .before .before .before .before .before .before .before .before .before .before .before .before .args .path-nos .now) (c
+    .before .before .before .before .before .before .before .before .before .before .before .before .before .before .before .before .args .coords .now) (c .before .before .before
+    .before .before .before .before .before .before .before .before .before .before .before .before .before .args .paths .now) (c .before .before .before .before .before .before
+    .before .before .before .before .before .before .before .before .before .before .args .tiles) (c .before .before .before .before .before .before .before .before .before .before
+    .before .before .before .before .before .before .args .made) (c .before .before .before .before .before .before .before .before .before .before .before .before .before .before
+    .before .before .args .work .now) (c .before .before .before .before .before .before .before .before .before .before .before .before .before .before .before .before .args .refs
+    .now) (c .before .before .before .before .before .before .before .before .before .before .before .before .before .before .before .before .args .j) (c .before .before .before
+    .before .before .before .before .before .before .before .before .before .before .before .before .before .args .found) (c .before .before .before .before .before .before .before
+    .before .before .before .before .before .before .before .before .before .pre .3) (c .before .before .before .before .before .before .before .before .before .found .given .0 .0)
+    (c .before .before .before .before .before .before .before .before .before .found .given .0 .1 .0) (c .before .before .before .before .before .before .before .before .before
+    .found .given .1) (c .before .before .before .before .before .before .before .if1 .left) (c .before .before .before .before .before .slice-of .result) (c .before .before
+    .before .before .before .slice-of .ensures ∙ ap sliceNo (c .before .before .before .before .before .before .packed-at .ensures)) (c .before .before .before .before .before
+    .before .before .before .before .before .before .before .before .before .before .before .pre .0) (c .before .before .before .if2 .left) (c .before .before .named-at .result) (c
+    .before .before .named-at .ensures)
 
 pub place-in-spec : {M : Type 1} → statement M
 place-in-spec =

@@ -48,19 +48,67 @@ part-none-end c = search needs
 
 meeting-requires : tie.Need-meeting-requires
 meeting-requires c κs =
-    let m : c .before .before .before .before .note-refs .result ≤ c .before .before .before .before .before .before .before .before .before .before .before .args .n = noted-most (madeOf (c .before .before .before .before .before .before .before .before .before .before .before .args .path-nos .now) (c .before .before .before .before .before .before .before .before .before .before .before .args .coords .now) (c .before .before .before .before .before .before .before .before .before .before .before .args .paths .now)) (startOf (c .before .before .before .before .before .before .before .before .before .before .before .args .path-nos .now) (c .before .before .before .before .before .before .before .before .before .before .before .args .coords .now) (c .before .before .before .before .before .before .before .before .before .before .before .args .paths .now) (c .before .before .before .before .before .before .before .before .before .before .before .args .tiles)) (take (c .before .before .before .before .before .before .before .before .before .before .before .args .tiles) (c .before .before .before .before .before .before .before .before .before .before .before .args .work .now)) (c .before .before .before .before .before .before .before .before .before .before .before .args .refs .now) (c .before .before .before .before .before .before .before .before .before .before .before .args .work .now) (c .before .before .before .before .note-refs .last .1 .1 .1 .1 .1 .0) (ownEnd (c .before .before .before .before .before .before .before .before .before .before .before .args .tiles) (length (c .before .before .before .before .before .before .before .before .before .before .before .args .path-nos .now))) (c .before .before .before .before .before .before .before .before .before .before .before .args .n) (c .before .before .before .before .note-refs .result) (c .before .before .before .before .note-refs .ensures) in (
+    let m : c .before .before .before .before .note-refs .result ≤ c .before .before .before .before .before .before .before .before .before .before .before .args .n = noted-most
+    (madeOf (c .before .before .before .before .before .before .before .before .before .before .before .args .path-nos .now) (c .before .before .before .before .before .before
+    .before .before .before .before .before .args .coords .now) (c .before .before .before .before .before .before .before .before .before .before .before .args .paths .now))
+    (startOf (c .before .before .before .before .before .before .before .before .before .before .before .args .path-nos .now) (c .before .before .before .before .before .before
+    .before .before .before .before .before .args .coords .now) (c .before .before .before .before .before .before .before .before .before .before .before .args .paths .now) (c
+    .before .before .before .before .before .before .before .before .before .before .before .args .tiles)) (take (c .before .before .before .before .before .before .before
+    .before .before .before .before .args .tiles) (c .before .before .before .before .before .before .before .before .before .before .before .args .work .now)) (c .before
+    .before .before .before .before .before .before .before .before .before .before .args .refs .now) (c .before .before .before .before .before .before .before .before .before
+    .before .before .args .work .now) (c .before .before .before .before .note-refs .last .1 .1 .1 .1 .1 .0) (ownEnd (c .before .before .before .before .before .before .before
+    .before .before .before .before .args .tiles) (length (c .before .before .before .before .before .before .before .before .before .before .before .args .path-nos .now))) (c
+    .before .before .before .before .before .before .before .before .before .before .before .args .n) (c .before .before .before .before .note-refs .result) (c .before .before
+    .before .before .note-refs .ensures) in (
       omega (arith, m),
-      omega (arith, c .before .before .before .before .note-refs .ensures .kept .same-length, c .before .before .before .before .before .before .before .before .before .before .before .pre .1),
-      λ h. omega (arith, c .before .before .before .before .note-refs .ensures .kept .same-length, c .before .before .before .before .before .before .before .before .before .before .before .pre .2 (omega (arith, m))),
+      omega (
+        arith,
+        c .before .before .before .before .note-refs .ensures .kept .same-length,
+        c .before .before .before .before .before .before .before .before .before .before
+            .before .pre .1,
+      ),
+      λ h. omega (
+        arith,
+        c .before .before .before .before .note-refs .ensures .kept .same-length,
+        c .before .before .before .before .before .before .before .before .before .before
+            .before .pre .2 (omega (arith, m)),
+      ),
     )
 
 meeting-requires-2 : tie.Need-meeting-requires-2
 meeting-requires-2 c κs =
-    let m : c .before .before .before .before .before .before .before .before .note-refs .result ≤ c .before .before .before .before .before .before .before .before .before .before .before .before .before .before .before .args .n = noted-most (madeOf (c .before .before .before .before .before .before .before .before .before .before .before .before .before .before .before .args .path-nos .now) (c .before .before .before .before .before .before .before .before .before .before .before .before .before .before .before .args .coords .now) (c .before .before .before .before .before .before .before .before .before .before .before .before .before .before .before .args .paths .now)) (startOf (c .before .before .before .before .before .before .before .before .before .before .before .before .before .before .before .args .path-nos .now) (c .before .before .before .before .before .before .before .before .before .before .before .before .before .before .before .args .coords .now) (c .before .before .before .before .before .before .before .before .before .before .before .before .before .before .before .args .paths .now) (c .before .before .before .before .before .before .before .before .before .before .before .before .before .before .before .args .tiles)) (take (c .before .before .before .before .before .before .before .before .before .before .before .before .before .before .before .args .tiles) (c .before .before .before .before .before .before .before .before .before .before .before .before .before .before .before .args .work .now)) (c .before .before .before .before .before .before .before .before .before .before .before .before .before .before .before .args .refs .now) (c .before .before .before .before .before .before .before .before .before .before .before .before .before .before .before .args .work .now) (c .before .before .before .before .before .before .before .before .note-refs .last .1 .1 .1 .1 .1 .0) (ownEnd (c .before .before .before .before .before .before .before .before .before .before .before .before .before .before .before .args .tiles) (length (c .before .before .before .before .before .before .before .before .before .before .before .before .before .before .before .args .path-nos .now))) (c .before .before .before .before .before .before .before .before .before .before .before .before .before .before .before .args .n) (c .before .before .before .before .before .before .before .before .note-refs .result) (c .before .before .before .before .before .before .before .before .note-refs .ensures) in
-    let g : c .before .before .before .meeting .result ≤ c .before .before .before .before .before .before .before .before .note-refs .result = meet-most _ _ _ _ (c .before .before .before .meeting .ensures .0) in (
+    let m : c .before .before .before .before .before .before .before .before .note-refs .result ≤ c .before .before .before .before .before .before .before .before .before .before
+    .before .before .before .before .before .args .n = noted-most (madeOf (c .before .before .before .before .before .before .before .before .before .before .before .before
+    .before .before .before .args .path-nos .now) (c .before .before .before .before .before .before .before .before .before .before .before .before .before .before .before
+    .args .coords .now) (c .before .before .before .before .before .before .before .before .before .before .before .before .before .before .before .args .paths .now)) (startOf
+    (c .before .before .before .before .before .before .before .before .before .before .before .before .before .before .before .args .path-nos .now) (c .before .before .before
+    .before .before .before .before .before .before .before .before .before .before .before .before .args .coords .now) (c .before .before .before .before .before .before
+    .before .before .before .before .before .before .before .before .before .args .paths .now) (c .before .before .before .before .before .before .before .before .before
+    .before .before .before .before .before .before .args .tiles)) (take (c .before .before .before .before .before .before .before .before .before .before .before .before
+    .before .before .before .args .tiles) (c .before .before .before .before .before .before .before .before .before .before .before .before .before .before .before .args .work
+    .now)) (c .before .before .before .before .before .before .before .before .before .before .before .before .before .before .before .args .refs .now) (c .before .before
+    .before .before .before .before .before .before .before .before .before .before .before .before .before .args .work .now) (c .before .before .before .before .before .before
+    .before .before .note-refs .last .1 .1 .1 .1 .1 .0) (ownEnd (c .before .before .before .before .before .before .before .before .before .before .before .before .before
+    .before .before .args .tiles) (length (c .before .before .before .before .before .before .before .before .before .before .before .before .before .before .before .args
+    .path-nos .now))) (c .before .before .before .before .before .before .before .before .before .before .before .before .before .before .before .args .n) (c .before .before
+    .before .before .before .before .before .before .note-refs .result) (c .before .before .before .before .before .before .before .before .note-refs .ensures) in
+    let g : c .before .before .before .meeting .result ≤ c .before .before .before .before .before .before .before .before .note-refs .result = meet-most _ _ _ _ (c .before .before
+    .before .meeting .ensures .0) in (
       omega (arith, m, g),
-      omega (arith, c .before .before .before .meeting .ensures .1 .same-length, c .before .before .before .before .before .before .before .before .note-refs .ensures .kept .same-length, c .before .before .before .before .before .before .before .before .before .before .before .before .before .before .before .pre .1),
-      λ h. omega (arith, c .before .before .before .meeting .ensures .1 .same-length, c .before .before .before .before .before .before .before .before .note-refs .ensures .kept .same-length, c .before .before .before .before .before .before .before .before .before .before .before .before .before .before .before .pre .2 (omega (arith, m, g))),
+      omega (
+        arith,
+        c .before .before .before .meeting .ensures .1 .same-length,
+        c .before .before .before .before .before .before .before .before .note-refs .ensures .kept
+            .same-length,
+        c .before .before .before .before .before .before .before .before .before .before .before .before .before .before .before .pre .1,
+      ),
+      λ h. omega (
+        arith,
+        c .before .before .before .meeting .ensures .1 .same-length,
+        c .before .before .before .before .before .before .before .before .note-refs .ensures .kept
+            .same-length,
+        c .before .before .before .before .before .before .before .before .before .before .before .before .before .before .before .pre .2 (omega (arith, m, g)),
+      ),
     )
 
 same-length : tie.Need-same-length
@@ -70,17 +118,57 @@ returns : tie.Need-returns
 returns c =
     let ws1 = c .before .before .before .before .before .before .before .before .before .before .before .note-refs .last .1 .1 .1 .1 .1 .0 in
     let ws2 = c .before .before .before .before .before .before .meeting .last .0 in
-    let a = (ownEnd (c .before .before .before .before .before .before .before .before .before .before .before .before .before .before .before .before .before .before .args .tiles) (length (c .before .before .before .before .before .before .before .before .before .before .before .before .before .before .before .before .before .before .args .path-nos .now))) in
-    let m : c .before .before .before .before .before .before .before .before .before .before .before .note-refs .result ≤ c .before .before .before .before .before .before .before .before .before .before .before .before .before .before .before .before .before .before .args .n = noted-most (madeOf (c .before .before .before .before .before .before .before .before .before .before .before .before .before .before .before .before .before .before .args .path-nos .now) (c .before .before .before .before .before .before .before .before .before .before .before .before .before .before .before .before .before .before .args .coords .now) (c .before .before .before .before .before .before .before .before .before .before .before .before .before .before .before .before .before .before .args .paths .now)) (startOf (c .before .before .before .before .before .before .before .before .before .before .before .before .before .before .before .before .before .before .args .path-nos .now) (c .before .before .before .before .before .before .before .before .before .before .before .before .before .before .before .before .before .before .args .coords .now) (c .before .before .before .before .before .before .before .before .before .before .before .before .before .before .before .before .before .before .args .paths .now) (c .before .before .before .before .before .before .before .before .before .before .before .before .before .before .before .before .before .before .args .tiles)) (take (c .before .before .before .before .before .before .before .before .before .before .before .before .before .before .before .before .before .before .args .tiles) (c .before .before .before .before .before .before .before .before .before .before .before .before .before .before .before .before .before .before .args .work .now)) (c .before .before .before .before .before .before .before .before .before .before .before .before .before .before .before .before .before .before .args .refs .now) (c .before .before .before .before .before .before .before .before .before .before .before .before .before .before .before .before .before .before .args .work .now) (c .before .before .before .before .before .before .before .before .before .before .before .note-refs .last .1 .1 .1 .1 .1 .0) (ownEnd (c .before .before .before .before .before .before .before .before .before .before .before .before .before .before .before .before .before .before .args .tiles) (length (c .before .before .before .before .before .before .before .before .before .before .before .before .before .before .before .before .before .before .args .path-nos .now))) (c .before .before .before .before .before .before .before .before .before .before .before .before .before .before .before .before .before .before .args .n) (c .before .before .before .before .before .before .before .before .before .before .before .note-refs .result) (c .before .before .before .before .before .before .before .before .before .before .before .note-refs .ensures) in (
+    let a = (ownEnd (c .before .before .before .before .before .before .before .before .before .before .before .before .before .before .before .before .before .before .args .tiles)
+    (length (c .before .before .before .before .before .before .before .before .before .before .before .before .before .before .before .before .before .before .args .path-nos
+    .now))) in
+    let m : c .before .before .before .before .before .before .before .before .before .before .before .note-refs .result ≤ c .before .before .before .before .before .before .before
+    .before .before .before .before .before .before .before .before .before .before .before .args .n = noted-most (madeOf (c .before .before .before .before .before .before
+    .before .before .before .before .before .before .before .before .before .before .before .before .args .path-nos .now) (c .before .before .before .before .before .before
+    .before .before .before .before .before .before .before .before .before .before .before .before .args .coords .now) (c .before .before .before .before .before .before
+    .before .before .before .before .before .before .before .before .before .before .before .before .args .paths .now)) (startOf (c .before .before .before .before .before
+    .before .before .before .before .before .before .before .before .before .before .before .before .before .args .path-nos .now) (c .before .before .before .before .before
+    .before .before .before .before .before .before .before .before .before .before .before .before .before .args .coords .now) (c .before .before .before .before .before
+    .before .before .before .before .before .before .before .before .before .before .before .before .before .args .paths .now) (c .before .before .before .before .before
+    .before .before .before .before .before .before .before .before .before .before .before .before .before .args .tiles)) (take (c .before .before .before .before .before
+    .before .before .before .before .before .before .before .before .before .before .before .before .before .args .tiles) (c .before .before .before .before .before .before
+    .before .before .before .before .before .before .before .before .before .before .before .before .args .work .now)) (c .before .before .before .before .before .before
+    .before .before .before .before .before .before .before .before .before .before .before .before .args .refs .now) (c .before .before .before .before .before .before .before
+    .before .before .before .before .before .before .before .before .before .before .before .args .work .now) (c .before .before .before .before .before .before .before .before
+    .before .before .before .note-refs .last .1 .1 .1 .1 .1 .0) (ownEnd (c .before .before .before .before .before .before .before .before .before .before .before .before
+    .before .before .before .before .before .before .args .tiles) (length (c .before .before .before .before .before .before .before .before .before .before .before .before
+    .before .before .before .before .before .before .args .path-nos .now))) (c .before .before .before .before .before .before .before .before .before .before .before .before
+    .before .before .before .before .before .before .args .n) (c .before .before .before .before .before .before .before .before .before .before .before .note-refs .result) (c
+    .before .before .before .before .before .before .before .before .before .before .before .note-refs .ensures) in (
       c .before .before .meeting2 .ensures .0
-          ∙ by-slices (c .before .before .before .before .before .before .before .before .before .before .before .before .before .before .before .before .before .before .args .path-nos .now) (c .before .before .before .before .before .before .before .before .before .before .before .before .before .before .before .before .before .before .args .coords .now) (c .before .before .before .before .before .before .before .before .before .before .before .before .before .before .before .before .before .before .args .paths .now) (c .before .before .before .before .before .before .before .before .before .before .before .before .before .before .before .before .before .before .args .tiles) (viewOf (c .before .before .before .before .before .before .before .before .before .before .before .before .before .before .before .before .before .before .args .tiles) (c .before .before .before .before .before .before .before .before .before .before .before .before .before .before .before .before .before .before .args .work .now) (c .before .before .before .before .before .before .before .before .before .before .before .before .before .before .before .before .before .before .args .made)) (c .before .before .before .before .before .before .before .before .before .before .before .before .before .before .before .before .before .before .pre .0 .own)
-          (take (c .before .before .before .before .before .before .before .before .before .before .before .before .before .before .before .before .before .before .args .tiles) (c .before .before .before .before .before .before .before .before .before .before .before .before .before .before .before .before .before .before .args .work .now)) (c .before .before .before .before .before .before .before .before .before .before .before .before .before .before .before .before .before .before .args .refs .now) (c .before .before .before .before .before .before .before .before .before .before .before .before .before .before .before .before .before .before .args .n) (startsAt ws1 a) (startsAt ws2 (a + c .before .before .before .before .before .before .before .before .before .before .before .before .before .before .before .before .before .before .args .n)) (c .before .before .before .before .before .before .before .before .before .before .before .note-refs .result) (c .before .before .before .before .before .before .before .before .before .before .before .note-refs .ensures .first-stray)
+          ∙ by-slices (c .before .before .before .before .before .before .before .before .before .before .before .before .before .before .before .before .before .before .args
+          .path-nos .now) (c .before .before .before .before .before .before .before .before .before .before .before .before .before .before .before .before .before .before
+          .args .coords .now) (c .before .before .before .before .before .before .before .before .before .before .before .before .before .before .before .before .before .before
+          .args .paths .now) (c .before .before .before .before .before .before .before .before .before .before .before .before .before .before .before .before .before .before
+          .args .tiles) (viewOf (c .before .before .before .before .before .before .before .before .before .before .before .before .before .before .before .before .before
+          .before .args .tiles) (c .before .before .before .before .before .before .before .before .before .before .before .before .before .before .before .before .before
+          .before .args .work .now) (c .before .before .before .before .before .before .before .before .before .before .before .before .before .before .before .before .before
+          .before .args .made)) (c .before .before .before .before .before .before .before .before .before .before .before .before .before .before .before .before .before
+          .before .pre .0 .own)
+          (take (c .before .before .before .before .before .before .before .before .before .before .before .before .before .before .before .before .before .before .args .tiles) (c
+          .before .before .before .before .before .before .before .before .before .before .before .before .before .before .before .before .before .before .args .work .now)) (c
+          .before .before .before .before .before .before .before .before .before .before .before .before .before .before .before .before .before .before .args .refs .now) (c
+          .before .before .before .before .before .before .before .before .before .before .before .before .before .before .before .before .before .before .args .n) (startsAt
+          ws1 a) (startsAt ws2 (a + c .before .before .before .before .before .before .before .before .before .before .before .before .before .before .before .before .before
+          .before .args .n)) (c .before .before .before .before .before .before .before .before .before .before .before .note-refs .result) (c .before .before .before .before
+          .before .before .before .before .before .before .before .note-refs .ensures .first-stray)
           (λ j h. c .before .before .before .before .before .before .before .before .before .before .before .note-refs .ensures .noted .steps j h)
-          (λ j h. c .before .before .before .before .before .before .meeting .ensures .1 .kept (a + c .before .before .before .before .before .before .before .before .before .before .before .before .before .before .before .before .before .before .args .n + j) (omega (arith, m)) ∙ c .before .before .before .before .before .before .before .before .before .before .before .note-refs .ensures .noted .slices j h)
+          (λ j h. c .before .before .before .before .before .before .meeting .ensures .1 .kept (a + c .before .before .before .before .before .before .before .before .before
+          .before .before .before .before .before .before .before .before .before .args .n + j) (omega (arith, m)) ∙ c .before .before .before .before .before .before .before
+          .before .before .before .before .note-refs .ensures .noted .slices j h)
           (c .before .before .before .before .before .before .meeting .result) (c .before .before .before .before .before .before .meeting .ensures .0),
-      kept-trans a (c .before .before .before .before .before .before .before .before .before .before .before .before .before .before .before .before .before .before .args .work .now) ws1 (c .before .before .meeting2 .last .0) (c .before .before .before .before .before .before .before .before .before .before .before .note-refs .ensures .kept)
-          (kept-trans a ws1 ws2 (c .before .before .meeting2 .last .0) (kept-less (a + c .before .before .before .before .before .before .before .before .before .before .before .before .before .before .before .before .before .before .args .n + c .before .before .before .before .before .before .before .before .before .before .before .before .before .before .before .before .before .before .args .n) a ws1 ws2 (omega arith) (c .before .before .before .before .before .before .meeting .ensures .1))
-          (kept-less (a + c .before .before .before .before .before .before .before .before .before .before .before .before .before .before .before .before .before .before .args .n + c .before .before .before .before .before .before .before .before .before .before .before .before .before .before .before .before .before .before .args .n) a ws2 (c .before .before .meeting2 .last .0) (omega arith) (c .before .before .meeting2 .ensures .1))),
+      kept-trans a (c .before .before .before .before .before .before .before .before .before .before .before .before .before .before .before .before .before .before .args .work
+          .now) ws1 (c .before .before .meeting2 .last .0) (c .before .before .before .before .before .before .before .before .before .before .before .note-refs .ensures .kept)
+          (kept-trans a ws1 ws2 (c .before .before .meeting2 .last .0) (kept-less (a + c .before .before .before .before .before .before .before .before .before .before .before
+          .before .before .before .before .before .before .before .args .n + c .before .before .before .before .before .before .before .before .before .before .before .before
+          .before .before .before .before .before .before .args .n) a ws1 ws2 (omega arith) (c .before .before .before .before .before .before .meeting .ensures .1))
+          (kept-less (a + c .before .before .before .before .before .before .before .before .before .before .before .before .before .before .before .before .before .before .args .n
+          + c .before .before .before .before .before .before .before .before .before .before .before .before .before .before .before .before .before .before .args .n) a ws2 (c
+          .before .before .meeting2 .last .0) (omega arith) (c .before .before .meeting2 .ensures .1))),
     )
 
 pub first-ref-spec : {M : Type 1} → statement M

@@ -46,15 +46,28 @@ loop-holds : tie.Need-loop-holds Inv-loop μ-loop
 loop-holds c = (omega arith, kept-all _ _, noted-none _ _ _ _ _ _ _, λ i h. absurd (not-suc-le-zero h))
 
 -- the room is as long as before
-long : (c : tie.At-loop Inv-loop μ-loop) → (ownEnd (c .before .before .before .before .before .before .args .tiles) (length (c .before .before .before .before .before .before .args .path-nos .now))) + c .before .before .before .before .before .before .args .n + c .before .before .before .before .before .before .args .n ≤ length (c .loop .work)
+long : (c : tie.At-loop Inv-loop μ-loop) → (ownEnd (c .before .before .before .before .before .before .args .tiles) (length (c .before .before .before .before .before .before .args
+    .path-nos .now))) + c .before .before .before .before .before .before .args .n + c .before .before .before .before .before .before .args .n ≤ length (c .loop .work)
 long c = omega (arith, c .loop .inv .1 .same-length, c .before .before .before .before .before .before .pre .1)
 
 -- what the reference's places are, beside the room as it was
-met : (c : tie.After-key-at Inv-loop μ-loop) → KeyMet (madeOf (c .before .before .before .before .before .before .before .before .before .args .path-nos .now) (c .before .before .before .before .before .before .before .before .before .args .coords .now) (c .before .before .before .before .before .before .before .before .before .args .paths .now)) (startOf (c .before .before .before .before .before .before .before .before .before .args .path-nos .now) (c .before .before .before .before .before .before .before .before .before .args .coords .now) (c .before .before .before .before .before .before .before .before .before .args .paths .now) (c .before .before .before .before .before .before .before .before .before .args .tiles)) (take (c .before .before .before .before .before .before .before .before .before .args .tiles) (c .before .before .before .before .before .before .before .before .before .args .work .now)) (c .before .before .before .before .before .before .before .before .before .args .refs .now) (c .before .before .before .loop .j) (c .key-at .result)
+met : (c : tie.After-key-at Inv-loop μ-loop) → KeyMet (madeOf (c .before .before .before .before .before .before .before .before .before .args .path-nos .now) (c .before .before
+    .before .before .before .before .before .before .before .args .coords .now) (c .before .before .before .before .before .before .before .before .before .args .paths .now))
+    (startOf (c .before .before .before .before .before .before .before .before .before .args .path-nos .now) (c .before .before .before .before .before .before .before .before
+    .before .args .coords .now) (c .before .before .before .before .before .before .before .before .before .args .paths .now) (c .before .before .before .before .before .before
+    .before .before .before .args .tiles)) (take (c .before .before .before .before .before .before .before .before .before .args .tiles) (c .before .before .before .before .before
+    .before .before .before .before .args .work .now)) (c .before .before .before .before .before .before .before .before .before .args .refs .now) (c .before .before .before .loop
+    .j) (c .key-at .result)
 met c =
-    subst (λ (ours : List ℕ). KeyMet (madeOf (c .before .before .before .before .before .before .before .before .before .args .path-nos .now) (c .before .before .before .before .before .before .before .before .before .args .coords .now) (c .before .before .before .before .before .before .before .before .before .args .paths .now))
-    (startOf (c .before .before .before .before .before .before .before .before .before .args .path-nos .now) (c .before .before .before .before .before .before .before .before .before .args .coords .now) (c .before .before .before .before .before .before .before .before .before .args .paths .now) (c .before .before .before .before .before .before .before .before .before .args .tiles)) ours (c .before .before .before .before .before .before .before .before .before .args .refs .now) (c .before .before .before .loop .j) (c .key-at .result))
-    (counts-same (c .before .before .before .before .before .before .before .before .before .args .tiles) (c .before .before .before .before .before .before .before .before .before .args .work .now) (c .before .before .before .loop .work) 0 (c .before .before .before .loop .inv .1 .same-length) (λ k h. c .before .before .before .loop .inv .1 .kept k (omega arith)))
+    subst (λ (ours : List ℕ). KeyMet (madeOf (c .before .before .before .before .before .before .before .before .before .args .path-nos .now) (c .before .before .before .before
+    .before .before .before .before .before .args .coords .now) (c .before .before .before .before .before .before .before .before .before .args .paths .now))
+    (startOf (c .before .before .before .before .before .before .before .before .before .args .path-nos .now) (c .before .before .before .before .before .before .before .before
+    .before .args .coords .now) (c .before .before .before .before .before .before .before .before .before .args .paths .now) (c .before .before .before .before .before .before
+    .before .before .before .args .tiles)) ours (c .before .before .before .before .before .before .before .before .before .args .refs .now) (c .before .before .before .loop
+    .j) (c .key-at .result))
+    (counts-same (c .before .before .before .before .before .before .before .before .before .args .tiles) (c .before .before .before .before .before .before .before .before .before
+    .args .work .now) (c .before .before .before .loop .work) 0 (c .before .before .before .loop .inv .1 .same-length) (λ k h. c .before .before .before .loop .inv .1 .kept k
+    (omega arith)))
     (c .key-at .ensures)
 
 cast-key-at : tie.Need-cast-key-at Inv-loop μ-loop
@@ -62,12 +75,15 @@ cast-key-at c = omega (arith, c .loop-test .taken, c .before .before .before .be
 
 key-at-requires : tie.Need-key-at-requires Inv-loop μ-loop
 key-at-requires c κs = (
-      room-kept (c .before .before .before .before .before .before .before .before .args .path-nos .now) (c .before .before .before .before .before .before .before .before .args .coords .now) (c .before .before .before .before .before .before .before .before .args .paths .now) (c .before .before .before .before .before .before .before .before .args .tiles) (c .before .before .before .before .before .before .before .before .args .made) (c .before .before .before .before .before .before .before .before .args .work .now) (c .before .before .loop .work) (c .before .before .loop .inv .1) (c .before .before .before .before .before .before .before .before .pre .0),
-      omega (arith, c .before .before .loop .inv .1 .same-length, c .before .before .before .before .before .before .before .before .pre .1),
-      c .before .before .before .before .before .before .before .before .pre .2,
-      c .before .before .before .before .before .before .before .before .pre .3,
-      omega (arith, c .before .loop-test .taken, c .before .before .before .before .before .before .before .before .pre .4),
-    )
+  room-kept (c .before .before .before .before .before .before .before .before .args .path-nos .now) (c .before .before .before .before .before .before .before .before .args
+      .coords .now) (c .before .before .before .before .before .before .before .before .args .paths .now) (c .before .before .before .before .before .before .before .before
+      .args .tiles) (c .before .before .before .before .before .before .before .before .args .made) (c .before .before .before .before .before .before .before .before .args
+      .work .now) (c .before .before .loop .work) (c .before .before .loop .inv .1) (c .before .before .before .before .before .before .before .before .pre .0),
+  omega (arith, c .before .before .loop .inv .1 .same-length, c .before .before .before .before .before .before .before .before .pre .1),
+  c .before .before .before .before .before .before .before .before .pre .2,
+  c .before .before .before .before .before .before .before .before .pre .3,
+  omega (arith, c .before .loop-test .taken, c .before .before .before .before .before .before .before .before .pre .4),
+)
 
 enum-known-key : tie.Need-enum-known-key Inv-loop μ-loop
 enum-known-key c = search needs
@@ -80,26 +96,78 @@ same-length c = c .before .before .before .before .before .loop .inv .1 .same-le
 
 returns : tie.Need-returns Inv-loop μ-loop
 returns c =
-    noted-to (madeOf (c .before .before .before .before .before .before .before .before .before .before .before .args .path-nos .now) (c .before .before .before .before .before .before .before .before .before .before .before .args .coords .now) (c .before .before .before .before .before .before .before .before .before .before .before .args .paths .now)) (startOf (c .before .before .before .before .before .before .before .before .before .before .before .args .path-nos .now) (c .before .before .before .before .before .before .before .before .before .before .before .args .coords .now) (c .before .before .before .before .before .before .before .before .before .before .before .args .paths .now) (c .before .before .before .before .before .before .before .before .before .before .before .args .tiles)) (take (c .before .before .before .before .before .before .before .before .before .before .before .args .tiles) (c .before .before .before .before .before .before .before .before .before .before .before .args .work .now)) (c .before .before .before .before .before .before .before .before .before .before .before .args .refs .now) (c .before .before .before .before .before .before .before .before .before .before .before .args .work .now) (c .before .before .before .before .before .loop .work) (ownEnd (c .before .before .before .before .before .before .before .before .before .before .before .args .tiles) (length (c .before .before .before .before .before .before .before .before .before .before .before .args .path-nos .now))) (c .before .before .before .before .before .before .before .before .before .before .before .args .n) (c .before .before .before .before .before .loop .j) (c .before .before .before .before .before .loop .inv .0)
-    (λ h. subst (KeyMet (madeOf (c .before .before .before .before .before .before .before .before .before .before .before .args .path-nos .now) (c .before .before .before .before .before .before .before .before .before .before .before .args .coords .now) (c .before .before .before .before .before .before .before .before .before .before .before .args .paths .now)) (startOf (c .before .before .before .before .before .before .before .before .before .before .before .args .path-nos .now) (c .before .before .before .before .before .before .before .before .before .before .before .args .coords .now) (c .before .before .before .before .before .before .before .before .before .before .before .args .paths .now) (c .before .before .before .before .before .before .before .before .before .before .before .args .tiles)) (take (c .before .before .before .before .before .before .before .before .before .before .before .args .tiles) (c .before .before .before .before .before .before .before .before .before .before .before .args .work .now)) (c .before .before .before .before .before .before .before .before .before .before .before .args .refs .now) (c .before .before .before .before .before .loop .j)) (c .enum-told .given .1) (met (c .before .before))) (c .before .before .before .before .before .loop .inv .3) (c .before .before .before .before .before .loop .inv .1) (c .before .before .before .before .before .loop .inv .2)
+    noted-to (madeOf (c .before .before .before .before .before .before .before .before .before .before .before .args .path-nos .now) (c .before .before .before .before .before
+    .before .before .before .before .before .before .args .coords .now) (c .before .before .before .before .before .before .before .before .before .before .before .args .paths
+    .now)) (startOf (c .before .before .before .before .before .before .before .before .before .before .before .args .path-nos .now) (c .before .before .before .before .before
+    .before .before .before .before .before .before .args .coords .now) (c .before .before .before .before .before .before .before .before .before .before .before .args .paths
+    .now) (c .before .before .before .before .before .before .before .before .before .before .before .args .tiles)) (take (c .before .before .before .before .before .before
+    .before .before .before .before .before .args .tiles) (c .before .before .before .before .before .before .before .before .before .before .before .args .work .now)) (c
+    .before .before .before .before .before .before .before .before .before .before .before .args .refs .now) (c .before .before .before .before .before .before .before .before
+    .before .before .before .args .work .now) (c .before .before .before .before .before .loop .work) (ownEnd (c .before .before .before .before .before .before .before .before
+    .before .before .before .args .tiles) (length (c .before .before .before .before .before .before .before .before .before .before .before .args .path-nos .now))) (c .before
+    .before .before .before .before .before .before .before .before .before .before .args .n) (c .before .before .before .before .before .loop .j) (c .before .before .before
+    .before .before .loop .inv .0)
+    (λ h. subst (KeyMet (madeOf (c .before .before .before .before .before .before .before .before .before .before .before .args .path-nos .now) (c .before .before .before .before
+    .before .before .before .before .before .before .before .args .coords .now) (c .before .before .before .before .before .before .before .before .before .before .before .args
+    .paths .now)) (startOf (c .before .before .before .before .before .before .before .before .before .before .before .args .path-nos .now) (c .before .before .before .before
+    .before .before .before .before .before .before .before .args .coords .now) (c .before .before .before .before .before .before .before .before .before .before .before .args
+    .paths .now) (c .before .before .before .before .before .before .before .before .before .before .before .args .tiles)) (take (c .before .before .before .before .before
+    .before .before .before .before .before .before .args .tiles) (c .before .before .before .before .before .before .before .before .before .before .before .args .work .now))
+    (c .before .before .before .before .before .before .before .before .before .before .before .args .refs .now) (c .before .before .before .before .before .loop .j)) (c
+    .enum-told .given .1) (met (c .before .before))) (c .before .before .before .before .before .loop .inv .3) (c .before .before .before .before .before .loop .inv .1) (c
+    .before .before .before .before .before .loop .inv .2)
 
 add-work : tie.Need-add-work Inv-loop μ-loop
-add-work c = omega (arith, c .before .before .before .before .before .loop-test .taken, c .before .before .before .before .before .before .before .before .before .before .before .before .pre .1)
+add-work c = omega (
+  arith,
+  c .before .before .before .before .before .loop-test .taken,
+  c .before .before .before .before .before .before .before .before .before .before .before
+      .before .pre .1,
+)
 
 mul-work : tie.Need-mul-work Inv-loop μ-loop
-mul-work c = omega (arith, c .before .before .before .before .before .loop-test .taken, c .before .before .before .before .before .before .before .before .before .before .before .before .pre .1, c .before .before .before .before .before .before .loop .inv .1 .same-length)
+mul-work c = omega (
+  arith,
+  c .before .before .before .before .before .loop-test .taken,
+  c .before .before .before .before .before .before .before .before .before .before .before
+      .before .pre .1,
+  c .before .before .before .before .before .before .loop .inv .1 .same-length,
+)
 
 slice-write-work : tie.Need-slice-write-work Inv-loop μ-loop
-slice-write-work c = omega (arith, c .before .before .before .before .before .loop-test .taken, c .before .before .before .before .before .before .before .before .before .before .before .before .pre .1, c .before .before .before .before .before .before .loop .inv .1 .same-length)
+slice-write-work c = omega (
+  arith,
+  c .before .before .before .before .before .loop-test .taken,
+  c .before .before .before .before .before .before .before .before .before .before
+      .before .before .pre .1,
+  c .before .before .before .before .before .before .loop .inv .1 .same-length,
+)
 
 add-work-2 : tie.Need-add-work-2 Inv-loop μ-loop
-add-work-2 c = omega (arith, c .before .before .before .before .before .loop-test .taken, c .before .before .before .before .before .before .before .before .before .before .before .before .pre .1)
+add-work-2 c = omega (
+  arith,
+  c .before .before .before .before .before .loop-test .taken,
+  c .before .before .before .before .before .before .before .before .before .before .before
+      .before .pre .1,
+)
 
 mul-work-2 : tie.Need-mul-work-2 Inv-loop μ-loop
-mul-work-2 c = omega (arith, c .before .before .before .before .before .loop-test .taken, c .before .before .before .before .before .before .before .before .before .before .before .before .pre .1, c .before .before .before .before .before .before .loop .inv .1 .same-length)
+mul-work-2 c = omega (
+  arith,
+  c .before .before .before .before .before .loop-test .taken,
+  c .before .before .before .before .before .before .before .before .before .before .before
+      .before .pre .1,
+  c .before .before .before .before .before .before .loop .inv .1 .same-length,
+)
 
 slice-write-work-2 : tie.Need-slice-write-work-2 Inv-loop μ-loop
-slice-write-work-2 c = simp length-set (omega (arith, c .before .before .before .before .before .loop-test .taken, c .before .before .before .before .before .before .before .before .before .before .before .before .pre .1, c .before .before .before .before .before .before .loop .inv .1 .same-length))
+slice-write-work-2 c = simp length-set (omega (
+  arith,
+  c .before .before .before .before .before .loop-test .taken,
+  c .before .before .before .before .before .before .before .before
+      .before .before .before .before .pre .1,
+  c .before .before .before .before .before .before .loop .inv .1 .same-length,
+))
 
 add-j : tie.Need-add-j Inv-loop μ-loop
 add-j c = omega (arith, c .before .before .before .before .before .loop-test .taken)
@@ -109,11 +177,47 @@ loop-less c = omega (arith, c .before .before .before .before .before .loop-test
 
 loop-again : tie.Need-loop-again Inv-loop μ-loop
 loop-again c =
-    let m = subst (KeyMet (madeOf (c .before .before .before .before .before .before .before .before .before .before .before .before .args .path-nos .now) (c .before .before .before .before .before .before .before .before .before .before .before .before .args .coords .now) (c .before .before .before .before .before .before .before .before .before .before .before .before .args .paths .now)) (startOf (c .before .before .before .before .before .before .before .before .before .before .before .before .args .path-nos .now) (c .before .before .before .before .before .before .before .before .before .before .before .before .args .coords .now) (c .before .before .before .before .before .before .before .before .before .before .before .before .args .paths .now) (c .before .before .before .before .before .before .before .before .before .before .before .before .args .tiles)) (take (c .before .before .before .before .before .before .before .before .before .before .before .before .args .tiles) (c .before .before .before .before .before .before .before .before .before .before .before .before .args .work .now)) (c .before .before .before .before .before .before .before .before .before .before .before .before .args .refs .now) (c .before .before .before .before .before .before .loop .j)) (c .before .key .given .1) (met (c .before .before .before)) in (
+    let m = subst (KeyMet (madeOf (c .before .before .before .before .before .before .before .before .before .before .before .before .args .path-nos .now) (c .before .before
+    .before .before .before .before .before .before .before .before .before .before .args .coords .now) (c .before .before .before .before .before .before .before .before
+    .before .before .before .before .args .paths .now)) (startOf (c .before .before .before .before .before .before .before .before .before .before .before .before .args
+    .path-nos .now) (c .before .before .before .before .before .before .before .before .before .before .before .before .args .coords .now) (c .before .before .before .before
+    .before .before .before .before .before .before .before .before .args .paths .now) (c .before .before .before .before .before .before .before .before .before .before
+    .before .before .args .tiles)) (take (c .before .before .before .before .before .before .before .before .before .before .before .before .args .tiles) (c .before .before
+    .before .before .before .before .before .before .before .before .before .before .args .work .now)) (c .before .before .before .before .before .before .before .before
+    .before .before .before .before .args .refs .now) (c .before .before .before .before .before .before .loop .j)) (c .before .key .given .1) (met (c .before .before .before))
+    in (
       omega (arith, c .before .before .before .before .before .loop-test .taken),
-      noted-kept (madeOf (c .before .before .before .before .before .before .before .before .before .before .before .before .args .path-nos .now) (c .before .before .before .before .before .before .before .before .before .before .before .before .args .coords .now) (c .before .before .before .before .before .before .before .before .before .before .before .before .args .paths .now)) (startOf (c .before .before .before .before .before .before .before .before .before .before .before .before .args .path-nos .now) (c .before .before .before .before .before .before .before .before .before .before .before .before .args .coords .now) (c .before .before .before .before .before .before .before .before .before .before .before .before .args .paths .now) (c .before .before .before .before .before .before .before .before .before .before .before .before .args .tiles)) (take (c .before .before .before .before .before .before .before .before .before .before .before .before .args .tiles) (c .before .before .before .before .before .before .before .before .before .before .before .before .args .work .now)) (c .before .before .before .before .before .before .before .before .before .before .before .before .args .refs .now) (c .before .before .before .before .before .before .before .before .before .before .before .before .args .work .now) (c .before .before .before .before .before .before .loop .work) (ownEnd (c .before .before .before .before .before .before .before .before .before .before .before .before .args .tiles) (length (c .before .before .before .before .before .before .before .before .before .before .before .before .args .path-nos .now))) (c .before .before .before .before .before .before .before .before .before .before .before .before .args .n) (c .before .before .before .before .before .before .loop .j) _ _ (c .before .before .before .before .before .loop-test .taken) (long (c .before .before .before .before .before .before)) (c .before .before .before .before .before .before .loop .inv .1),
-      noted-more (madeOf (c .before .before .before .before .before .before .before .before .before .before .before .before .args .path-nos .now) (c .before .before .before .before .before .before .before .before .before .before .before .before .args .coords .now) (c .before .before .before .before .before .before .before .before .before .before .before .before .args .paths .now)) (startOf (c .before .before .before .before .before .before .before .before .before .before .before .before .args .path-nos .now) (c .before .before .before .before .before .before .before .before .before .before .before .before .args .coords .now) (c .before .before .before .before .before .before .before .before .before .before .before .before .args .paths .now) (c .before .before .before .before .before .before .before .before .before .before .before .before .args .tiles)) (take (c .before .before .before .before .before .before .before .before .before .before .before .before .args .tiles) (c .before .before .before .before .before .before .before .before .before .before .before .before .args .work .now)) (c .before .before .before .before .before .before .before .before .before .before .before .before .args .refs .now) (c .before .before .before .before .before .before .before .before .before .before .before .before .args .work .now) (c .before .before .before .before .before .before .loop .work) (ownEnd (c .before .before .before .before .before .before .before .before .before .before .before .before .args .tiles) (length (c .before .before .before .before .before .before .before .before .before .before .before .before .args .path-nos .now))) (c .before .before .before .before .before .before .before .before .before .before .before .before .args .n) (c .before .before .before .before .before .before .loop .j) _ _ (c .before .before .before .before .before .loop-test .taken) (long (c .before .before .before .before .before .before)) (c .before .before .before .before .before .before .loop .inv .2) (m .1) (m .2),
-      fine-more (strayRef (madeOf (c .before .before .before .before .before .before .before .before .before .before .before .before .args .path-nos .now) (c .before .before .before .before .before .before .before .before .before .before .before .before .args .coords .now) (c .before .before .before .before .before .before .before .before .before .before .before .before .args .paths .now)) (take (c .before .before .before .before .before .before .before .before .before .before .before .before .args .tiles) (c .before .before .before .before .before .before .before .before .before .before .before .before .args .work .now)) (c .before .before .before .before .before .before .before .before .before .before .before .before .args .refs .now)) (c .before .before .before .before .before .before .loop .j) (c .before .before .before .before .before .before .loop .inv .3) (m .0),
+      noted-kept (madeOf (c .before .before .before .before .before .before .before .before .before .before .before .before .args .path-nos .now) (c .before .before .before .before
+          .before .before .before .before .before .before .before .before .args .coords .now) (c .before .before .before .before .before .before .before .before .before .before
+          .before .before .args .paths .now)) (startOf (c .before .before .before .before .before .before .before .before .before .before .before .before .args .path-nos .now) (c
+          .before .before .before .before .before .before .before .before .before .before .before .before .args .coords .now) (c .before .before .before .before .before .before
+          .before .before .before .before .before .before .args .paths .now) (c .before .before .before .before .before .before .before .before .before .before .before .before
+          .args .tiles)) (take (c .before .before .before .before .before .before .before .before .before .before .before .before .args .tiles) (c .before .before .before .before
+          .before .before .before .before .before .before .before .before .args .work .now)) (c .before .before .before .before .before .before .before .before .before .before
+          .before .before .args .refs .now) (c .before .before .before .before .before .before .before .before .before .before .before .before .args .work .now) (c .before .before
+          .before .before .before .before .loop .work) (ownEnd (c .before .before .before .before .before .before .before .before .before .before .before .before .args .tiles)
+          (length (c .before .before .before .before .before .before .before .before .before .before .before .before .args .path-nos .now))) (c .before .before .before .before
+          .before .before .before .before .before .before .before .before .args .n) (c .before .before .before .before .before .before .loop .j) _ _ (c .before .before .before
+          .before .before .loop-test .taken) (long (c .before .before .before .before .before .before)) (c .before .before .before .before .before .before .loop .inv .1),
+      noted-more (madeOf (c .before .before .before .before .before .before .before .before .before .before .before .before .args .path-nos .now) (c .before .before .before .before
+          .before .before .before .before .before .before .before .before .args .coords .now) (c .before .before .before .before .before .before .before .before .before .before
+          .before .before .args .paths .now)) (startOf (c .before .before .before .before .before .before .before .before .before .before .before .before .args .path-nos .now) (c
+          .before .before .before .before .before .before .before .before .before .before .before .before .args .coords .now) (c .before .before .before .before .before .before
+          .before .before .before .before .before .before .args .paths .now) (c .before .before .before .before .before .before .before .before .before .before .before .before
+          .args .tiles)) (take (c .before .before .before .before .before .before .before .before .before .before .before .before .args .tiles) (c .before .before .before .before
+          .before .before .before .before .before .before .before .before .args .work .now)) (c .before .before .before .before .before .before .before .before .before .before
+          .before .before .args .refs .now) (c .before .before .before .before .before .before .before .before .before .before .before .before .args .work .now) (c .before .before
+          .before .before .before .before .loop .work) (ownEnd (c .before .before .before .before .before .before .before .before .before .before .before .before .args .tiles)
+          (length (c .before .before .before .before .before .before .before .before .before .before .before .before .args .path-nos .now))) (c .before .before .before .before
+          .before .before .before .before .before .before .before .before .args .n) (c .before .before .before .before .before .before .loop .j) _ _ (c .before .before .before
+          .before .before .loop-test .taken) (long (c .before .before .before .before .before .before)) (c .before .before .before .before .before .before .loop .inv .2) (m .1) (m
+          .2),
+      fine-more (strayRef (madeOf (c .before .before .before .before .before .before .before .before .before .before .before .before .args .path-nos .now) (c .before .before
+          .before .before .before .before .before .before .before .before .before .before .args .coords .now) (c .before .before .before .before .before .before .before .before
+          .before .before .before .before .args .paths .now)) (take (c .before .before .before .before .before .before .before .before .before .before .before .before .args .tiles)
+          (c .before .before .before .before .before .before .before .before .before .before .before .before .args .work .now)) (c .before .before .before .before .before .before
+          .before .before .before .before .before .before .args .refs .now)) (c .before .before .before .before .before .before .loop .j) (c .before .before .before .before .before
+          .before .loop .inv .3) (m .0),
     )
 
 same-length-2 : tie.Need-same-length-2 Inv-loop μ-loop
@@ -121,7 +225,13 @@ same-length-2 c = c .before .loop .inv .1 .same-length
 
 returns-2 : tie.Need-returns-2 Inv-loop μ-loop
 returns-2 c =
-    noted-to (madeOf (c .before .before .before .before .before .before .before .args .path-nos .now) (c .before .before .before .before .before .before .before .args .coords .now) (c .before .before .before .before .before .before .before .args .paths .now)) (startOf (c .before .before .before .before .before .before .before .args .path-nos .now) (c .before .before .before .before .before .before .before .args .coords .now) (c .before .before .before .before .before .before .before .args .paths .now) (c .before .before .before .before .before .before .before .args .tiles)) (take (c .before .before .before .before .before .before .before .args .tiles) (c .before .before .before .before .before .before .before .args .work .now)) (c .before .before .before .before .before .before .before .args .refs .now) (c .before .before .before .before .before .before .before .args .work .now) (c .before .loop .work) (ownEnd (c .before .before .before .before .before .before .before .args .tiles) (length (c .before .before .before .before .before .before .before .args .path-nos .now))) (c .before .before .before .before .before .before .before .args .n) (c .before .loop .j) (c .before .loop .inv .0)
+    noted-to (madeOf (c .before .before .before .before .before .before .before .args .path-nos .now) (c .before .before .before .before .before .before .before .args .coords .now)
+    (c .before .before .before .before .before .before .before .args .paths .now)) (startOf (c .before .before .before .before .before .before .before .args .path-nos .now) (c
+    .before .before .before .before .before .before .before .args .coords .now) (c .before .before .before .before .before .before .before .args .paths .now) (c .before .before
+    .before .before .before .before .before .args .tiles)) (take (c .before .before .before .before .before .before .before .args .tiles) (c .before .before .before .before
+    .before .before .before .args .work .now)) (c .before .before .before .before .before .before .before .args .refs .now) (c .before .before .before .before .before .before
+    .before .args .work .now) (c .before .loop .work) (ownEnd (c .before .before .before .before .before .before .before .args .tiles) (length (c .before .before .before
+    .before .before .before .before .args .path-nos .now))) (c .before .before .before .before .before .before .before .args .n) (c .before .loop .j) (c .before .loop .inv .0)
     (λ h. absurd (omega (arith, c .loop-test .left))) (c .before .loop .inv .3) (c .before .loop .inv .1) (c .before .loop .inv .2)
 
 pub note-refs-spec : {M : Type 1} → statement M

@@ -28,7 +28,12 @@ same-length : tie.Need-same-length
 same-length c = search needs
 
 returns : tie.Need-returns
-returns c = rest-count (viewOf (length (c .before .before .before .before .before .before .args .counts .now)) (c .before .before .before .before .before .before .args .work .now) (c .before .before .before .before .before .before .args .made)) (c .before .before .before .before .before .before .args .lent) (c .before .before .before .before .before .before .args .counts .now) (c .before .before .before .before .before .before .args .backs .now) (c .before .before .before .before .before .before .args .stored .now) (c .before .before .before .before .before .before .args .room) (c .before .first-count .result) (c .before .first-count .ensures ∙ counts-in (c .before .before .before .before .before .before .args .counts .now) (c .before .before .before .before .before .before .args .work .now) (c .before .before .before .before .before .before .args .made)) (c .if1 .taken)
+returns c = rest-count (viewOf (length (c .before .before .before .before .before .before .args .counts .now)) (c .before .before .before .before .before .before .args .work .now)
+    (c .before .before .before .before .before .before .args .made)) (c .before .before .before .before .before .before .args .lent) (c .before .before .before .before .before
+    .before .args .counts .now) (c .before .before .before .before .before .before .args .backs .now) (c .before .before .before .before .before .before .args .stored .now) (c
+    .before .before .before .before .before .before .args .room) (c .before .first-count .result) (c .before .first-count .ensures ∙ counts-in (c .before .before .before .before
+    .before .before .args .counts .now) (c .before .before .before .before .before .before .args .work .now) (c .before .before .before .before .before .before .args .made)) (c
+    .if1 .taken)
 
 first-back-requires : tie.Need-first-back-requires
 first-back-requires c κs = search needs
@@ -40,7 +45,17 @@ same-length-2 : tie.Need-same-length-2
 same-length-2 c = search needs
 
 returns-2 : tie.Need-returns-2
-returns-2 c = rest-back (viewOf (length (c .before .before .before .before .before .before .before .before .before .args .counts .now)) (c .before .before .before .before .before .before .before .before .before .args .work .now) (c .before .before .before .before .before .before .before .before .before .args .made)) (c .before .before .before .before .before .before .before .before .before .args .lent) (c .before .before .before .before .before .before .before .before .before .args .counts .now) (c .before .before .before .before .before .before .before .before .before .args .backs .now) (c .before .before .before .before .before .before .before .before .before .args .stored .now) (c .before .before .before .before .before .before .before .before .before .args .room) (c .before .before .before .before .first-count .result) (c .before .before .before .before .first-count .ensures ∙ counts-in (c .before .before .before .before .before .before .before .before .before .args .counts .now) (c .before .before .before .before .before .before .before .before .before .args .work .now) (c .before .before .before .before .before .before .before .before .before .args .made)) (c .before .before .before .if1 .left) (c .before .first-back .result) (c .before .first-back .ensures ∙ backs-in (c .before .before .before .before .before .before .before .before .before .args .backs .now) (c .before .before .before .before .before .before .before .before .before .args .work .now) (length (c .before .before .before .before .before .before .before .before .before .args .counts .now)) (c .before .before .before .before .before .before .before .before .before .args .made) (c .before .before .before .before .before .before .before .before .before .pre .0)) (omega (arith, c .if2 .taken, c .before .before .before .before .before .before .before .before .before .pre .0))
+returns-2 c = rest-back (viewOf (length (c .before .before .before .before .before .before .before .before .before .args .counts .now)) (c .before .before .before .before .before
+    .before .before .before .before .args .work .now) (c .before .before .before .before .before .before .before .before .before .args .made)) (c .before .before .before .before
+    .before .before .before .before .before .args .lent) (c .before .before .before .before .before .before .before .before .before .args .counts .now) (c .before .before .before
+    .before .before .before .before .before .before .args .backs .now) (c .before .before .before .before .before .before .before .before .before .args .stored .now) (c .before
+    .before .before .before .before .before .before .before .before .args .room) (c .before .before .before .before .first-count .result) (c .before .before .before .before
+    .first-count .ensures ∙ counts-in (c .before .before .before .before .before .before .before .before .before .args .counts .now) (c .before .before .before .before .before
+    .before .before .before .before .args .work .now) (c .before .before .before .before .before .before .before .before .before .args .made)) (c .before .before .before .if1
+    .left) (c .before .first-back .result) (c .before .first-back .ensures ∙ backs-in (c .before .before .before .before .before .before .before .before .before .args .backs .now)
+    (c .before .before .before .before .before .before .before .before .before .args .work .now) (length (c .before .before .before .before .before .before .before .before .before
+    .args .counts .now)) (c .before .before .before .before .before .before .before .before .before .args .made) (c .before .before .before .before .before .before .before .before
+    .before .pre .0)) (omega (arith, c .if2 .taken, c .before .before .before .before .before .before .before .before .before .pre .0))
 
 slots-in-requires : tie.Need-slots-in-requires
 slots-in-requires c κs = search needs
@@ -55,7 +70,30 @@ same-length-3 : tie.Need-same-length-3
 same-length-3 c = search needs
 
 returns-3 : tie.Need-returns-3
-returns-3 c = rest-slots (viewOf (length (c .before .before .before .before .before .before .before .before .before .before .before .before .before .before .before .args .counts .now)) (c .before .before .before .before .before .before .before .before .before .before .before .before .before .before .before .args .work .now) (c .before .before .before .before .before .before .before .before .before .before .before .before .before .before .before .args .made)) (c .before .before .before .before .before .before .before .before .before .before .before .before .before .before .before .args .lent) (c .before .before .before .before .before .before .before .before .before .before .before .before .before .before .before .args .counts .now) (c .before .before .before .before .before .before .before .before .before .before .before .before .before .before .before .args .backs .now) (c .before .before .before .before .before .before .before .before .before .before .before .before .before .before .before .args .stored .now) (c .before .before .before .before .before .before .before .before .before .before .before .before .before .before .before .args .room) (c .before .before .before .before .before .before .before .before .before .before .first-count .result) (c .before .before .before .before .before .before .before .before .before .before .first-count .ensures ∙ counts-in (c .before .before .before .before .before .before .before .before .before .before .before .before .before .before .before .args .counts .now) (c .before .before .before .before .before .before .before .before .before .before .before .before .before .before .before .args .work .now) (c .before .before .before .before .before .before .before .before .before .before .before .before .before .before .before .args .made)) (c .before .before .before .before .before .before .before .before .before .if1 .left) (c .before .before .before .before .before .before .before .first-back .result) (c .before .before .before .before .before .before .before .first-back .ensures ∙ backs-in (c .before .before .before .before .before .before .before .before .before .before .before .before .before .before .before .args .backs .now) (c .before .before .before .before .before .before .before .before .before .before .before .before .before .before .before .args .work .now) (length (c .before .before .before .before .before .before .before .before .before .before .before .before .before .before .before .args .counts .now)) (c .before .before .before .before .before .before .before .before .before .before .before .before .before .before .before .args .made) (c .before .before .before .before .before .before .before .before .before .before .before .before .before .before .before .pre .0)) (omega (arith, c .before .before .before .before .before .before .if2 .left, c .before .before .before .before .before .before .before .before .before .before .before .before .before .before .before .pre .0)) (c .before .before .before .first-slots .result) (c .before .before .before .first-slots .ensures .0 ∙ ap (λ (k : ℕ). firstSlotFault k (c .before .before .before .before .before .before .before .before .before .before .before .before .before .before .before .args .counts .now) (c .before .before .before .before .before .before .before .before .before .before .before .before .before .before .before .args .stored .now)) (c .before .before .before .before .before .slots-in .ensures)) (c .if3 .taken)
+returns-3 c = rest-slots (viewOf (length (c .before .before .before .before .before .before .before .before .before .before .before .before .before .before .before .args .counts
+    .now)) (c .before .before .before .before .before .before .before .before .before .before .before .before .before .before .before .args .work .now) (c .before .before .before
+    .before .before .before .before .before .before .before .before .before .before .before .before .args .made)) (c .before .before .before .before .before .before .before .before
+    .before .before .before .before .before .before .before .args .lent) (c .before .before .before .before .before .before .before .before .before .before .before .before .before
+    .before .before .args .counts .now) (c .before .before .before .before .before .before .before .before .before .before .before .before .before .before .before .args .backs
+    .now) (c .before .before .before .before .before .before .before .before .before .before .before .before .before .before .before .args .stored .now) (c .before .before .before
+    .before .before .before .before .before .before .before .before .before .before .before .before .args .room) (c .before .before .before .before .before .before .before .before
+    .before .before .first-count .result) (c .before .before .before .before .before .before .before .before .before .before .first-count .ensures ∙ counts-in (c .before .before
+    .before .before .before .before .before .before .before .before .before .before .before .before .before .args .counts .now) (c .before .before .before .before .before .before
+    .before .before .before .before .before .before .before .before .before .args .work .now) (c .before .before .before .before .before .before .before .before .before .before
+    .before .before .before .before .before .args .made)) (c .before .before .before .before .before .before .before .before .before .if1 .left) (c .before .before .before .before
+    .before .before .before .first-back .result) (c .before .before .before .before .before .before .before .first-back .ensures ∙ backs-in (c .before .before .before .before
+    .before .before .before .before .before .before .before .before .before .before .before .args .backs .now) (c .before .before .before .before .before .before .before .before
+    .before .before .before .before .before .before .before .args .work .now) (length (c .before .before .before .before .before .before .before .before .before .before .before
+    .before .before .before .before .args .counts .now)) (c .before .before .before .before .before .before .before .before .before .before .before .before .before .before .before
+    .args .made) (c .before .before .before .before .before .before .before .before .before .before .before .before .before .before .before .pre .0)) (omega (
+      arith,
+      c .before
+          .before .before .before .before .before .if2 .left,
+      c .before .before .before .before .before .before .before .before .before .before .before .before .before .before .before
+          .pre .0,
+    )) (c .before .before .before .first-slots .result) (c .before .before .before .first-slots .ensures .0 ∙ ap (λ (k : ℕ). firstSlotFault k (c .before .before .before
+    .before .before .before .before .before .before .before .before .before .before .before .before .args .counts .now) (c .before .before .before .before .before .before .before
+    .before .before .before .before .before .before .before .before .args .stored .now)) (c .before .before .before .before .before .slots-in .ensures)) (c .if3 .taken)
 
 cast-t24 : tie.Need-cast-t24
 cast-t24 c = search needs
@@ -64,13 +102,77 @@ same-length-4 : tie.Need-same-length-4
 same-length-4 c = search needs
 
 returns-4 : tie.Need-returns-4
-returns-4 c = rest-missing (viewOf (length (c .before .before .before .before .before .before .before .before .before .before .before .before .before .before .before .before .args .counts .now)) (c .before .before .before .before .before .before .before .before .before .before .before .before .before .before .before .before .args .work .now) (c .before .before .before .before .before .before .before .before .before .before .before .before .before .before .before .before .args .made)) (c .before .before .before .before .before .before .before .before .before .before .before .before .before .before .before .before .args .lent) (c .before .before .before .before .before .before .before .before .before .before .before .before .before .before .before .before .args .counts .now) (c .before .before .before .before .before .before .before .before .before .before .before .before .before .before .before .before .args .backs .now) (c .before .before .before .before .before .before .before .before .before .before .before .before .before .before .before .before .args .stored .now) (c .before .before .before .before .before .before .before .before .before .before .before .before .before .before .before .before .args .room) (c .before .before .before .before .before .before .before .before .before .before .before .first-count .result) (c .before .before .before .before .before .before .before .before .before .before .before .first-count .ensures ∙ counts-in (c .before .before .before .before .before .before .before .before .before .before .before .before .before .before .before .before .args .counts .now) (c .before .before .before .before .before .before .before .before .before .before .before .before .before .before .before .before .args .work .now) (c .before .before .before .before .before .before .before .before .before .before .before .before .before .before .before .before .args .made)) (c .before .before .before .before .before .before .before .before .before .before .if1 .left) (c .before .before .before .before .before .before .before .before .first-back .result) (c .before .before .before .before .before .before .before .before .first-back .ensures ∙ backs-in (c .before .before .before .before .before .before .before .before .before .before .before .before .before .before .before .before .args .backs .now) (c .before .before .before .before .before .before .before .before .before .before .before .before .before .before .before .before .args .work .now) (length (c .before .before .before .before .before .before .before .before .before .before .before .before .before .before .before .before .args .counts .now)) (c .before .before .before .before .before .before .before .before .before .before .before .before .before .before .before .before .args .made) (c .before .before .before .before .before .before .before .before .before .before .before .before .before .before .before .before .pre .0)) (omega (arith, c .before .before .before .before .before .before .before .if2 .left, c .before .before .before .before .before .before .before .before .before .before .before .before .before .before .before .before .pre .0)) (c .before .before .before .before .first-slots .result) (c .before .before .before .before .first-slots .ensures .0 ∙ ap (λ (k : ℕ). firstSlotFault k (c .before .before .before .before .before .before .before .before .before .before .before .before .before .before .before .before .args .counts .now) (c .before .before .before .before .before .before .before .before .before .before .before .before .before .before .before .before .args .stored .now)) (c .before .before .before .before .before .before .slots-in .ensures)) (c .before .if3 .left) (omega (arith, c .if4 .taken, view-made (length (c .before .before .before .before .before .before .before .before .before .before .before .before .before .before .before .before .args .counts .now)) (c .before .before .before .before .before .before .before .before .before .before .before .before .before .before .before .before .args .work .now) (c .before .before .before .before .before .before .before .before .before .before .before .before .before .before .before .before .args .made)))
+returns-4 c = rest-missing (viewOf (length (c .before .before .before .before .before .before .before .before .before .before .before .before .before .before .before .before .args
+    .counts .now)) (c .before .before .before .before .before .before .before .before .before .before .before .before .before .before .before .before .args .work .now) (c .before
+    .before .before .before .before .before .before .before .before .before .before .before .before .before .before .before .args .made)) (c .before .before .before .before .before
+    .before .before .before .before .before .before .before .before .before .before .before .args .lent) (c .before .before .before .before .before .before .before .before .before
+    .before .before .before .before .before .before .before .args .counts .now) (c .before .before .before .before .before .before .before .before .before .before .before .before
+    .before .before .before .before .args .backs .now) (c .before .before .before .before .before .before .before .before .before .before .before .before .before .before .before
+    .before .args .stored .now) (c .before .before .before .before .before .before .before .before .before .before .before .before .before .before .before .before .args .room) (c
+    .before .before .before .before .before .before .before .before .before .before .before .first-count .result) (c .before .before .before .before .before .before .before .before
+    .before .before .before .first-count .ensures ∙ counts-in (c .before .before .before .before .before .before .before .before .before .before .before .before .before .before
+    .before .before .args .counts .now) (c .before .before .before .before .before .before .before .before .before .before .before .before .before .before .before .before .args
+    .work .now) (c .before .before .before .before .before .before .before .before .before .before .before .before .before .before .before .before .args .made)) (c .before .before
+    .before .before .before .before .before .before .before .before .if1 .left) (c .before .before .before .before .before .before .before .before .first-back .result) (c .before
+    .before .before .before .before .before .before .before .first-back .ensures ∙ backs-in (c .before .before .before .before .before .before .before .before .before .before
+    .before .before .before .before .before .before .args .backs .now) (c .before .before .before .before .before .before .before .before .before .before .before .before .before
+    .before .before .before .args .work .now) (length (c .before .before .before .before .before .before .before .before .before .before .before .before .before .before .before
+    .before .args .counts .now)) (c .before .before .before .before .before .before .before .before .before .before .before .before .before .before .before .before .args .made) (c
+    .before .before .before .before .before .before .before .before .before .before .before .before .before .before .before .before .pre .0)) (omega (
+      arith,
+      c .before .before
+          .before .before .before .before .before .if2 .left,
+      c .before .before .before .before .before .before .before .before .before .before .before .before .before .before .before
+          .before .pre .0,
+    )) (c .before .before .before .before .first-slots .result) (c .before .before .before .before .first-slots .ensures .0 ∙ ap (λ (k : ℕ). firstSlotFault k (c
+    .before .before .before .before .before .before .before .before .before .before .before .before .before .before .before .before .args .counts .now) (c .before .before .before
+    .before .before .before .before .before .before .before .before .before .before .before .before .before .args .stored .now)) (c .before .before .before .before .before .before
+    .slots-in .ensures)) (c .before .if3 .left) (omega (
+      arith,
+      c .if4 .taken,
+      view-made (length (c .before .before .before .before .before .before .before .before .before .before
+          .before .before .before .before .before .before .args .counts .now)) (c .before .before .before .before .before .before .before .before .before .before .before .before .before
+          .before .before .before .args .work .now) (c .before .before .before .before .before .before .before .before .before .before .before .before .before .before .before .before
+          .args .made),
+    ))
 
 same-length-5 : tie.Need-same-length-5
 same-length-5 c = search needs
 
 returns-5 : tie.Need-returns-5
-returns-5 c = rest-yes (viewOf (length (c .before .before .before .before .before .before .before .before .before .before .before .before .before .before .before .before .args .counts .now)) (c .before .before .before .before .before .before .before .before .before .before .before .before .before .before .before .before .args .work .now) (c .before .before .before .before .before .before .before .before .before .before .before .before .before .before .before .before .args .made)) (c .before .before .before .before .before .before .before .before .before .before .before .before .before .before .before .before .args .lent) (c .before .before .before .before .before .before .before .before .before .before .before .before .before .before .before .before .args .counts .now) (c .before .before .before .before .before .before .before .before .before .before .before .before .before .before .before .before .args .backs .now) (c .before .before .before .before .before .before .before .before .before .before .before .before .before .before .before .before .args .stored .now) (c .before .before .before .before .before .before .before .before .before .before .before .before .before .before .before .before .args .room) (c .before .before .before .before .before .before .before .before .before .before .before .first-count .result) (c .before .before .before .before .before .before .before .before .before .before .before .first-count .ensures ∙ counts-in (c .before .before .before .before .before .before .before .before .before .before .before .before .before .before .before .before .args .counts .now) (c .before .before .before .before .before .before .before .before .before .before .before .before .before .before .before .before .args .work .now) (c .before .before .before .before .before .before .before .before .before .before .before .before .before .before .before .before .args .made)) (c .before .before .before .before .before .before .before .before .before .before .if1 .left) (c .before .before .before .before .before .before .before .before .first-back .result) (c .before .before .before .before .before .before .before .before .first-back .ensures ∙ backs-in (c .before .before .before .before .before .before .before .before .before .before .before .before .before .before .before .before .args .backs .now) (c .before .before .before .before .before .before .before .before .before .before .before .before .before .before .before .before .args .work .now) (length (c .before .before .before .before .before .before .before .before .before .before .before .before .before .before .before .before .args .counts .now)) (c .before .before .before .before .before .before .before .before .before .before .before .before .before .before .before .before .args .made) (c .before .before .before .before .before .before .before .before .before .before .before .before .before .before .before .before .pre .0)) (omega (arith, c .before .before .before .before .before .before .before .if2 .left, c .before .before .before .before .before .before .before .before .before .before .before .before .before .before .before .before .pre .0)) (c .before .before .before .before .first-slots .result) (c .before .before .before .before .first-slots .ensures .0 ∙ ap (λ (k : ℕ). firstSlotFault k (c .before .before .before .before .before .before .before .before .before .before .before .before .before .before .before .before .args .counts .now) (c .before .before .before .before .before .before .before .before .before .before .before .before .before .before .before .before .args .stored .now)) (c .before .before .before .before .before .before .slots-in .ensures)) (c .before .if3 .left) (omega (arith, c .if4 .left, view-made (length (c .before .before .before .before .before .before .before .before .before .before .before .before .before .before .before .before .args .counts .now)) (c .before .before .before .before .before .before .before .before .before .before .before .before .before .before .before .before .args .work .now) (c .before .before .before .before .before .before .before .before .before .before .before .before .before .before .before .before .args .made)))
+returns-5 c = rest-yes (viewOf (length (c .before .before .before .before .before .before .before .before .before .before .before .before .before .before .before .before .args
+    .counts .now)) (c .before .before .before .before .before .before .before .before .before .before .before .before .before .before .before .before .args .work .now) (c .before
+    .before .before .before .before .before .before .before .before .before .before .before .before .before .before .before .args .made)) (c .before .before .before .before .before
+    .before .before .before .before .before .before .before .before .before .before .before .args .lent) (c .before .before .before .before .before .before .before .before .before
+    .before .before .before .before .before .before .before .args .counts .now) (c .before .before .before .before .before .before .before .before .before .before .before .before
+    .before .before .before .before .args .backs .now) (c .before .before .before .before .before .before .before .before .before .before .before .before .before .before .before
+    .before .args .stored .now) (c .before .before .before .before .before .before .before .before .before .before .before .before .before .before .before .before .args .room) (c
+    .before .before .before .before .before .before .before .before .before .before .before .first-count .result) (c .before .before .before .before .before .before .before .before
+    .before .before .before .first-count .ensures ∙ counts-in (c .before .before .before .before .before .before .before .before .before .before .before .before .before .before
+    .before .before .args .counts .now) (c .before .before .before .before .before .before .before .before .before .before .before .before .before .before .before .before .args
+    .work .now) (c .before .before .before .before .before .before .before .before .before .before .before .before .before .before .before .before .args .made)) (c .before .before
+    .before .before .before .before .before .before .before .before .if1 .left) (c .before .before .before .before .before .before .before .before .first-back .result) (c .before
+    .before .before .before .before .before .before .before .first-back .ensures ∙ backs-in (c .before .before .before .before .before .before .before .before .before .before
+    .before .before .before .before .before .before .args .backs .now) (c .before .before .before .before .before .before .before .before .before .before .before .before .before
+    .before .before .before .args .work .now) (length (c .before .before .before .before .before .before .before .before .before .before .before .before .before .before .before
+    .before .args .counts .now)) (c .before .before .before .before .before .before .before .before .before .before .before .before .before .before .before .before .args .made) (c
+    .before .before .before .before .before .before .before .before .before .before .before .before .before .before .before .before .pre .0)) (omega (
+      arith,
+      c .before .before
+          .before .before .before .before .before .if2 .left,
+      c .before .before .before .before .before .before .before .before .before .before .before .before .before .before .before
+          .before .pre .0,
+    )) (c .before .before .before .before .first-slots .result) (c .before .before .before .before .first-slots .ensures .0 ∙ ap (λ (k : ℕ). firstSlotFault k (c
+    .before .before .before .before .before .before .before .before .before .before .before .before .before .before .before .before .args .counts .now) (c .before .before .before
+    .before .before .before .before .before .before .before .before .before .before .before .before .before .args .stored .now)) (c .before .before .before .before .before .before
+    .slots-in .ensures)) (c .before .if3 .left) (omega (
+      arith,
+      c .if4 .left,
+      view-made (length (c .before .before .before .before .before .before .before .before .before .before
+          .before .before .before .before .before .before .args .counts .now)) (c .before .before .before .before .before .before .before .before .before .before .before .before .before
+          .before .before .before .args .work .now) (c .before .before .before .before .before .before .before .before .before .before .before .before .before .before .before .before
+          .args .made),
+    ))
 
 pub look-past-spec : {M : Type 1} → statement M
 look-past-spec =
