@@ -2,27 +2,25 @@
 -- written for. So after counting, hand-out, tiling and lists with no refusal, and after a done frame and its lists, a panel that holds a slot's tag
 -- against the path at drawing time never sees them differ. Assumes nothing.
 use mathlib.Core.Path.{_≡_, refl, sym, ap, subst, _∙_}
-use mathlib.Core.Bool.{Bool, true, false, cond, _&&_}
+use mathlib.Core.Bool.{Bool, true, false, cond}
 use mathlib.Core.List.{List, [], _∷_}
 use Prim.Native.Nat.{ℕ, _+_, _≤_, _<_}
 use native.Mathlib.Decide.{decLt}
 use native.Mathlib.Omega.{arith}
-use lib.Dec.{leb, ltb}
+use lib.Dec.{ltb}
 use lib.IntN.{ℤ, pos}
 use lib.ListN.{length, getD, List·getD-eq-default}
 use lib.Ieee.{Float}
-use borrow.Author.Tests.{leb-true, ltb-true}
+use borrow.Author.Tests.{ltb-true}
 use Rattle.lists.specs.Run.{All}
 use Rattle.lists.specs.Sums.{sum, first}
 use Rattle.panel.specs.Limits.{mostSlots}
 use Rattle.panel.specs.Paths.{pathAt, pathCount, tileOf, beamAt}
 use Rattle.panel.specs.Pieces.{Pieces}
 use Rattle.panel.specs.Slots.{not32}
-use Rattle.panel.specs.declared.kinds.Path.{Path}
 use Rattle.panel.specs.declared.kinds.Running.{Running}
 use Rattle.panel.specs.declared.kinds.Answer.the-variants.{Done}
-use Rattle.panel.proofs.BoolLaws.{both}
-use Rattle.panel.proofs.PathLaws.{InBox, own-tile}
+use Rattle.panel.proofs.PathLaws.{own-tile}
 use Rattle.hand_out.specs.HandOut.{hand, handOutOf, outOf}
 use Rattle.hand_out.proofs.HandLaws.{reads-back}
 use Rattle.path_tiling.specs.Look.{lent}
@@ -33,6 +31,7 @@ use Rattle.commands.specs.Pixel.{evenOddOf}
 use Rattle.write_lists.specs.Pairs.{Tables, tables, colourAt, ruleAt, inBox, covers, bitsOf, onTile, onPath}
 use Rattle.write_lists.specs.declared.pairs.Pair.{Pair}
 use Rattle.write_lists.specs.declared.pairs.Pair.the-variants.{Fill, Solid}
+use Rattle.write_lists.proofs.PairLaws.{box-in}
 use Rattle.theorems.specs.Drawn.{InPath}
 use Rattle.theorems.specs.Refs.{AllCounted}
 use Rattle.theorems.specs.Stray.{tagAt, Carries}
@@ -41,14 +40,6 @@ use Rattle.theorems.proofs.SumLaws.{sums, whole}
 use Rattle.theorems.proofs.Framing.{frame-done}
 use Rattle.theorems.proofs.Tags.{tiled-carries, frame-carries}
 use Rattle.call_theorems.specs.Tagged.{Tagged}
-
--- the tile in a box, by the writer's test
-in-box : (b : Path) (x y : ℕ) → inBox b x y ≡ true → InBox b x y
-in-box b x y e =
-    let i = both (leb (b .x0) x && ltb x (b .x1) && leb (b .y0) y) (ltb y (b .y1)) e in
-    let j = both (leb (b .x0) x && ltb x (b .x1)) (leb (b .y0) y) (i .0) in
-    let k = both (leb (b .x0) x) (ltb x (b .x1)) (j .0) in
-    record { left = leb-true (b .x0) x (k .0); right = ltb-true x (b .x1) (k .1); top = leb-true (b .y0) y (j .1); bottom = ltb-true y (b .y1) (i .1) }
 
 -- the slots of cs, handed out, carry their paths' numbers
 module _ (paths paints : List ℕ) (backdrops : List ℤ) (cs : List ℕ) (few : sum cs ≤ mostSlots) (q : Pieces) (c : Carries paths cs q) where
@@ -90,7 +81,7 @@ module _ (paths paints : List ℕ) (backdrops : List ℤ) (cs : List ℕ) (few :
           → All (Tagged paths q p)
           (cond b (onTile (colourAt paints p) (ruleAt paints p) (getD cs t 0) (getD (hand 0 cs) t 0) (getD backdrops t (pos 0))) [])
       go true e =
-          let o = own-tile (pathAt paths p) x y (in-box (pathAt paths p) x y e) in
+          let o = own-tile (pathAt paths p) x y (box-in (pathAt paths p) x y e) in
           on-tile p t (colourAt paints p) (ruleAt paints p) (getD backdrops t (pos 0)) (h, o .0, o .1)
       go false e = tt
 

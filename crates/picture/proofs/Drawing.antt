@@ -9,7 +9,7 @@ use lib.Dec.{leb, ltb, eqb}
 use lib.ListN.{length, getD}
 use lib.IntN.{ℤ, pos, _+ℤ_}
 use lib.Ieee.{Float}
-use borrow.Author.Tests.{leb-true, ltb-true, eqb-true}
+use borrow.Author.Tests.{eqb-true}
 use Rattle.lists.specs.Run.{All, actAll, sift, keepIf}
 use Rattle.lists.specs.Sums.{sum, first, from}
 use Rattle.panel.specs.Limits.{mostSlots}
@@ -52,6 +52,7 @@ use Rattle.theorems.proofs.SumLaws.{sums, passed, whole}
 use Rattle.theorems.proofs.StrayLaws.{handed-is, no-stray}
 use Rattle.theorems.proofs.Isolation.{seen-back}
 use Rattle.theorems.proofs.Framing.{frame-done, counts-long}
+use Rattle.write_lists.proofs.PairLaws.{box-in}
 use Rattle.list_theorems.specs.Painted.{paintTile, paintPath, painted, screenOf}
 use Rattle.picture.specs.Picture.{piecesOf, windingOf, lineWinding, layOf, pathOver, pixelOf, pictureOf}
 use Rattle.picture.proofs.AtSlots.{readFrom, tile-laid}
@@ -63,13 +64,6 @@ use Rattle.picture.proofs.Windings.{row-sum}
 pub same-acts : {W : Type 0} (f g : ℕ → W → W) (n a b : ℕ) → a + n ≤ b → ((p : ℕ) → p < b → (w : W) → f p w ≡ g p w) → (w : W) → actAll f (from a n) w ≡ actAll g (from a n) w
 same-acts f g zero a b h e w = refl
 same-acts f g (suc n) a b h e w = same-acts f g n (suc a) b (omega arith) e (f a w) ∙ ap (actAll g (from (suc a) n)) (e a (omega arith) w)
-
-in-box : (b : Path) (x y : ℕ) → inBox b x y ≡ true → InBox b x y
-in-box b x y e =
-    let i = both (leb (b .x0) x && ltb x (b .x1) && leb (b .y0) y) (ltb y (b .y1)) e in
-    let j = both (leb (b .x0) x && ltb x (b .x1)) (leb (b .y0) y) (i .0) in
-    let k = both (leb (b .x0) x) (ltb x (b .x1)) (j .0) in
-    record { left = leb-true (b .x0) x (k .0); right = ltb-true x (b .x1) (k .1); top = leb-true (b .y0) y (j .1); bottom = ltb-true y (b .y1) (i .1) }
 
 -- a line of path p is walked over p's box
 walk-box : (paths : List ℕ) (d : Drawn) (v : Walk) (c : Path) → walkOf paths d ≡ Found.Line v c → c ≡ pathAt paths (d .path)
@@ -212,7 +206,7 @@ module _ (b : ℕ) (nos : List ℕ) (coords : List Float) (paths : List ℕ) (n 
           (getD summed (tileOf (pathAt paths q) x y) (pos 0)) px) px
           ≡ cond c (layOf k (colourAt paints q) (ruleAt paints q) (piecesOf paths q x y lines) (windingOf paths q x y lines) px) px
       go true e =
-          let box = in-box (pathAt paths q) x y e in
+          let box = box-in (pathAt paths q) x y e in
           tile-laid after k (colourAt paints q) (ruleAt paints q) (getD cs (tileOf (pathAt paths q) x y) 0) (getD (hand 0 cs) (tileOf (pathAt paths q) x y) 0)
           (getD summed (tileOf (pathAt paths q) x y) (pos 0)) px (piecesOf paths q x y lines) (windingOf paths q x y lines) (pieces-there q x y there box) (winding-there q x y there box)
       go false e = refl
