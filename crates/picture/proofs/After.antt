@@ -36,7 +36,8 @@ use Rattle.path_tiling.specs.Tiling.{Tiled, Range, tiled, rangeTiled, applied, 
 use Rattle.frame.specs.Frame as Frame
 use Rattle.frame.specs.declared.kinds.Framed.the-variants as Framed
 use Rattle.commands.specs.Numbers.{tileWords}
-use Rattle.write_lists.specs.Pairs.{Tables, tables}
+use Rattle.commands.specs.Pixel.{evenOddOf}
+use Rattle.write_lists.specs.Pairs.{Tables, tables, colourAt, ruleAt, inBox, covers}
 use Rattle.write_lists.specs.Layout.{written}
 use Rattle.write_lists.specs.Lists.{callAnswer, regionsOf, listsOf, Left, left, writeListsOf}
 use Rattle.theorems.specs.Batches.{Rising, lastOf, inBatches, inRanges}
@@ -50,7 +51,7 @@ use Rattle.list_theorems.specs.Written.{Wrote, AllI32}
 use Rattle.list_theorems.specs.Refusing.{AllShort, NoRoom}
 use Rattle.list_theorems.proofs.Exact.{lists-exact}
 use Rattle.list_theorems.proofs.Handed.{Handed, handed-done}
-use Rattle.picture.specs.Picture.{linePieces, allPieces, piecesOf}
+use Rattle.picture.specs.Picture.{linePieces, allPieces, piecesOf, windingOf, layOf, pathOver}
 use Rattle.picture.specs.Shown.{Shows}
 use Rattle.picture.specs.Own.{Among, OwnPiece}
 use Rattle.picture.proofs.AtSlots.{read-length}
@@ -141,6 +142,16 @@ pieces-own paths p x y (d ∷ ds) = go (eqb (d .path) p) refl (pieces-own paths 
         (line-own paths p x y d ds (eqb-true (d .path) p e) (linePieces x y (walkOf paths d)) (all-among (linePieces x y (walkOf paths d))))
         (all-more paths p x y d ds (allPieces paths x y (ofPath p ds)) h)
     go false e h = all-more paths p x y d ds (allPieces paths x y (ofPath p ds)) h
+
+-- a path with no piece in a tile, whose winding doesn't cover there, is not drawn there at all
+pub not-drawn : (paths paints : List ℕ) (lines : List Drawn) (x y k q : ℕ) (px : List Float) → piecesOf paths q x y lines ≡ []
+    → covers (evenOddOf (ruleAt paints q)) (windingOf paths q x y lines) ≡ false → pathOver paths paints lines x y k q px ≡ px
+unfolding pathOver
+not-drawn paths paints lines x y k q px e f = go (inBox (pathAt paths q) x y)
+  where
+    go : (c : Bool) → cond c (layOf k (colourAt paints q) (ruleAt paints q) (piecesOf paths q x y lines) (windingOf paths q x y lines) px) px ≡ px
+    go true = rw (e, f)
+    go false = refl
 
 -- after the calls: a tile has as many pieces of its path as it has references; so where it has none, no step that was counted lies there
 module _ (b : ℕ) (nos : List ℕ) (coords : List Float) (paths : List ℕ) (n : ℕ) (refs : List ℕ) (bs : List ℤ) (cs rs : List ℕ) (m : ℕ)
