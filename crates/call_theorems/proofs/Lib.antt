@@ -3,6 +3,7 @@
 --     Cheats       no cheat meets a promise: one law, and an instance for each call
 --     Drawn        from counting to the screen: no tile is refused, and the pixels are those of painting
 --     ExactCount, ExactStages, ExactTile, ExactLists, ExactFrame, ExactPpm   exact at the call: a promise is met where one of the call's ways holds, and nowhere else
+--     CheckAnswers   the same of a check of another's tables
 pub mod OneAnswer
 pub mod Cheats
 pub mod ExactCount

@@ -62,7 +62,17 @@ pub extern "C" fn gp_check(
     ensures { λ r. ⌜ GpCheckMet (now («path_nos» .entry)) (now (coords .entry)) (now (paths .entry)) (now (refs .entry)) (now (counts .entry)) (now (backdrops .entry))
         (now (stored .entry)) room (now (work .entry)) r (now (found .exit)) (now (item .exit)) (now (work .exit)) ⌝ }
 {
-    let r = tile_check::check_tiles(path_nos, coords, paths, refs, counts, backdrops, stored, room, work);
+    let r = tile_check::check_tiles(
+        path_nos,
+        coords,
+        paths,
+        refs,
+        counts,
+        backdrops,
+        stored,
+        room,
+        work,
+    );
     *found = found_of(r);
     *item = item_of(r);
     number_of(r)
