@@ -1,6 +1,6 @@
 // A pen that draws closed outlines as lines: path numbers, and four floats to a line. It goes from hand to
 // hand with the lines drawn so far; where there is no room for another, that one isn't drawn.
-pub const LINES: usize = 1024;
+pub const LINES: usize = 2048;
 
 pub const FLOATS: usize = 4 * LINES;
 

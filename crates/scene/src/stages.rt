@@ -14,7 +14,7 @@ use path_count::Counted;
 use ppm_write::Written;
 
 // Slots that the room of segments has.
-const SLOTS: u32 = 2048;
+const SLOTS: u32 = 8192;
 
 const TILE_SIDE: u32 = 16;
 

@@ -4,6 +4,8 @@
 #[rustfmt::skip]
 mod panel {
     pub mod readings { include!("../../../../crates/scene/src/readings.rt"); }
+    pub mod letters { include!("../../../../crates/scene/src/letters.rt"); }
+    pub mod labels { include!("../../../../crates/scene/src/labels.rt"); }
     pub mod paths { include!("../../../../crates/scene/src/paths.rt"); }
     pub mod pen { include!("../../../../crates/scene/src/pen.rt"); }
     pub mod drawing { include!("../../../../crates/scene/src/drawing.rt"); }
