@@ -116,8 +116,13 @@ pub fn limits() {
     tables.refs.iter_mut().skip(1).step_by(REF).for_each(|w| *w %= STEP_RANGE);
     row("at the limits, all slices 0", &tables, FOUND_REFERENCE, 1);
 
-    // one tile, whose slots lie past the limit, whatever room is named
-    let mut one = Tables::new(vec![0], vec![8.0, 4.0, 8.0, 12.0], path([0, 0, 1, 1], 0).to_vec(), 1, 1);
-    (one.room, one.stored[0]) = (u32::MAX, 1);
-    row("one tile, slots past the limit", &one, FOUND_SLOTS, 3);
+    // one tile, its slots at the limit's end and past it, whatever room is named: by few lines, so with little working room, and by many
+    for lines in [1, lines - 1] {
+        let coords = [8.0, 4.0, 8.0, 12.0].repeat(lines);
+        let mut one = Tables::new(vec![0; lines], coords, path([0, 0, 1, 1], 0).to_vec(), 1, lines);
+        (one.room, one.stored[0]) = (u32::MAX, !(ROOM_MOST as u32 - lines as u32));
+        row("one tile, slots up to the limit", &one, FOUND_YES, 3);
+        one.stored[0] -= 1;
+        row("one tile, slots past the limit", &one, FOUND_SLOTS, 3);
+    }
 }

@@ -341,9 +341,9 @@ fn made_by_the_rust(case: &Case, sides: Sides, table: &mut Table) -> Result<(), 
         );
         (no, found, item)
     };
-    same("tables that the Rust made, by the rules", said(false), (0, FOUND_YES, 0))?;
+    same("by the rules, of tables that the Rust made: answer, what was found, item", said(false), (0, FOUND_YES, 0))?;
     if sides.ours {
-        same("tables that the Rust made", said(true), (0, FOUND_YES, 0))?;
+        same("of tables that the Rust made: answer, what was found, item", said(true), (0, FOUND_YES, 0))?;
     }
     table.add(BY_THE_RUST, 1);
     Ok(())
