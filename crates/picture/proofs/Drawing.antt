@@ -78,7 +78,8 @@ walk-box paths d v c e = go (reachedOf (d .ends .p0) (d .ends .p1)) (ltb (d .pat
         flatOf (endsOf (d .ends .p0) (d .ends .p1) .s0) (endsOf (d .ends .p0) (d .ends .p1) .s1)
         || pastOf (endsOf (d .ends .p0) (d .ends .p1) .s0) (endsOf (d .ends .p0) (d .ends .p1) .s1) (pathAt paths (d .path))
 
-    go : (q r s : Bool) → cond q (cond r (cond s Found.Skipped (Found.Line (lineOf (d .ends .p0) (d .ends .p1)) (pathAt paths (d .path)))) (Found.Refused noSuch)) (Found.Refused coordinate) ≡ Found.Line v c
+    go : (q r s : Bool) → cond q (cond r (cond s Found.Skipped (Found.Line (lineOf (d .ends .p0) (d .ends .p1)) (pathAt paths (d .path)))) (Found.Refused noSuch))
+        (Found.Refused coordinate) ≡ Found.Line v c
         → c ≡ pathAt paths (d .path)
     go true true true h = let z : _≡_ {A = ℕ} 0 1 = cc in absurd (omega arith)
     go true true false h = let z : pathAt paths (d .path) ≡ c = cc in sym z

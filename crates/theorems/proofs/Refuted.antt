@@ -160,7 +160,8 @@ pub path-of-the-line : PathOfReference → ⊥
 unfolding computing
 path-of-the-line f =
     let h = f 2 (1 ∷ 0 ∷ []) pointThenDown (boxed 0 0 2 2 0 ++ boxed 0 0 1 1 4) 5 none (pos 0 ∷ pos 0 ∷ pos 0 ∷ negsuc 0 ∷ pos 0 ∷ []) (1 ∷ 0 ∷ 1 ∷ 0 ∷ 0 ∷ [])
-    (1 ∷ 0 ∷ 1 ∷ 1 ∷ []) 2 2 (0 ∷ 0 ∷ 0 ∷ 0 ∷ 0 ∷ []) (4294967295 ∷ 0 ∷ 4294967294 ∷ 0 ∷ 0 ∷ []) (1 ∷ 0 ∷ 1 ∷ 0 ∷ 0 ∷ []) (pieces (replicate (2 * segmentFloats) (ofBits binary32 0)) (0 ∷ 0 ∷ [])) two-paths two-handed in
+    (1 ∷ 0 ∷ 1 ∷ 1 ∷ []) 2 2 (0 ∷ 0 ∷ 0 ∷ 0 ∷ 0 ∷ []) (4294967295 ∷ 0 ∷ 4294967294 ∷ 0 ∷ 0 ∷ []) (1 ∷ 0 ∷ 1 ∷ 0 ∷ 0 ∷ [])
+    (pieces (replicate (2 * segmentFloats) (ofBits binary32 0)) (0 ∷ 0 ∷ [])) two-paths two-handed in
     let z : _≡_ {A = ℕ} 0 1 = h .0 in omega arith
 
 -- ---- a frame that hand-out refuses has more references than segments, and not fewer

@@ -330,7 +330,8 @@ module _ (b : ℕ) (nos : List ℕ) (coords : List Float) (paths : List ℕ) (n 
       same = rw (length-hand 0 cs, cs-long) (passed b nos coords paths n refs bs cs rs m all)
 
       go : (w : Bool) → CallLaws.Whole 0 m lentNow pieces ≡ w
-          → NoStray nos coords paths cs rs m pieces (checkedThen (cond w (pathsAnswer paths (length (hand 0 cs))) (Refused notWhole 0)) (rangeOf lentNow (slotsOf (length (pieces .segments))) (m - 0) 0))
+          → NoStray nos coords paths cs rs m pieces (checkedThen (cond w (pathsAnswer paths (length (hand 0 cs))) (Refused notWhole 0))
+          (rangeOf lentNow (slotsOf (length (pieces .segments))) (m - 0) 0))
       go true q = rw same (range-stray pieces (CallLaws.ready 0 m lentNow pieces q same .tagged))
       go false q = nothing pieces notWhole
 
