@@ -8,6 +8,9 @@ mod words;
 
 pub use lines::own_count;
 
+// The word of backdrop 0.
+pub const ZERO_BACK: u32 = 2147483648;
+
 // All lines, with the number of references that they make; or the first refusal's number, and its
 // line's.
 pub enum Own {

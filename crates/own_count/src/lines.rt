@@ -11,15 +11,13 @@ ghost use Rattle.path_count.specs.Count.{lineStep};
 ghost use Rattle.own_count.specs.Own.{zeroed};
 ghost use Rattle.own_count.specs.View.{viewOf, KeptFrom, StepAs, Filled, OwnMet};
 use super::Own;
+use super::ZERO_BACK;
 use super::steps::own_walk;
 use panel::limits::MOST_LINES;
 use panel::refusals::LINE_NUMBER;
 use path_count::Tallied;
 use walk::kinds::Walked;
 use walk::setup::walk_at;
-
-// The word of backdrop 0.
-const ZERO_BACK: u32 = 2147483648;
 
 // The line with that number, after made references.
 fn own_line(

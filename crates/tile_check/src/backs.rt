@@ -4,9 +4,7 @@ ghost use Prim.Native.Nat.{_+_, _≤_};
 ghost use lib.ListN.{length};
 ghost use Rattle.own_count.specs.View.{backOf, viewOf};
 ghost use Rattle.tile_check.specs.Faults.{sameBack, firstBackFault};
-
-// The word of backdrop 0.
-const ZERO_BACK: u32 = 2147483648;
+use own_count::ZERO_BACK;
 
 // Whether a backdrop is that of a word.
 fn same_back(b: i32, w: u32) -> bool

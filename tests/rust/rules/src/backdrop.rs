@@ -19,13 +19,7 @@ fn summed(tiles: &[i32], width: usize) -> Option<Vec<i32>> {
 
 pub fn backdrop(paths: &[u32], backdrops: &mut [i32], item: &mut u32) -> u32 {
     let got = (|| {
-        if !whole(paths.len(), PATH) {
-            return Err((BAD_SHAPE, 0));
-        }
-        if too_many(paths, backdrops.len()) {
-            return Err((TOO_MANY, 0));
-        }
-        check_paths(paths, backdrops.len())?;
+        checked(true, paths, backdrops.len())?;
         for n in 0..paths_in(paths) {
             let ([x0, y0, x1, y1], first) = (box_at(paths, n).map(|v| v as usize), first_at(paths, n) as usize);
             let (width, height) = (x1 - x0, y1 - y0);

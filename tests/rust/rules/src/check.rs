@@ -137,15 +137,8 @@ pub fn check(
             && path_nos.len() == coords.len() / LINE
             && whole(refs.len(), REF)
             && backdrops.len() == counts.len()
-            && stored.len() == counts.len()
-            && whole(paths.len(), PATH);
-        if !shape {
-            return Err((BAD_SHAPE, 0));
-        }
-        if too_many(paths, counts.len()) {
-            return Err((TOO_MANY, 0));
-        }
-        check_paths(paths, counts.len())?;
+            && stored.len() == counts.len();
+        checked(shape, paths, counts.len())?;
         let asked = work_words(counts.len(), path_nos.len(), refs.len() / REF);
         if work.len() < asked {
             return Err((NO_ROOM, 0));

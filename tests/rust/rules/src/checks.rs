@@ -32,6 +32,17 @@ pub fn check_paths(paths: &[u32], tiles: usize) -> Result<(), No> {
     Ok(())
 }
 
+/// Checks 1 to 4 of a call that takes paths and tiles, where `shape` is whether all that is lent is whole.
+pub fn checked(shape: bool, paths: &[u32], tiles: usize) -> Result<(), No> {
+    if !shape || !whole(paths.len(), PATH) {
+        return Err((BAD_SHAPE, 0));
+    }
+    if too_many(paths, tiles) {
+        return Err((TOO_MANY, 0));
+    }
+    check_paths(paths, tiles)
+}
+
 /// Writes a refusal's item and gives its number; done is 0, 0.
 pub fn answer(got: Result<(), No>, item: &mut u32) -> u32 {
     let (number, of) = got.err().unwrap_or((DONE, 0));

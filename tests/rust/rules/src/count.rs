@@ -148,18 +148,11 @@ pub fn count_seen(
     let got = (|| {
         let shape = whole(coords.len(), LINE)
             && path_nos.len() == coords.len() / LINE
-            && whole(paths.len(), PATH)
             && backdrops.len() == counts.len()
             && whole(refs.len(), REF)
             && *lines <= end
             && end as usize <= path_nos.len();
-        if !shape {
-            return Err((BAD_SHAPE, 0));
-        }
-        if too_many(paths, counts.len()) {
-            return Err((TOO_MANY, 0));
-        }
-        check_paths(paths, counts.len())?;
+        checked(shape, paths, counts.len())?;
         let mut tiles = Tiles { backdrops, counts, refs };
         for n in *lines..end {
             let k = n as usize;

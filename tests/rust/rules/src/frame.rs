@@ -72,17 +72,10 @@ fn lent(
 ) -> Result<(), No> {
     let shape = whole(coords.len(), LINE)
         && path_nos.len() == coords.len() / LINE
-        && whole(paths.len(), PATH)
         && backdrops.len() == tiles.len()
         && tally.len() == tiles.len()
         && whole(refs.len(), REF)
         && whole(segments.len(), SEGMENT)
         && tags.len() == segments_in(segments);
-    if !shape {
-        return Err((BAD_SHAPE, 0));
-    }
-    if too_many(paths, tiles.len()) {
-        return Err((TOO_MANY, 0));
-    }
-    check_paths(paths, tiles.len())
+    checked(shape, paths, tiles.len())
 }

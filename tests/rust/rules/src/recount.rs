@@ -29,15 +29,8 @@ pub fn recount(
             && path_nos.len() == lines
             && line_nos.len() == lines
             && backdrops.len() == counts.len()
-            && whole(refs.len(), REF)
-            && whole(paths.len(), PATH);
-        if !shape {
-            return Err((BAD_SHAPE, 0));
-        }
-        if too_many(paths, counts.len()) {
-            return Err((TOO_MANY, 0));
-        }
-        check_paths(paths, counts.len())?;
+            && whole(refs.len(), REF);
+        checked(shape, paths, counts.len())?;
         let at = paths.chunks_exact(PATH).nth(path as usize).map(Place::of).ok_or((NO_SUCH, 0))?;
         let range = at.first as usize..(at.first + (at.x1 - at.x0) * (at.y1 - at.y0)) as usize;
         if kept_backdrops.len() != range.len() || kept_counts.len() != range.len() {

@@ -153,19 +153,12 @@ pub fn tile(
     let got = (|| {
         let shape = whole(coords.len(), LINE)
             && path_nos.len() == coords.len() / LINE
-            && whole(paths.len(), PATH)
             && whole(refs.len(), REF)
             && whole(segments.len(), SEGMENT)
             && tags.len() == segments_in(segments)
             && from <= to
             && to as usize <= refs_in(refs);
-        if !shape {
-            return Err((BAD_SHAPE, 0));
-        }
-        if too_many(paths, stored.len()) {
-            return Err((TOO_MANY, 0));
-        }
-        check_paths(paths, stored.len())?;
+        checked(shape, paths, stored.len())?;
         let lent = Lent { path_nos, coords, paths, stored };
         let room = segments_in(segments) as i64;
         for r in from..to {
