@@ -71,6 +71,9 @@ badText = 21
 abbrev pub tooDeep : ℕ
 tooDeep = 22
 
+abbrev pub leftOpen : ℕ
+leftOpen = 23
+
 -- all of them, in order
 abbrev pub refusalNumbers : List ℕ
 refusalNumbers =
@@ -97,4 +100,5 @@ refusalNumbers =
     ∷ badSegment
     ∷ badText
     ∷ tooDeep
+    ∷ leftOpen
     ∷ []

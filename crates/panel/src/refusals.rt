@@ -71,8 +71,11 @@ pub const BAD_TEXT: u32 = 21;
 // 22: a curve halved too often
 pub const TOO_DEEP: u32 = 22;
 
+// 23: an outline that doesn't end where it began
+pub const LEFT_OPEN: u32 = 23;
+
 // All of them, in order.
-pub fn all() -> [u32; 23]
+pub fn all() -> [u32; 24]
     ensures { λ r. ⌜ r ≡ refusalNumbers ⌝ }
 {
     [
@@ -99,5 +102,6 @@ pub fn all() -> [u32; 23]
         BAD_SEGMENT,
         BAD_TEXT,
         TOO_DEEP,
+        LEFT_OPEN,
     ]
 }
