@@ -12,7 +12,7 @@ use borrow.Author.Tests.{leb-true}
 use Rattle.util.specs.declared.Vec2.{Vec2}
 use Rattle.lists.specs.Run.{All}
 use Rattle.lists.specs.Tally.{zeros}
-use Rattle.panel.specs.Paths.{boxed}
+use Rattle.panel.specs.Paths.{boxed, stamped}
 use Rattle.panel.specs.Limits.{coordMost}
 use Rattle.panel.specs.Refusals.{noRoom}
 use Rattle.panel.specs.Widths.{lineFloats, segmentFloats}
@@ -25,7 +25,7 @@ use Rattle.walk.specs.Page.{lineOf}
 use Rattle.path_count.specs.Count.{Told, counted}
 use Rattle.hand_out.specs.HandOut as HandOut
 use Rattle.path_tiling.specs.Look.{lent}
-use Rattle.path_tiling.specs.Tiling.{Write, slotsOf, callOf}
+use Rattle.path_tiling.specs.Tiling.{Write, slotsOf, callOf, Tiled, tiled, tiledOf, TileMet}
 use Rattle.frame.specs.Frame.{outOf, frameOf}
 use Rattle.frame.specs.declared.kinds.Stage.the-variants as Stage
 use Rattle.frame.specs.declared.kinds.Framed.the-variants.{Refused}
@@ -163,6 +163,27 @@ path-of-the-line f =
     (1 ∷ 0 ∷ 1 ∷ 1 ∷ []) 2 2 (0 ∷ 0 ∷ 0 ∷ 0 ∷ 0 ∷ []) (4294967295 ∷ 0 ∷ 4294967294 ∷ 0 ∷ 0 ∷ []) (1 ∷ 0 ∷ 1 ∷ 0 ∷ 0 ∷ [])
     (pieces (replicate (2 * segmentFloats) (ofBits binary32 0)) (0 ∷ 0 ∷ [])) two-paths two-handed in
     let z : _≡_ {A = ℕ} 0 1 = h .0 in omega arith
+
+-- ---- a reference that is skipped for an empty tile leaves the tags: a program that writes its line's number there breaks tiling's promise
+
+abbrev noFloats : List Float
+noFloats = replicate segmentFloats (ofBits binary32 0)
+
+-- whatever is stored, slot 0 gets the number 7 of (8,8)-(8,24)'s path
+abbrev TaggedWhereSkipped : Type 0
+TaggedWhereSkipped =
+    (stored : List ℕ) (tag : ℕ)
+    → TileMet 0 1 (lent (0 ∷ []) (floatsOf (8 ∷ 8 ∷ 8 ∷ 24 ∷ [])) (stamped 0 0 2 2 0 7) stored (0 ∷ 0 ∷ [])) (pieces noFloats (tag ∷ [])) Answer.Done
+    (pieces noFloats (7 ∷ []))
+
+skipped : tiledOf 0 1 (lent (0 ∷ []) (floatsOf (8 ∷ 8 ∷ 8 ∷ 24 ∷ [])) (stamped 0 0 2 2 0 7) (zeros 4) (0 ∷ 0 ∷ [])) (pieces noFloats (9 ∷ []))
+    ≡ tiled Answer.Done (pieces noFloats (9 ∷ []))
+unfolding computing
+skipped = refl
+
+pub skipped-keeps-its-tag : TaggedWhereSkipped → ⊥
+skipped-keeps-its-tag f =
+    let z : _≡_ {A = ℕ} 7 9 = ap (λ (t : Tiled). getD (t .pieces .tags) 0 0) (f (zeros 4) 9 ∙ skipped) in omega arith
 
 -- ---- a frame that hand-out refuses has more references than segments, and not fewer
 

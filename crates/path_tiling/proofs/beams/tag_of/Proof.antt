@@ -8,7 +8,7 @@ beam-at-requires : tie.Need-beam-at-requires
 beam-at-requires c κs = search needs
 
 returns : tie.Need-returns
-returns c = search needs
+returns c = c .beam-at .ensures
 
 returns-2 : tie.Need-returns-2
 returns-2 c = no-path (c .before .before .args .paths .now) _ (c .if1 .left)
