@@ -20,8 +20,8 @@
  * be drawn by several calls of gp_fine at once over ranges of tiles only where each has pixels of its
  * own: the slice of pixels that a call is lent is its own while it runs.
  *
- * Stack: under 65,536 bytes for gp_write_lists and under 8,192 for any other call, no recursion, nothing allocated. From outside it needs memset
- * alone.
+ * Stack: under 65,536 bytes for gp_write_lists and under 8,192 for any other call, no recursion, nothing allocated. From outside it needs memcpy
+ * and memset alone.
  */
 #ifndef GROATPOCKET_H
 #define GROATPOCKET_H
