@@ -22,6 +22,7 @@ use Rattle.float32.proofs.Floors.{cross, few-digits, lt-plus, gt-minus}
 use Rattle.float32.proofs.Laws.{abs-fits}
 use Rattle.float32.proofs.Nearest.{half, half-above, minus-half-below, near-same, near-more, rest-value, round-up, round-stay}
 use Rattle.float32.proofs.Magic.{shift, shifted-plus, div-is, own, round-turned}
+use Rattle.float32.proofs.Same.{round-own}
 
 -- the nearest is the next one up only from a half
 went-up : (w a b : ℕ) → nearest w (compare a b) ≡ w + 1 → b ≤ a
@@ -227,3 +228,15 @@ round-far (fin true m e) h l =
     right : (a b : Bool) → a ≡ true → (a && b) ≡ false → b ≡ false
     right true b p q = q
     right false b p q = absurd (false≢true p)
+
+none-more : (a d : ℕ) → a + 0 * d ≡ a
+none-more a d = omega arith
+
+-- +0 added to a float from +0 up leaves it
+pub none-added : (x : Float) → T (fits binary32 x) → T (not (isNan x)) → signOf x ≡ false → add binary32 x (fin false 0 (pos 0)) ≡ x
+unfolding add sum signOf isNan
+none-added nan h n s = absurd n
+none-added (inf true) h n s = absurd (true≢false s)
+none-added (inf false) h n s = refl
+none-added (fin true m e) h n s = absurd (true≢false s)
+none-added (fin false m e) h n s = rw (mul-one (m * up e), mul-one (down e), none-more (m * up e) (down e)) (round-own false m e h)

@@ -190,7 +190,7 @@ pub fn round(x: f32) -> f32
         let low: u32 = b % 0x8000_0000;
         let size = f32::from_bits(low);
         let even = (size + WHOLE) - WHOLE;
-        let n = if 0.5 <= size - even { even + 1.0 } else { even };
+        let n = even + pick(0.5 <= size - even, 1.0, 0.0);
         f32::from_bits(f32::to_bits(n) + (b - low))
     } else {
         x
