@@ -3,8 +3,8 @@ use mathlib.Core.Path.{_≡_, refl, sym, ap, subst, _∙_}
 use mathlib.Core.Bool.{Bool, true, false, _&&_}
 use mathlib.Core.Logic.{_≢_, _⊎_, inl, inr, ⊎-elim}
 use mathlib.Core.List.{List}
-use Prim.Native.Nat.{ℕ, _+_, _-_, _≤_, _<_, min, max}
-use native.Mathlib.Nat.{eq-or-lt-of-le}
+use Prim.Native.Nat.{ℕ, _+_, _-_, _*_, _≤_, _<_, min, max}
+use native.Mathlib.Nat.{eq-or-lt-of-le, add-mul}
 use native.Mathlib.Omega.{arith}
 use lib.Dec.{ltb}
 use lib.ListN.{length, getD}
@@ -12,7 +12,7 @@ use borrow.Author.Tests.{ltb-true, ltb-false, lt-ltb, le-ltb}
 use Rattle.lists.specs.GridLaws.{le-or-lt}
 use Rattle.meeting.specs.First.{firstOf, someBelow}
 use Rattle.meeting.specs.Meeting.{meets, meetsEarlier, firstMeeting, startsAt, lensIn}
-use Rattle.meeting.specs.Found.{Has, FlagStood, FlagsNew, MeetsAt, ApartIn, PassedTo, keys, placeOf, windowEnd, Nearer, NextStart, KeptBelow, FlagRan}
+use Rattle.meeting.specs.Found.{Has, FlagStood, FlagsNew, MeetsAt, ApartIn, PassedTo, keys, placeOf, windowEnd, Nearer, NextStart, FewPasses, KeptBelow, FlagRan}
 use Rattle.meeting.proofs.Stores.{kept-trans, kept-less}
 use Rattle.meeting.proofs.FirstLaws.{first-same, first-is, some-below, some-is, none-is, none-below}
 
@@ -100,8 +100,16 @@ module _ (start len : ℕ → ℕ) where
         past = past;
         least = λ j h e. ⊎-elim (λ (s : i ≤ j). let same : i ≡ j = omega arith in go j same e) (λ (s : j < i). omega (arith, q .most, n .least j s e)) (le-or-lt i j);
         small = λ j h. ⊎-elim (λ (s : i ≤ j). let same : i ≡ j = omega arith in subst (λ (k : ℕ). start k < keys) same key) (λ (s : j < i). n .small j s) (le-or-lt i j);
+        is-start = one;
       }
     where
+      one : r < keys → (j : ℕ) × (j < i + 1) × (start j ≡ r)
+      one h =
+          ⊎-elim
+          (λ (s : least ≤ r). let same : least ≡ r = omega (arith, q .most) in let w = n .is-start (omega arith) in (w .0, omega (arith, w .1), w .2 ∙ same))
+          (λ (s : r < least). (i, omega arith, sym (q .own s)))
+          (le-or-lt least r)
+
       past : r < keys → end ≤ r
       past h = ⊎-elim (λ (s : least ≤ r). omega (arith, q .most, n .past (omega arith))) (λ (s : r < least). q .past s) (le-or-lt least r)
 
@@ -229,6 +237,7 @@ module _ (f g len : ℕ → ℕ) (n : ℕ) (same : (i : ℕ) → i < n → f i �
         past = x .past;
         least = λ i l e. subst (λ (s : ℕ). r ≤ s) (same i (omega arith)) (x .least i l (subst (λ (s : ℕ). end ≤ s) (sym (same i (omega arith))) e));
         small = λ i l. subst (λ (s : ℕ). s < keys) (same i (omega arith)) (x .small i l);
+        is-start = λ l. let w = x .is-start l in (w .0, w .1, sym (same (w .0) (omega (arith, w .1))) ∙ w .2);
       }
 
 pub both-true : (a b : Bool) → (a && b) ≡ true → (a ≡ true) × (b ≡ true)
@@ -239,15 +248,40 @@ pub one-false : (a b : Bool) → (a && b) ≡ false → (a ≡ false) ⊎ (b ≡
 one-false true b e = inr e
 one-false false b e = inl refl
 
+-- ---- how many windows there are: so many passes before the one that begins at low
+
+pub record Passes (start : ℕ → ℕ) (n width low passes : ℕ) : Type 0 where
+  pub most : low < keys → passes ≤ low
+  pub apart : low < keys → passes * width ≤ low
+  pub inside : low < keys → (k : ℕ) → 0 < k → ((i : ℕ) → i < n → start i < k) → low < k
+  pub few : FewPasses start n width passes
+
+pub passes-none : (start : ℕ → ℕ) (n width : ℕ) → Passes start n width 0 0
+passes-none start n width =
+    record { most = λ h. omega arith; apart = λ h. omega arith; inside = λ h k z f. z; few = λ k z f. absurd (omega arith) }
+
+pub passes-turn : (start : ℕ → ℕ) (n width low passes best low′ : ℕ) → low < keys → 0 < width → 0 < n → best ≤ n → NextStart start (windowEnd low width) best low′
+    → Passes start n width low passes → Passes start n width low′ (passes + 1)
+unfolding windowEnd
+passes-turn start n width low passes best low′ h w m b x p =
+    record {
+      most = λ q. omega (arith, x .past q, p .most h);
+      apart = λ q. omega (arith, x .past q, p .apart h, add-mul passes 1 width);
+      inside = λ q k z f. let s = x .is-start q in omega (arith, s .2, f (s .0) (omega (arith, s .1)));
+      few = λ k z f. omega (arith, p .apart h, p .inside h k (omega (arith, f 0 m)) f, add-mul passes 1 width);
+    }
+
 -- one window of the whole: w₁ is cleared, w₂ is as the pass leaves it
-pub windows-go : (ws₀ ws w₁ w₂ ls : List ℕ) (at n free low width best best′ low′ : ℕ) → at + n ≤ free → best ≤ n → width ≡ length ws₀ - free
+pub windows-go : (ws₀ ws w₁ w₂ ls : List ℕ) (at n free low width best best′ low′ passes : ℕ) → at + n ≤ free → best ≤ n → width ≡ length ws₀ - free
     → KeptBelow free ws₀ ws → KeptBelow free ws w₁ → KeptBelow free w₁ w₂ → ApartBelow (startsAt ws₀ at) (lensIn ls) low best
     → (best < n → MeetsAt (startsAt ws₀ at) (lensIn ls) best)
     → PassedTo (startsAt w₁ at) (lensIn ls) low (low + (length w₁ - free)) best best′ → NextStart (startsAt w₂ at) (windowEnd low width) best′ low′
+    → low < keys → 0 < width → 0 < n → Passes (startsAt ws₀ at) n width low passes
     → (best′ ≤ n) × KeptBelow free ws₀ w₂ × (best′ < n → MeetsAt (startsAt ws₀ at) (lensIn ls) best′)
     × ApartBelow (startsAt ws₀ at) (lensIn ls) low′ best′ × (low′ ≤ keys) × (0 < low′ → (i : ℕ) → i < best′ → startsAt ws₀ at i < keys)
+    × Passes (startsAt ws₀ at) n width low′ (passes + 1)
 unfolding windowEnd
-windows-go ws₀ ws w₁ w₂ ls at n free low width best best′ low′ fits most ew k₀ k₁ k₂ apart met passed next =
+windows-go ws₀ ws w₁ w₂ ls at n free low width best best′ low′ passes fits most ew k₀ k₁ k₂ apart met passed next key wid some p₀ =
     let k₀₁ = kept-trans free ws₀ ws w₁ k₀ k₁ in
     let k₀₂ = kept-trans free ws₀ w₁ w₂ k₀₁ k₂ in
     let p = passed-same (startsAt w₁ at) (startsAt ws₀ at) (lensIn ls) best (λ i h. k₀₁ .kept (at + i) (omega arith)) low (low + (length w₁ - free)) best′ passed in
@@ -258,7 +292,8 @@ windows-go ws₀ ws w₁ w₂ ls at n free low width best best′ low′ fits mo
       (λ h. ⊎-elim (λ (q : best ≤ best′). let s : best′ ≡ best = omega (arith, p .within) in rw s (met (omega arith))) (λ (q : best′ < best). p .met q) (le-or-lt best best′)),
       window-turn (startsAt ws₀ at) (lensIn ls) low (length w₁ - free) (low + min width keys) best best′ low′ apart p wide x,
       x .most,
-      λ h. x .small,
+      (λ h. x .small),
+      passes-turn (startsAt ws₀ at) n width low passes best′ low′ key wid some (omega (arith, p .within)) x p₀,
     )
 
 pub windows-less : (start : ℕ → ℕ) (low width n low′ : ℕ) → low < keys → 0 < width → NextStart start (windowEnd low width) n low′ → keys - low′ < keys - low

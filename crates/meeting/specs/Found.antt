@@ -2,7 +2,7 @@
 use mathlib.Core.Path.{_≡_}
 use mathlib.Core.Bool.{Bool, true, false}
 use mathlib.Core.List.{List}
-use Prim.Native.Nat.{ℕ, _+_, _-_, _≤_, _<_, _^_, min}
+use Prim.Native.Nat.{ℕ, _+_, _-_, _*_, _≤_, _<_, _^_, min}
 use lib.ListN.{length, getD}
 
 -- a key of the range that starts at s with n keys
@@ -71,6 +71,7 @@ pub record Nearer (before start end r : ℕ) : Type 0 where
   pub most : r ≤ before
   pub past : r < before → end ≤ r
   pub least : end ≤ start → r ≤ start
+  pub own : r < before → r ≡ start
 
 -- the least start at or past end, or the number of all keys; every start is a key
 pub record NextStart (start : ℕ → ℕ) (end n r : ℕ) : Type 0 where
@@ -78,3 +79,8 @@ pub record NextStart (start : ℕ → ℕ) (end n r : ℕ) : Type 0 where
   pub past : r < keys → end ≤ r
   pub least : (i : ℕ) → i < n → end ≤ start i → r ≤ start i
   pub small : (i : ℕ) → i < n → start i < keys
+  pub is-start : r < keys → (i : ℕ) × (i < n) × (start i ≡ r)
+
+-- so many windows of so many keys each, for n ranges that start below k, whatever k is: all but the last take up less than k keys
+abbrev pub FewPasses : (start : ℕ → ℕ) → (n width passes : ℕ) → Type 0
+FewPasses start n width passes = (k : ℕ) → 0 < passes → ((i : ℕ) → i < n → start i < k) → passes * width < k + width

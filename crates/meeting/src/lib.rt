@@ -4,10 +4,16 @@ ghost use mathlib.Core.Path.{_≡_};
 ghost use Prim.Native.Nat.{_+_, _-_, _≤_, _<_};
 ghost use lib.ListN.{length};
 ghost use Rattle.meeting.specs.Meeting.{firstMeeting, startsAt, lensIn};
-ghost use Rattle.meeting.specs.Found.{KeptBelow, ClearFrom, FlagRan, PassedTo, keys, placeOf, windowEnd, Nearer, NextStart};
+ghost use Rattle.meeting.specs.Found.{KeptBelow, ClearFrom, FlagRan, PassedTo, keys, placeOf, windowEnd, Nearer, NextStart, FewPasses};
 
 // Keys are u32 numbers.
 const KEYS: u64 = 0x1_0000_0000;
+
+// The first range that meets an earlier one, and how many windows were looked at to find it.
+pub struct Met {
+    pub first: usize,
+    pub passes: u64,
+}
 
 // The number of keys of range i: 1 where no length is lent for it.
 fn len_at(lens: &[u32], i: usize) -> u32
@@ -117,18 +123,22 @@ fn window_end(low: u64, width: usize) -> u64
 
 // The first of n ranges that meets an earlier one, else n. Range i starts at the key that stands in
 // the room at place at + i, and has as many keys as lens says. The room from free on is for the flags.
-pub fn meeting(work: &mut [u32], at: usize, lens: &[u32], n: usize, free: usize) -> usize
+// A window begins at a start that lies at or past the end of the one before, so there are few of them.
+pub fn meeting(work: &mut [u32], at: usize, lens: &[u32], n: usize, free: usize) -> Met
     requires { ⌜ (at + n ≤ free) × (free ≤ length (now work)) × (1 < n → free < length (now work)) ⌝ }
-    ensures { λ r. ⌜ (r ≡ firstMeeting (startsAt (now (work .entry)) at) (lensIn (now (lens .entry))) n)
-        × KeptBelow free (now (work .entry)) (now (work .exit)) ⌝ }
+    ensures { λ r. ⌜ (r .first ≡ firstMeeting (startsAt (now (work .entry)) at) (lensIn (now (lens .entry))) n)
+        × KeptBelow free (now (work .entry)) (now (work .exit))
+        × FewPasses (startsAt (now (work .entry)) at) n (length (now (work .entry)) - free) (r .passes) ⌝ }
 {
     let width = work.len() - free;
     let mut best = n;
     let mut low: u64 = 0;
+    let mut passes: u64 = 0;
     while (1 < best) & (low < KEYS) {
         clear(work, free);
         best = pass(work, at, lens, best, free, low);
         low = next_start(work, at, best, window_end(low, width));
+        passes += 1;
     }
-    best
+    Met { first: best, passes: passes }
 }

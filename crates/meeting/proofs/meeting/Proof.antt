@@ -10,24 +10,24 @@ use borrow.Author.Tests.{ltb-true}
 use Rattle.meeting.specs.Meeting.{startsAt, lensIn}
 use Rattle.meeting.specs.Found.{KeptBelow, MeetsAt, keys, windowEnd, NextStart}
 use Rattle.meeting.proofs.Stores.{kept-all}
-use Rattle.meeting.proofs.Windows.{ApartBelow, both-true, windows-go, windows-less, windows-end}
+use Rattle.meeting.proofs.Windows.{ApartBelow, Passes, passes-none, both-true, windows-go, windows-less, windows-end}
 use Rattle.meeting.proofs.meeting.Statement.{statement}
 use Rattle.meeting.proofs.meeting.Tie as tie
 
 abbrev Inv-loop : tie.InvT-loop
-Inv-loop work₀ at lens n free width best₀ low₀ work best low =
+Inv-loop work₀ at lens n free width best₀ low₀ passes₀ work best low passes =
     (best ≤ n) × KeptBelow free work₀ work × (best < n → MeetsAt (startsAt work₀ at) (lensIn lens) best)
     × ApartBelow (startsAt work₀ at) (lensIn lens) low best × (low ≤ keys)
-    × (0 < low → (i : ℕ) → i < best → startsAt work₀ at i < keys)
+    × (0 < low → (i : ℕ) → i < best → startsAt work₀ at i < keys) × Passes (startsAt work₀ at) n (length work₀ - free) low passes
 
 abbrev μ-loop : tie.MeasureT-loop
-μ-loop work₀ at lens n free width best₀ low₀ work best low = keys - low
+μ-loop work₀ at lens n free width best₀ low₀ passes₀ work best low passes = keys - low
 
 sub-width : tie.Need-sub-width Inv-loop μ-loop
 sub-width c = omega arith
 
 loop-holds : tie.Need-loop-holds Inv-loop μ-loop
-loop-holds c = (omega arith, kept-all _ _, (λ h. absurd (omega arith)), (λ i j h l m. absurd (omega arith)), omega arith, λ h. absurd (omega arith))
+loop-holds c = (omega arith, kept-all _ _, (λ h. absurd (omega arith)), (λ i j h l m. absurd (omega arith)), omega arith, (λ h. absurd (omega arith)), passes-none _ _ _)
 
 clear-requires : tie.Need-clear-requires Inv-loop μ-loop
 clear-requires c κs = tt
@@ -76,11 +76,21 @@ loop-again c =
     let k = c .before .before .before .before .before .before .before .before .before .clear in
     let q = c .before .before .before .before .before .pass in
     let width = length (a .work .now) - a .free in
+    let t = both-true (ltb 1 (l .best)) (ltb (l .low) keys) (c .before .before .before .before .before .before .before .before .before .before .before .loop-test .taken) in
+    let more : 1 < a .n = omega (arith, ltb-true 1 (l .best) (t .0), l .inv .0) in
+    let wide : 0 < width = omega (arith, s .pre .2 more) in
     let w = q .last .0 in
     let end : NextStart (startsAt w (a .at)) (windowEnd (l .low) width) (q .result) (c .next-start .result) =
     subst (λ (e : ℕ). NextStart (startsAt w (a .at)) e (q .result) (c .next-start .result)) (c .before .window-end .ensures) (c .next-start .ensures) in
     windows-go (a .work .now) (l .work) (k .last .0) w (a .lens .now) (a .at) (a .n) (a .free) (l .low) width (l .best) (q .result) (c .next-start .result)
-    (s .pre .0) (v .0) refl (v .1) (k .ensures .0) (q .ensures .0) (v .3) (v .2) (q .ensures .1) end
+    (l .passes) (s .pre .0) (v .0) refl (v .1) (k .ensures .0) (q .ensures .0) (v .3) (v .2) (q .ensures .1) end (ltb-true (l .low) keys (t .1)) wide (omega (arith, more)) (v .6)
+
+add-passes : tie.Need-add-passes Inv-loop μ-loop
+add-passes c =
+    let l = c .before .before .before .before .before .before .before .before .before .before .before .before .loop in
+    let t = both-true (ltb 1 (l .best)) (ltb (l .low) keys) (c .before .before .before .before .before .before .before .before .before .before .before .loop-test .taken) in
+    let here = ltb-true (l .low) keys (t .1) in
+    omega (arith, l .inv .6 .most here)
 
 same-length : tie.Need-same-length Inv-loop μ-loop
 same-length c = search needs
@@ -90,7 +100,7 @@ returns c =
     let a = c .before .before .before .before .args in
     let l = c .before .loop in
     let v = l .inv in
-    (windows-end (a .work .now) (a .lens .now) (a .at) (a .n) (l .low) (l .best) (v .0) (v .2) (v .3) (v .5) (c .loop-test .left), v .1)
+    (windows-end (a .work .now) (a .lens .now) (a .at) (a .n) (l .low) (l .best) (v .0) (v .2) (v .3) (v .5) (c .loop-test .left), v .1, v .6 .few)
 
 pub meeting-spec : {M : Type 1} → statement M
 meeting-spec =
@@ -104,6 +114,7 @@ meeting-spec =
     pass-requires
     window-end-requires
     next-start-requires
+    add-passes
     loop-less
     loop-again
     same-length
