@@ -4,16 +4,17 @@ use mathlib.Core.Bool.{Bool, true, false, _&&_}
 use mathlib.Core.Logic.{_≢_, _⊎_, inl, inr, ⊎-elim}
 use mathlib.Core.List.{List}
 use Prim.Native.Nat.{ℕ, _+_, _-_, _*_, _≤_, _<_, min, max}
-use native.Mathlib.Nat.{eq-or-lt-of-le, add-mul}
+use native.Mathlib.Nat.{eq-or-lt-of-le, add-mul, mul-add}
 use native.Mathlib.Omega.{arith}
 use lib.Dec.{ltb}
 use lib.ListN.{length, getD}
 use borrow.Author.Tests.{ltb-true, ltb-false, lt-ltb, le-ltb}
 use Rattle.lists.specs.GridLaws.{le-or-lt}
+use Rattle.lists.specs.Sums.{sum}
 use Rattle.meeting.specs.First.{firstOf, someBelow}
 use Rattle.meeting.specs.Meeting.{meets, meetsEarlier, firstMeeting, startsAt, lensIn}
 use Rattle.meeting.specs.Found.{Has, FlagStood, FlagsNew, MeetsAt, ApartIn, PassedTo, keys, placeOf, windowEnd, Nearer, NextStart, FewPasses, KeptBelow, FlagRan}
-use Rattle.meeting.proofs.Stores.{kept-trans, kept-less}
+use Rattle.meeting.proofs.Stores.{kept-trans, kept-less, OnesFrom, ones-new, sum-ones}
 use Rattle.meeting.proofs.FirstLaws.{first-same, first-is, some-below, some-is, none-is, none-below}
 
 module _ (start len : ℕ → ℕ) where
@@ -165,6 +166,10 @@ module _ (start len : ℕ → ℕ) where
 
 -- ---- the same over the words of the room
 
+pub place-fits : (key low width free len a : ℕ) → a ≡ placeOf key low width → width ≡ len - free → free ≤ len → free + a ≤ len
+unfolding placeOf
+place-fits key low width free len a ea ew h = omega arith
+
 pub places-fit : (s n low width free len a b : ℕ) → a ≡ placeOf s low width → b ≡ placeOf (s + n) low width → width ≡ len - free → free ≤ len
     → (free + a ≤ free + b) × (free + b ≤ len)
 unfolding placeOf
@@ -182,32 +187,40 @@ module _ (ws₀ ws ls : List ℕ) (at n free low width i a b : ℕ) (fits : at +
   eb′ : b ≡ placeOf (startsAt ws₀ at i + lensIn ls i) low width
   eb′ = eb ∙ ap (λ (k : ℕ). placeOf (k + lensIn ls i) low width) same-start
 
-  pub pass-goes : (ws′ : List ℕ) (r : Bool) → r ≡ false → ApartIn (startsAt ws₀ at) (lensIn ls) low (low + width) i → KeptBelow (free + a) ws ws′
-      → FlagRan ws ws′ (free + a) (free + b) r
-      → KeptBelow free ws₀ ws′ × Flags (startsAt ws₀ at) (lensIn ls) (i + 1) low free width ws′ × ApartIn (startsAt ws₀ at) (lensIn ls) low (low + width) (i + 1)
-  pass-goes ws′ true e apart k f = let z : _≡_ {A = ℕ} 0 1 = cc in absurd (omega arith)
-  pass-goes ws′ false e apart k f = (
-    kept-trans free ws₀ ws ws′ kept (kept-less (free + a) free ws ws′ (omega arith) k),
-    pass-turn (startsAt ws₀ at) (lensIn ls) i low free width a b ws ea′ eb′ ws′ f flags,
-    pass-apart (startsAt ws₀ at) (lensIn ls) i low free width a b ws ea′ eb′ ws′ f flags apart,
-  )
+  module _ (ws′ : List ℕ) (r : ℕ) (apart : ApartIn (startsAt ws₀ at) (lensIn ls) low (low + width) i) (k : KeptBelow (free + a) ws ws′)
+      (f : FlagRan ws ws′ (free + a) (free + b) r) where
+    pub pass-kept : KeptBelow free ws₀ ws′
+    pass-kept = kept-trans free ws₀ ws ws′ kept (kept-less (free + a) free ws ws′ (omega arith) k)
 
-  wide : b ≤ width
-  unfolding placeOf
-  wide = omega (arith, eb)
+    pub pass-goes : free + b ≤ r → Flags (startsAt ws₀ at) (lensIn ls) (i + 1) low free width ws′ × ApartIn (startsAt ws₀ at) (lensIn ls) low (low + width) (i + 1)
+    pass-goes h =
+        let all : r ≡ free + b = omega (arith, f .to) in
+        let new : FlagsNew ws ws′ (free + a) (free + b) = subst (FlagsNew ws ws′ (free + a)) all (f .new) in (
+          pass-turn (startsAt ws₀ at) (lensIn ls) i low free width a b ws ea′ eb′ ws′ new flags,
+          pass-apart (startsAt ws₀ at) (lensIn ls) i low free width a b ws ea′ eb′ ws′ new flags apart,
+        )
 
-  pub pass-stops : (ws′ : List ℕ) (r : Bool) → r ≡ true → ApartIn (startsAt ws₀ at) (lensIn ls) low (low + width) i → KeptBelow (free + a) ws ws′
-      → FlagRan ws ws′ (free + a) (free + b) r
-      → KeptBelow free ws₀ ws′ × PassedTo (startsAt ws₀ at) (lensIn ls) low (low + width) n i
-  pass-stops ws′ false e apart k f = let z : _≡_ {A = ℕ} 0 1 = cc in absurd (omega arith)
-  pass-stops ws′ true e apart k f = (
-    kept-trans free ws₀ ws ws′ kept (kept-less (free + a) free ws ws′ (omega arith) k),
-    record {
-      within = omega arith;
-      met = λ h. pass-met (startsAt ws₀ at) (lensIn ls) i low free width a b ws ea′ eb′ wide f flags;
-      apart = apart;
-    },
-  )
+    wide : b ≤ width
+    unfolding placeOf
+    wide = omega (arith, eb)
+
+    pub pass-stops : r < free + b → PassedTo (startsAt ws₀ at) (lensIn ls) low (low + width) n i
+    pass-stops h =
+        let stood : FlagStood ws (free + a) (free + b) = record { place = r; low = f .from; high = h; stood = f .stood h } in
+        record {
+          within = omega arith;
+          met = λ q. pass-met (startsAt ws₀ at) (lensIn ls) i low free width a b ws ea′ eb′ wide stood flags;
+          apart = apart;
+        }
+
+-- the words that a pass has looked at are flags that stand now
+pub pass-words : (free a b r width words : ℕ) (ws₀ ws ws′ : List ℕ) → free ≤ length ws₀ → width ≡ length ws₀ - free → KeptBelow free ws₀ ws′ → FlagRan ws ws′ a b r
+    → OnesFrom free ws → sum ws ≡ sum ws₀ + words
+    → OnesFrom free ws′ × (sum ws′ ≡ sum ws₀ + (words + (r - a))) × (words + (r - a) ≤ width)
+pass-words free a b r width words ws₀ ws ws′ fits ew kept f ones e =
+    let new = ones-new free a r ws ws′ (f .new) ones in
+    let more : sum ws′ ≡ sum ws₀ + (words + (r - a)) = omega (arith, f .more) in
+    (new, more, omega (arith, kept .same-length, sum-ones free ws₀ ws′ (kept .same-length) (kept .kept) new))
 
 -- ranges that start the same
 module _ (f g len : ℕ → ℕ) (n : ℕ) (same : (i : ℕ) → i < n → f i ≡ g i) where
@@ -270,6 +283,13 @@ passes-turn start n width low passes best low′ h w m b x p =
       inside = λ q k z f. let s = x .is-start q in omega (arith, s .2, f (s .0) (omega (arith, s .1)));
       few = λ k z f. omega (arith, p .apart h, p .inside h k (omega (arith, f 0 m)) f, add-mul passes 1 width);
     }
+
+-- no pass looks at more words than the window has, and one
+pub words-turn : (passes width words more : ℕ) → words ≤ passes * (width + 1) → more ≤ width + 1 → words + more ≤ (passes + 1) * (width + 1)
+words-turn passes width words more h m = omega (arith, add-mul passes 1 (width + 1))
+
+pub words-small : (start : ℕ → ℕ) (n width low passes words : ℕ) → low < keys → Passes start n width low passes → words ≤ passes * (width + 1) → words < keys + keys
+words-small start n width low passes words h p w = omega (arith, p .most h, p .apart h, mul-add passes width 1)
 
 -- one window of the whole: w₁ is cleared, w₂ is as the pass leaves it
 pub windows-go : (ws₀ ws w₁ w₂ ls : List ℕ) (at n free low width best best′ low′ passes : ℕ) → at + n ≤ free → best ≤ n → width ≡ length ws₀ - free
