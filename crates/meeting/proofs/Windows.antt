@@ -4,7 +4,7 @@ use mathlib.Core.Bool.{Bool, true, false, _&&_}
 use mathlib.Core.Logic.{_≢_, _⊎_, inl, inr, ⊎-elim}
 use mathlib.Core.List.{List}
 use Prim.Native.Nat.{ℕ, _+_, _-_, _*_, _≤_, _<_, min, max}
-use native.Mathlib.Nat.{eq-or-lt-of-le, add-mul, mul-add}
+use native.Mathlib.Nat.{eq-or-lt-of-le, add-mul, mul-add, mul-le-mul-right}
 use native.Mathlib.Omega.{arith}
 use lib.Dec.{ltb}
 use lib.ListN.{length, getD}
@@ -290,6 +290,16 @@ words-turn passes width words more h m = omega (arith, add-mul passes 1 (width +
 
 pub words-small : (start : ℕ → ℕ) (n width low passes words : ℕ) → low < keys → Passes start n width low passes → words ≤ passes * (width + 1) → words < keys + keys
 words-small start n width low passes words h p w = omega (arith, p .most h, p .apart h, mul-add passes width 1)
+
+-- nor at more ranges than there are
+pub ranges-turn : (passes n ranges more : ℕ) → ranges ≤ passes * n → more ≤ n → ranges + more ≤ (passes + 1) * n
+ranges-turn passes n ranges more h m = omega (arith, add-mul passes 1 n)
+
+pub ranges-small : (start : ℕ → ℕ) (n width low passes ranges more : ℕ) → low < keys → n < keys → Passes start n width low passes → ranges ≤ passes * n → more ≤ n
+    → ranges + more < keys * keys
+ranges-small start n width low passes ranges more h few p r m =
+    let most : passes + 1 ≤ keys = omega (arith, p .most h) in
+    omega (arith, ranges-turn passes n ranges more r m, mul-le-mul-right n most)
 
 -- one window of the whole: w₁ is cleared, w₂ is as the pass leaves it
 pub windows-go : (ws₀ ws w₁ w₂ ls : List ℕ) (at n free low width best best′ low′ passes : ℕ) → at + n ≤ free → best ≤ n → width ≡ length ws₀ - free

@@ -9,17 +9,19 @@ ghost use Rattle.meeting.specs.Found.{KeptBelow, ClearFrom, FlagRan, Pas
 // Keys are u32 numbers.
 const KEYS: u64 = 0x1_0000_0000;
 
-// The first range that meets an earlier one; how many windows were looked at to find it, and how many
-// words for a flag.
+// The first range that meets an earlier one; how many passes were made to find it, how many ranges
+// they looked at and how many words for a flag.
 pub struct Met {
     pub first: usize,
     pub passes: u64,
+    pub ranges: u64,
     pub words: u64,
 }
 
-// What one pass finds, and the words looked at for a flag.
+// What one pass finds, and how many ranges and words it looked at.
 struct Passed {
     first: usize,
+    ranges: usize,
     words: usize,
 }
 
@@ -72,7 +74,7 @@ fn place_of(key: u64, low: u64, width: usize) -> usize
 }
 
 // One pass over the window of keys from low on, whose flags are clear: the first range that has a key
-// there which an earlier one has too, else n; and the words looked at for a flag.
+// there which an earlier one has too, else n; and what was looked at.
 fn pass(
     work: &mut [u32],
     at: usize,
@@ -84,7 +86,7 @@ fn pass(
     requires { ⌜ (at + n ≤ free) × (free ≤ length (now work)) × ClearFrom free (now work) ⌝ }
     ensures { λ r. ⌜ KeptBelow free (now (work .entry)) (now (work .exit))
         × PassedTo (startsAt (now (work .entry)) at) (lensIn (now (lens .entry))) low (low + (length (now (work .entry)) - free)) n (r .first)
-        × (r .words ≤ length (now (work .entry)) - free + 1) ⌝ }
+        × (r .words ≤ length (now (work .entry)) - free + 1) × (r .ranges ≤ n) ⌝ }
 {
     let width = work.len() - free;
     let mut words: usize = 0;
@@ -97,12 +99,21 @@ fn pass(
         let stop = flag(work, from, to);
         words += stop - from;
         if stop < to {
+            let looked = i + 1;
             let last = words + 1;
-            return Passed { first: i, words: last };
+            return Passed {
+                first: i,
+                ranges: looked,
+                words: last,
+            };
         }
         i += 1;
     }
-    Passed { first: n, words: words }
+    Passed {
+        first: n,
+        ranges: n,
+        words: words,
+    }
 }
 
 // A start in the place of the least so far, if it is less and lies at or past the end.
@@ -145,21 +156,23 @@ fn window_end(low: u64, width: usize) -> u64
 // the room at place at + i, and has as many keys as lens says. The room from free on is for the flags.
 // A window begins at a start that lies at or past the end of the one before, so there are few of them.
 pub fn meeting(work: &mut [u32], at: usize, lens: &[u32], n: usize, free: usize) -> Met
-    requires { ⌜ (at + n ≤ free) × (free ≤ length (now work)) × (1 < n → free < length (now work)) ⌝ }
+    requires { ⌜ (at + n ≤ free) × (free ≤ length (now work)) × (1 < n → free < length (now work)) × (n < keys) ⌝ }
     ensures { λ r. ⌜ (r .first ≡ firstMeeting (startsAt (now (work .entry)) at) (lensIn (now (lens .entry))) n)
         × KeptBelow free (now (work .entry)) (now (work .exit))
         × FewPasses (startsAt (now (work .entry)) at) n (length (now (work .entry)) - free) (r .passes)
-        × (r .words ≤ r .passes * (length (now (work .entry)) - free + 1)) ⌝ }
+        × (r .words ≤ r .passes * (length (now (work .entry)) - free + 1)) × (r .ranges ≤ r .passes * n) ⌝ }
 {
     let width = work.len() - free;
     let mut best = n;
     let mut low: u64 = 0;
     let mut passes: u64 = 0;
+    let mut ranges: u64 = 0;
     let mut words: u64 = 0;
     while (1 < best) & (low < KEYS) {
         clear(work, free);
         let seen = pass(work, at, lens, best, free, low);
         best = seen.first;
+        ranges += seen.ranges as u64;
         words += seen.words as u64;
         low = next_start(work, at, best, window_end(low, width));
         passes += 1;
@@ -167,6 +180,7 @@ pub fn meeting(work: &mut [u32], at: usize, lens: &[u32], n: usize, free: usize)
     Met {
         first: best,
         passes: passes,
+        ranges: ranges,
         words: words,
     }
 }

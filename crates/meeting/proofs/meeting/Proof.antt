@@ -10,19 +10,19 @@ use borrow.Author.Tests.{ltb-true}
 use Rattle.meeting.specs.Meeting.{startsAt, lensIn}
 use Rattle.meeting.specs.Found.{KeptBelow, MeetsAt, keys, windowEnd, NextStart}
 use Rattle.meeting.proofs.Stores.{kept-all}
-use Rattle.meeting.proofs.Windows.{ApartBelow, Passes, passes-none, words-turn, words-small, both-true, windows-go, windows-less, windows-end}
+use Rattle.meeting.proofs.Windows.{ApartBelow, Passes, passes-none, words-turn, words-small, ranges-turn, ranges-small, both-true, windows-go, windows-less, windows-end}
 use Rattle.meeting.proofs.meeting.Statement.{statement}
 use Rattle.meeting.proofs.meeting.Tie as tie
 
 abbrev Inv-loop : tie.InvT-loop
-Inv-loop work₀ at lens n free width best₀ low₀ passes₀ words₀ work best low passes words =
+Inv-loop work₀ at lens n free width best₀ low₀ passes₀ ranges₀ words₀ work best low passes ranges words =
     (best ≤ n) × KeptBelow free work₀ work × (best < n → MeetsAt (startsAt work₀ at) (lensIn lens) best)
     × ApartBelow (startsAt work₀ at) (lensIn lens) low best × (low ≤ keys)
     × (0 < low → (i : ℕ) → i < best → startsAt work₀ at i < keys) × Passes (startsAt work₀ at) n (length work₀ - free) low passes
-    × (words ≤ passes * (length work₀ - free + 1))
+    × (words ≤ passes * (length work₀ - free + 1)) × (ranges ≤ passes * n)
 
 abbrev μ-loop : tie.MeasureT-loop
-μ-loop work₀ at lens n free width best₀ low₀ passes₀ words₀ work best low passes words = keys - low
+μ-loop work₀ at lens n free width best₀ low₀ passes₀ ranges₀ words₀ work best low passes ranges words = keys - low
 
 sub-width : tie.Need-sub-width Inv-loop μ-loop
 sub-width c = omega arith
@@ -37,6 +37,7 @@ loop-holds c = (
   (λ h. absurd (omega arith)),
   passes-none _ _ _,
   omega arith,
+  omega arith,
 )
 
 clear-requires : tie.Need-clear-requires Inv-loop μ-loop
@@ -48,6 +49,16 @@ pass-requires c κs =
     let v = c .before .before .before .before .before .before .loop .inv in
     let k = c .before .before .before .clear .ensures in
     (omega (arith, v .0, s .pre .0), omega (arith, v .1 .same-length, k .0 .same-length, s .pre .1), k .1)
+
+add-ranges : tie.Need-add-ranges Inv-loop μ-loop
+add-ranges c =
+    let a = c .before .before .before .before .before .before .before .before .before .before .before .before .args in
+    let l = c .before .before .before .before .before .before .before .before .before .loop in
+    let v = l .inv in
+    let t = both-true (ltb 1 (l .best)) (ltb (l .low) keys) (c .before .before .before .before .before .before .before .before .loop-test .taken) in
+    let q = c .before .before .pass .ensures in
+    let most : c .before .before .pass .result .ranges ≤ c .before .before .before .before .before .before .before .before .before .before .before .before .args .n = omega (arith, q .3, v .0) in
+    omega (arith, ranges-small _ (c .before .before .before .before .before .before .before .before .before .before .before .before .args .n) _ (l .low) (l .passes) (l .ranges) _ (ltb-true (l .low) keys (t .1)) (c .before .before .before .before .before .before .before .before .before .before .before .before .pre .3) (v .6) (v .8) most)
 
 add-words : tie.Need-add-words Inv-loop μ-loop
 add-words c =
@@ -114,7 +125,17 @@ loop-again c =
     windows-go (a .work .now) (l .work) (k .last .0) w (a .lens .now) (a .at) (a .n) (a .free) (l .low) width (l .best) (q .result .first) low (l .passes)
     (s .pre .0) (v .0) refl (v .1) (k .ensures .0) (q .ensures .0) (v .3) (v .2) (q .ensures .1) end key wide (omega (arith, more)) (v .6) in
     let words : q .result .words ≤ width + 1 = omega (arith, q .ensures .2, k .ensures .0 .same-length, v .1 .same-length) in
-    (go .0, go .1, go .2, go .3, go .4, go .5, go .6, words-turn (l .passes) width (l .words) (q .result .words) (v .7) words)
+    let ranges : q .result .ranges ≤ a .n = omega (arith, q .ensures .3, v .0) in (
+      go .0,
+      go .1,
+      go .2,
+      go .3,
+      go .4,
+      go .5,
+      go .6,
+      words-turn (l .passes) width (l .words) (q .result .words) (v .7) words,
+      ranges-turn (l .passes) (a .n) (l .ranges) (q .result .ranges) (v .8) ranges,
+    )
 
 same-length : tie.Need-same-length Inv-loop μ-loop
 same-length c = search needs
@@ -124,7 +145,7 @@ returns c =
     let a = c .before .before .before .before .args in
     let l = c .before .loop in
     let v = l .inv in
-    (windows-end (a .work .now) (a .lens .now) (a .at) (a .n) (l .low) (l .best) (v .0) (v .2) (v .3) (v .5) (c .loop-test .left), v .1, v .6 .few, v .7)
+    (windows-end (a .work .now) (a .lens .now) (a .at) (a .n) (l .low) (l .best) (v .0) (v .2) (v .3) (v .5) (c .loop-test .left), v .1, v .6 .few, v .7, v .8)
 
 pub meeting-spec : {M : Type 1} → statement M
 meeting-spec =
@@ -136,6 +157,7 @@ meeting-spec =
     loop-holds
     clear-requires
     pass-requires
+    add-ranges
     add-words
     window-end-requires
     next-start-requires

@@ -119,6 +119,9 @@ add-words c =
     (v .4) (v .5) in
     omega (arith, words .2)
 
+add-looked : tie.Need-add-looked Inv-loop μ-loop
+add-looked c = omega arith
+
 add-last : tie.Need-add-last Inv-loop μ-loop
 add-last c =
     let a = c .before .before .before .before .before .before .before .before .before .before .before .before .before .args in
@@ -163,7 +166,7 @@ returns c =
     let t =
     pass-stops (a .work .now) (l .work) (a .lens .now) (a .at) (a .n) (a .free) (a .low) wide (l .i) (from .result) (to .result) (c .before .before .before .before .before .before .before .before .before .before .before .before .before .pre .0) here (v .1) (from .ensures) end (v .2)
     (f .last .0) (f .result) (v .3) (f .ensures .0) (f .ensures .1) (c .if1 .taken) in
-    (kept, t, omega (arith, words .2))
+    (kept, t, omega (arith, words .2), here-more (l .i) (a .n) here)
 
 add-i : tie.Need-add-i Inv-loop μ-loop
 add-i c = omega arith
@@ -203,7 +206,7 @@ returns-2 c =
     let l = c .before .loop in
     let v = l .inv in
     let all : l .i ≡ a .n = omega arith in
-    (v .1, record { within = le-refl (a .n); met = λ h. absurd (lt-irrefl (a .n) h); apart = rw (← all) (v .3) }, omega (arith, v .6))
+    (v .1, record { within = le-refl (a .n); met = λ h. absurd (lt-irrefl (a .n) h); apart = rw (← all) (v .3) }, omega (arith, v .6), le-refl (a .n))
 
 pub pass-spec : {M : Type 1} → statement M
 pass-spec =
@@ -227,6 +230,7 @@ pass-spec =
     flag-requires
     sub-words
     add-words
+    add-looked
     add-last
     same-length
     returns
