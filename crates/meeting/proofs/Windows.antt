@@ -347,3 +347,25 @@ meeting-same f g l m n e k =
   where
     pair : (i j : ℕ) → i < n → j < n → meets f l i j ≡ meets g m i j
     pair i j h hj = rw (e i h, e j hj, k i h, k j hj)
+
+-- and a range of no keys meets none, wherever it starts
+pub meeting-same-keys : (f g l m : ℕ → ℕ) (n : ℕ) → ((i : ℕ) → i < n → 0 < l i → f i ≡ g i) → ((i : ℕ) → i < n → l i ≡ m i) → firstMeeting f l n ≡ firstMeeting g m n
+unfolding firstMeeting meetsEarlier
+meeting-same-keys f g l m n e k =
+    first-same (λ i. someBelow (meets f l i) i) (λ i. someBelow (meets g m i) i) n
+    (λ i h. ap (λ (r : ℕ). ltb r i) (first-same (meets f l i) (meets g m i) i (λ j ji. pair i j h (omega arith))))
+  where
+    none : (start len : ℕ → ℕ) (i j : ℕ) → (len i ≤ 0) ⊎ (len j ≤ 0) → meets start len i j ≡ false
+    none start len i j c =
+        let least : min (start i + len i) (start j + len j) ≤ max (start i) (start j) = ⊎-elim (λ (p : len i ≤ 0). omega arith) (λ (p : len j ≤ 0). omega arith) c in
+        le-ltb (max (start i) (start j)) (min (start i + len i) (start j + len j)) least
+
+    pair : (i j : ℕ) → i < n → j < n → meets f l i j ≡ meets g m i j
+    pair i j h hj =
+        ⊎-elim
+        (λ (p : l i ≤ 0). none f l i j (inl p) ∙ sym (none g m i j (inl (omega (arith, k i h)))))
+        (λ (p : 0 < l i). ⊎-elim
+        (λ (q : l j ≤ 0). none f l i j (inr q) ∙ sym (none g m i j (inr (omega (arith, k j hj)))))
+        (λ (q : 0 < l j). rw (e i h p, e j hj q, k i h, k j hj))
+        (le-or-lt (l j) 0))
+        (le-or-lt (l i) 0)
