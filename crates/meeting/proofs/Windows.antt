@@ -338,20 +338,10 @@ windows-end ws₀ ls at n low best w m a small e =
     (λ q j h. ⊎-elim (λ (f : ltb 1 best ≡ false). absurd (omega (arith, ltb-false 1 best f)))
     (λ (f : ltb low keys ≡ false). let past = ltb-false low keys f in omega (arith, small (omega arith) j h)) (one-false (ltb 1 best) (ltb low keys) e))
 
--- only the ranges looked at count
-pub meeting-same : (f g l m : ℕ → ℕ) (n : ℕ) → ((i : ℕ) → i < n → f i ≡ g i) → ((i : ℕ) → i < n → l i ≡ m i) → firstMeeting f l n ≡ firstMeeting g m n
+-- only the ranges looked at count, and a range of no keys meets none, wherever it starts
+pub meeting-same : (f g l m : ℕ → ℕ) (n : ℕ) → ((i : ℕ) → i < n → 0 < l i → f i ≡ g i) → ((i : ℕ) → i < n → l i ≡ m i) → firstMeeting f l n ≡ firstMeeting g m n
 unfolding firstMeeting meetsEarlier
 meeting-same f g l m n e k =
-    first-same (λ i. someBelow (meets f l i) i) (λ i. someBelow (meets g m i) i) n
-    (λ i h. ap (λ (r : ℕ). ltb r i) (first-same (meets f l i) (meets g m i) i (λ j ji. pair i j h (omega arith))))
-  where
-    pair : (i j : ℕ) → i < n → j < n → meets f l i j ≡ meets g m i j
-    pair i j h hj = rw (e i h, e j hj, k i h, k j hj)
-
--- and a range of no keys meets none, wherever it starts
-pub meeting-same-keys : (f g l m : ℕ → ℕ) (n : ℕ) → ((i : ℕ) → i < n → 0 < l i → f i ≡ g i) → ((i : ℕ) → i < n → l i ≡ m i) → firstMeeting f l n ≡ firstMeeting g m n
-unfolding firstMeeting meetsEarlier
-meeting-same-keys f g l m n e k =
     first-same (λ i. someBelow (meets f l i) i) (λ i. someBelow (meets g m i) i) n
     (λ i h. ap (λ (r : ℕ). ltb r i) (first-same (meets f l i) (meets g m i) i (λ j ji. pair i j h (omega arith))))
   where
