@@ -36,3 +36,11 @@ words-few start n (suc w) (suc q) v k f e h l =
       mul-add q (suc w) 1,
       mul-add q 1 w,
     )
+
+-- both at once
+pub search-few : (start : ℕ → ℕ) (n r w p v u m : ℕ) → FewPasses start n w p → v ≤ p * n → u ≤ p * (w + 1) → ((i : ℕ) → i < n → start i < m) → n ≤ r → r + r ≤ w
+    → (v ≤ m / 2 + r) × (u ≤ m + m + w + 1)
+search-few start n r w p v u m f e g h l k = (
+  visits-few start n w p v m r f e h l k,
+  words-few start n w p u m f g (λ i b. omega (arith, h i b)) (omega arith),
+)
