@@ -75,14 +75,7 @@ fn place_of(key: u64, low: u64, width: usize) -> usize
 
 // One pass over the window of keys from low on, whose flags are clear: the first range that has a key
 // there which an earlier one has too, else n; and what was looked at.
-fn pass(
-    work: &mut [u32],
-    at: usize,
-    lens: &[u32],
-    n: usize,
-    free: usize,
-    low: u64,
-) -> Passed
+fn pass(work: &mut [u32], at: usize, lens: &[u32], n: usize, free: usize, low: u64) -> Passed
     requires { ⌜ (at + n ≤ free) × (free ≤ length (now work)) × ClearFrom free (now work) ⌝ }
     ensures { λ r. ⌜ KeptBelow free (now (work .entry)) (now (work .exit))
         × PassedTo (startsAt (now (work .entry)) at) (lensIn (now (lens .entry))) low (low + (length (now (work .entry)) - free)) n (r .first)

@@ -122,8 +122,7 @@ returns c =
     (e .ensures .3) low1 m (omega (arith, l1, p .1)) in
     let w2 =
     search-few (startsAt ws2 (a + x .n)) (e .result .first) (x .n) (length ws2 - free) (d .result .passes) (d .result .ranges) (d .result .words) (x .made) (d .ensures .2)
-    (d .ensures .4) (d .ensures .3) low2 (omega (arith, m, g)) (omega (arith, l1, l2, p .1)) in
-    (
+    (d .ensures .4) (d .ensures .3) low2 (omega (arith, m, g)) (omega (arith, l1, l2, p .1)) in (
       d .ensures .0
           ∙ by-slices (x .path-nos .now) (x .coords .now) (x .paths .now) (x .tiles) (viewOf (x .tiles) (x .work .now) (x .made)) (p .0 .own) ours (x .refs .now) (x .n)
           (startsAt ws1 a) (startsAt ws2 (a + x .n)) (f .result) (s .first-stray) (λ j h. s .noted .steps j h)
