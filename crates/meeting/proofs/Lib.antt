@@ -1,3 +1,4 @@
 pub mod FirstLaws
 pub mod Stores
 pub mod Windows
+pub mod WorkLaws

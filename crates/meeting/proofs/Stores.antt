@@ -2,14 +2,15 @@
 use mathlib.Core.Path.{_≡_, refl, sym, ap, _∙_}
 use mathlib.Core.Logic.{_≢_, _⊎_, inl, inr, ⊎-elim}
 use mathlib.Core.List.{List, [], _∷_}
-use Prim.Native.Nat.{ℕ, zero, suc, _+_, _≤_, _<_}
+use Prim.Native.Nat.{ℕ, zero, suc, _+_, _-_, _≤_, _<_}
 use native.Mathlib.Nat.{not-suc-le-zero, le-of-suc-le-suc}
 use native.Mathlib.Omega.{arith}
 use native.Mathlib.Decide.{ℕ-discrete}
 use lib.ListN.{length, getD, set, length-set, List·getD-eq-default}
 use lib.Seq.{getD-set-same, getD-set-other}
 use Rattle.lists.specs.GridLaws.{le-or-lt}
-use Rattle.meeting.specs.Found.{KeptBelow, ClearFrom, FlagStood, FlagsNew}
+use Rattle.lists.specs.Sums.{sum, sum-set}
+use Rattle.meeting.specs.Found.{KeptBelow, ClearFrom, FlagsNew, FlagRan}
 
 -- a word after a store: the one stored, or as it was
 pub stored-or : (l : List ℕ) (i v j : ℕ) → i < length l → ((j ≡ i) × (getD (set l i v) j 0 ≡ v)) ⊎ ((j ≢ i) × (getD (set l i v) j 0 ≡ getD l j 0))
@@ -71,8 +72,37 @@ flags-turn ws₀ ws a k l h z f =
     none j p q =
         ⊎-elim (λ (e : k ≤ j). let same : j ≡ k = omega arith in rw same (sym (f .after k (omega arith)) ∙ z)) (λ (e : j < k). f .none j p e) (le-or-lt k j)
 
-pub flag-stood : (ws₀ ws : List ℕ) (a k b : ℕ) → a ≤ k → k < b → (getD ws k 0 ≡ 0 → ⊥) → FlagsNew ws₀ ws a k → FlagStood ws₀ a b
-flag-stood ws₀ ws a k b l h n f = record { place = k; low = l; high = h; stood = λ e. n (f .after k (omega arith) ∙ e) }
+pub flag-turn-sum : (ws₀ ws : List ℕ) (a k : ℕ) → a ≤ k → k < length ws → getD ws k 0 ≡ 0 → sum ws ≡ sum ws₀ + (k - a) → sum (set ws k 1) ≡ sum ws₀ + (k + 1 - a)
+flag-turn-sum ws₀ ws a k l h z e = omega (arith, sum-set ws k 1 h)
+
+pub flag-here : (ws₀ ws : List ℕ) (a b k : ℕ) → a ≤ k → k < b → (getD ws k 0 ≡ 0 → ⊥) → FlagsNew ws₀ ws a k → sum ws ≡ sum ws₀ + (k - a) → FlagRan ws₀ ws a b k
+flag-here ws₀ ws a b k l h n f e =
+    record { from = l; to = omega arith; new = f; stood = λ q z. n (f .after k (omega arith) ∙ z); more = e }
+
+pub flag-end : (ws₀ ws : List ℕ) (a b k : ℕ) → a ≤ k → k ≡ b → FlagsNew ws₀ ws a k → sum ws ≡ sum ws₀ + (k - a) → FlagRan ws₀ ws a b k
+flag-end ws₀ ws a b k l h f e = record { from = l; to = omega arith; new = f; stood = λ q. absurd (omega arith); more = e }
+
+-- ---- flags are 0 or 1, so there are no more of them than words
+
+abbrev pub OnesFrom : ℕ → List ℕ → Type 0
+OnesFrom free ws = (k : ℕ) → free ≤ k → getD ws k 0 ≤ 1
+
+pub ones-new : (free a b : ℕ) (ws ws′ : List ℕ) → FlagsNew ws ws′ a b → OnesFrom free ws → OnesFrom free ws′
+ones-new free a b ws ws′ f o k l =
+    ⊎-elim
+    (λ (p : a ≤ k). ⊎-elim (λ (q : b ≤ k). omega (arith, f .after k q, o k l)) (λ (q : k < b). omega (arith, f .now-flagged k p q)) (le-or-lt b k))
+    (λ (p : k < a). omega (arith, f .before k p, o k l))
+    (le-or-lt a k)
+
+pub sum-ones : (free : ℕ) (us ws : List ℕ) → length ws ≡ length us → ((k : ℕ) → k < free → getD ws k 0 ≡ getD us k 0) → OnesFrom free ws
+    → sum ws ≤ sum us + (length ws - free)
+sum-ones free [] [] e f o = omega arith
+sum-ones free [] (y ∷ ws) e f o = absurd (omega arith)
+sum-ones free (x ∷ us) [] e f o = absurd (omega arith)
+sum-ones zero (x ∷ us) (y ∷ ws) e f o =
+    omega (arith, o 0 (omega arith), sum-ones zero us ws (omega arith) (λ k h. absurd (not-suc-le-zero h)) (λ k l. o (suc k) (omega arith)))
+sum-ones (suc free) (x ∷ us) (y ∷ ws) e f o =
+    omega (arith, f 0 (omega arith), sum-ones free us ws (omega arith) (λ k h. f (suc k) (omega arith)) (λ k l. o (suc k) (omega arith)))
 
 -- ---- a word that is there, whatever stands for one that isn't
 pub there-any : (l : List ℕ) (i d e : ℕ) → i < length l → getD l i d ≡ getD l i e

@@ -1,9 +1,9 @@
 -- What the functions of this crate tell each other. Only proofs lean on it: no promise of a public call does. Definitions only.
 use mathlib.Core.Path.{_≡_}
-use mathlib.Core.Bool.{Bool, true, false}
 use mathlib.Core.List.{List}
-use Prim.Native.Nat.{ℕ, _+_, _-_, _≤_, _<_, _^_, min}
+use Prim.Native.Nat.{ℕ, _+_, _-_, _*_, _≤_, _<_, _^_, min}
 use lib.ListN.{length, getD}
+use Rattle.lists.specs.Sums.{sum}
 
 -- a key of the range that starts at s with n keys
 abbrev pub Has : (s n k : ℕ) → Type 0
@@ -18,22 +18,27 @@ pub record KeptBelow (free : ℕ) (ws ws′ : List ℕ) : Type 0 where
 abbrev pub ClearFrom : ℕ → List ℕ → Type 0
 ClearFrom free ws = (k : ℕ) → free ≤ k → getD ws k 0 ≡ 0
 
--- a flag stood there before; or none did, and each stands now
+-- a flag stood there before
 pub record FlagStood (ws : List ℕ) (a b : ℕ) : Type 0 where
   pub place : ℕ
   pub low : a ≤ place
   pub high : place < b
   pub stood : getD ws place 0 ≡ 0 → ⊥
 
+-- none did, and each stands now
 pub record FlagsNew (ws ws′ : List ℕ) (a b : ℕ) : Type 0 where
   pub none : (k : ℕ) → a ≤ k → k < b → getD ws k 0 ≡ 0
   pub now-flagged : (k : ℕ) → a ≤ k → k < b → getD ws′ k 0 ≡ 1
   pub before : (k : ℕ) → k < a → getD ws′ k 0 ≡ getD ws k 0
   pub after : (k : ℕ) → b ≤ k → getD ws′ k 0 ≡ getD ws k 0
 
-abbrev pub FlagRan : List ℕ → List ℕ → (a b : ℕ) → Bool → Type 0
-FlagRan ws ws′ a b true = FlagStood ws a b
-FlagRan ws ws′ a b false = FlagsNew ws ws′ a b
+-- flags from a on, up to b or to the first that stood before; so many words are 1 now that were 0
+pub record FlagRan (ws ws′ : List ℕ) (a b r : ℕ) : Type 0 where
+  pub from : a ≤ r
+  pub to : r ≤ b
+  pub new : FlagsNew ws ws′ a r
+  pub stood : r < b → getD ws r 0 ≡ 0 → ⊥
+  pub more : sum ws′ ≡ sum ws + (r - a)
 
 -- range i meets an earlier one
 pub record MeetsAt (start len : ℕ → ℕ) (i : ℕ) : Type 0 where
@@ -71,6 +76,7 @@ pub record Nearer (before start end r : ℕ) : Type 0 where
   pub most : r ≤ before
   pub past : r < before → end ≤ r
   pub least : end ≤ start → r ≤ start
+  pub own : r < before → r ≡ start
 
 -- the least start at or past end, or the number of all keys; every start is a key
 pub record NextStart (start : ℕ → ℕ) (end n r : ℕ) : Type 0 where
@@ -78,3 +84,8 @@ pub record NextStart (start : ℕ → ℕ) (end n r : ℕ) : Type 0 where
   pub past : r < keys → end ≤ r
   pub least : (i : ℕ) → i < n → end ≤ start i → r ≤ start i
   pub small : (i : ℕ) → i < n → start i < keys
+  pub is-start : r < keys → (i : ℕ) × (i < n) × (start i ≡ r)
+
+-- so many windows of so many keys each, for n ranges that start below k, whatever k is: all but the last take up less than k keys
+abbrev pub FewPasses : (start : ℕ → ℕ) → (n width passes : ℕ) → Type 0
+FewPasses start n width passes = (k : ℕ) → 0 < passes → ((i : ℕ) → i < n → start i < k) → passes * width < k + width

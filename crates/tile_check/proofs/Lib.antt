@@ -4,3 +4,4 @@ pub mod RoomLaws
 pub mod PlaceLaws
 pub mod CallLaws
 pub mod BackLaws
+pub mod WorkLaws

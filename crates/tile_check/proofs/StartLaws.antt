@@ -27,7 +27,7 @@ use Rattle.acts.specs.Acts.{St, stOf, Act, mark, visit, stop, Hit, on, off, row
 use Rattle.acts.specs.Rows.{rowsActs}
 use Rattle.acts.specs.Line.{Plan, planActs, planStep, refsOf, haltIf, Refusal, atLine, batchOf}
 use Rattle.acts.proofs.Laws.{runs-append}
-use Rattle.acts.proofs.Whole.{run-made, no-stop, plan-taken}
+use Rattle.acts.proofs.Whole.{run-made, no-stop, plan-taken, plan-made}
 use Rattle.path_count.specs.Count.{planOf, walkedStep, lineStep, batch}
 use Rattle.path_count.proofs.Batches.{batches}
 use Rattle.made.specs.Made.{hitMade, planMade, walkMade, madeOf}
@@ -128,6 +128,14 @@ walked-fewer room l (Refused n) s u h e = let z : _≡_ {A = ℕ} 0 1 = cc in ab
 walked-fewer room l Skipped s u h e = let q : s ≡ u = cc in subst Fewer q h
 walked-fewer room l (Line w b) s u h e = run-fewer (deltaOf (planOf w b .up)) l (planActs (planOf w b)) s u h (plan-taken room l (planOf w b) s u e .0)
 
+abbrev Most : St → Type 0
+Most s = s .made ≤ mostSlots
+
+walked-most : (room l : ℕ) (x : Walked) (s u : St) → Most s → walkedStep room l x s ≡ taken u → Most u
+walked-most room l (Refused n) s u h e = let z : _≡_ {A = ℕ} 0 1 = cc in absurd (omega arith)
+walked-most room l Skipped s u h e = let q : s ≡ u = cc in subst Most q h
+walked-most room l (Line w b) s u h e = plan-made room l (planOf w b) s u e
+
 at-taken : (l : ℕ) (o : Step St ℕ) (u : St) → atLine l o ≡ taken u → o ≡ taken u
 at-taken l (taken s) u e = let q : s ≡ u = cc in ap taken q
 at-taken l (halted n) u e = let z : _≡_ {A = ℕ} 0 1 = cc in absurd (omega arith)
@@ -144,6 +152,15 @@ module _ (nos : List ℕ) (coords : List Float) (paths : List ℕ) (tiles : ℕ)
       (run-keeps (λ l t. atLine l (lineStep nos coords paths mostSlots l l t)) Fewer
       (λ l s v h q. walked-fewer mostSlots l (walkAt nos coords paths l) s v h (line-taken l s v (at-taken l (lineStep nos coords paths mostSlots l l s) v q)))
       (from 0 (n - 0)) (zeroed tiles) (omega (arith, sum-replicate-zero tiles)))
+
+  -- nor more made than may be
+  pub own-most : (n : ℕ) (u : St) → ownTo nos coords paths tiles n ≡ done u → u .made ≤ mostSlots
+  unfolding ownTo batchOf
+  own-most n u e =
+      subst Most (ap left e)
+      (run-keeps (λ l t. atLine l (lineStep nos coords paths mostSlots l l t)) Most
+      (λ l s v h q. walked-most mostSlots l (walkAt nos coords paths l) s v h (line-taken l s v (at-taken l (lineStep nos coords paths mostSlots l l s) v q)))
+      (from 0 (n - 0)) (zeroed tiles) (omega arith))
 
   -- ---- where each line's references begin
 

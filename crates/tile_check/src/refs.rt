@@ -1,7 +1,7 @@
 // The first reference at fault: stray, or made by an earlier one too, by line and step or by tile and
 // slice.
 ghost use mathlib.Core.Path.{_≡_};
-ghost use Prim.Native.Nat.{ℕ, _+_, _*_, _≤_, _<_, _^_};
+ghost use Prim.Native.Nat.{ℕ, _+_, _-_, _*_, _/_, _≤_, _<_, _^_};
 ghost use lib.ListN.{length, take};
 ghost use Rattle.panel.specs.Widths.{lineFloats, refWords};
 ghost use Rattle.panel.specs.Paths.{pathsAnswer};
@@ -15,6 +15,16 @@ ghost use Rattle.meeting.specs.Found.{KeptBelow};
 use super::keys::Key;
 use super::keys::key_at;
 use meeting::meeting;
+
+// The first reference at fault; how many references were looked at in the search for one that has an
+// earlier one's step, and for one that has its slice; how many words for a flag in each.
+pub struct FirstRef {
+    pub first: usize,
+    pub steps: u64,
+    pub step_words: u64,
+    pub slices: u64,
+    pub slice_words: u64,
+}
 
 // The first stray one of n; the keys of those before it are noted behind what is ours.
 fn note_refs(
@@ -48,7 +58,9 @@ fn note_refs(
     j
 }
 
-// The first of n at fault; n where none is.
+// The first of n at fault; n where none is. The places noted are below the references made, and each
+// window has twice as many keys as there are references: so each search looks at half as many
+// references as are made, and at each once more, at most.
 pub fn first_ref(
     path_nos: &[u32],
     coords: &[f32],
@@ -58,12 +70,13 @@ pub fn first_ref(
     work: &mut [u32],
     tiles: usize,
     made: u32,
-) -> usize
-    requires { ⌜ RoomHas (now «path_nos») (now coords) (now paths) tiles made (now work) × (ownEnd tiles (length (now «path_nos»)) + n + n ≤ length (now work))
-        × (1 < n → ownEnd tiles (length (now «path_nos»)) + n + n < length (now work))
+) -> FirstRef
+    requires { ⌜ RoomHas (now «path_nos») (now coords) (now paths) tiles made (now work) × (ownEnd tiles (length (now «path_nos»)) + n + n + n + n ≤ length (now work))
         × (pathsAnswer (now paths) tiles ≡ Done) × (length (now «path_nos») * lineFloats ≤ length (now coords)) × (n * refWords ≤ length (now refs)) × (n ≤ made + 1) ⌝ }
-    ensures { λ r. ⌜ (r ≡ firstOf (refFault (madeOf (now («path_nos» .entry)) (now (coords .entry)) (now (paths .entry))) (take tiles (now (work .entry))) (now (refs .entry))) n)
-        × KeptBelow (ownEnd tiles (length (now («path_nos» .entry)))) (now (work .entry)) (now (work .exit)) ⌝ }
+    ensures { λ r. ⌜ (r .first ≡ firstOf (refFault (madeOf (now («path_nos» .entry)) (now (coords .entry)) (now (paths .entry))) (take tiles (now (work .entry))) (now (refs .entry))) n)
+        × KeptBelow (ownEnd tiles (length (now («path_nos» .entry)))) (now (work .entry)) (now (work .exit))
+        × (r .steps ≤ made / 2 + n) × (r .«step_words» ≤ made + made + (length (now (work .entry)) - (ownEnd tiles (length (now («path_nos» .entry))) + n + n)) + 1)
+        × (r .slices ≤ made / 2 + n) × (r .«slice_words» ≤ made + made + (length (now (work .entry)) - (ownEnd tiles (length (now («path_nos» .entry))) + n + n)) + 1) ⌝ }
 {
     let a = tiles + tiles + path_nos.len() + tiles;
     let b = a + n;
@@ -71,5 +84,12 @@ pub fn first_ref(
     let f = note_refs(path_nos, coords, paths, refs, n, work, tiles, made);
     let none = &refs[0..0];
     let g = meeting(work, a, none, f, free);
-    meeting(work, b, none, g, free)
+    let h = meeting(work, b, none, g.first, free);
+    FirstRef {
+        first: h.first,
+        steps: g.ranges,
+        step_words: g.words,
+        slices: h.ranges,
+        slice_words: h.words,
+    }
 }

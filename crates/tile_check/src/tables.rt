@@ -62,7 +62,8 @@ fn look_past(
     if b < tiles {
         return Checked::Backdrop(b as u32);
     }
-    let s = first_slots(counts, stored, slots_in(room), work, 0, tiles);
+    let met = first_slots(counts, stored, slots_in(room), work, 0, tiles);
+    let s = met.first;
     if s < tiles {
         return Checked::Slots(s as u32);
     }
@@ -98,7 +99,8 @@ pub fn look(
     sum_up(work, tiles, sums);
     let lent = refs.len() / REF_WORDS;
     let n = refs_in(lent, made);
-    let f = first_ref(path_nos, coords, paths, refs, n, work, tiles, made);
+    let found = first_ref(path_nos, coords, paths, refs, n, work, tiles, made);
+    let f = found.first;
     if f < n {
         return Checked::Reference(f as u32);
     }

@@ -16,7 +16,7 @@ use Rattle.entries.proofs.note_slots.Tie as tie
 
 abbrev Inv-loop : tie.InvT-loop
 Inv-loop counts stored room work₀ at t₀ work t =
-    (t ≤ length counts) × ((i : ℕ) → i < t → pastRoom room counts stored i ≡ false) × KeptBelow at work₀ work × SlotsNoted stored work at t
+    (t ≤ length counts) × ((i : ℕ) → i < t → pastRoom room counts stored i ≡ false) × KeptBelow at work₀ work × SlotsNoted counts stored work at t
 
 abbrev μ-loop : tie.MeasureT-loop
 μ-loop counts stored room work₀ at t₀ work t = length counts - t
@@ -24,17 +24,17 @@ abbrev μ-loop : tie.MeasureT-loop
 loop-holds : tie.Need-loop-holds Inv-loop μ-loop
 loop-holds c = (omega arith, (λ i h. absurd (omega arith)), kept-all _ _, λ i h. absurd (omega arith))
 
+mul-count : tie.Need-mul-count Inv-loop μ-loop
+mul-count c = search needs
+
+shared-slice-read-count : tie.Need-shared-slice-read-count Inv-loop μ-loop
+shared-slice-read-count c = omega arith
+
 mul-word : tie.Need-mul-word Inv-loop μ-loop
 mul-word c = search needs
 
 shared-slice-read-word : tie.Need-shared-slice-read-word Inv-loop μ-loop
 shared-slice-read-word c = omega arith
-
-mul-past : tie.Need-mul-past Inv-loop μ-loop
-mul-past c = search needs
-
-shared-slice-read-past : tie.Need-shared-slice-read-past Inv-loop μ-loop
-shared-slice-read-past c = omega arith
 
 past-requires : tie.Need-past-requires Inv-loop μ-loop
 past-requires c κs = search needs
@@ -53,14 +53,17 @@ returns c =
       noted = v .3;
     }
 
+noted-requires : tie.Need-noted-requires Inv-loop μ-loop
+noted-requires c κs = search needs
+
 add-work : tie.Need-add-work Inv-loop μ-loop
-add-work c = omega (arith, c .before .before .before .before .before .loop .inv .2 .same-length)
+add-work c = omega (arith, c .before .before .before .before .before .before .loop .inv .2 .same-length)
 
 mul-work : tie.Need-mul-work Inv-loop μ-loop
 mul-work c = search needs
 
 slice-write-work : tie.Need-slice-write-work Inv-loop μ-loop
-slice-write-work c = omega (arith, c .before .before .before .before .before .loop .inv .2 .same-length)
+slice-write-work c = omega (arith, c .before .before .before .before .before .before .loop .inv .2 .same-length)
 
 add-t : tie.Need-add-t Inv-loop μ-loop
 add-t c = omega arith
@@ -70,12 +73,12 @@ loop-less c = omega arith
 
 loop-again : tie.Need-loop-again Inv-loop μ-loop
 loop-again c =
-    let a = c .before .before .before .before .before .before .before .before .before .args in
-    let l = c .before .before .before .before .before .loop in
+    let a = c .before .before .before .before .before .before .before .before .before .before .args in
+    let l = c .before .before .before .before .before .before .loop in
     let v = l .inv in
     let there : a .at + l .t < length (l .work) = omega (arith, v .2 .same-length) in
-    let t = slots-store (a .stored .now) (a .work .now) (l .work) (a .at) (l .t) _ there (v .2) refl (v .3) in
-    (omega arith, below-next (pastRoom (a .room) (a .counts .now) (a .stored .now)) (l .t) (v .1) (sym (c .before .past .ensures) ∙ c .if1 .left), t .0, t .1)
+    let t = slots-store (a .counts .now) (a .stored .now) (a .work .now) (l .work) (a .at) (l .t) _ there (v .2) (c .noted .ensures) (v .3) in
+    (omega arith, below-next (pastRoom (a .room) (a .counts .now) (a .stored .now)) (l .t) (v .1) (sym (c .before .before .past .ensures) ∙ c .before .if1 .left), t .0, t .1)
 
 same-length-2 : tie.Need-same-length-2 Inv-loop μ-loop
 same-length-2 c = search needs
@@ -95,13 +98,14 @@ note-slots-spec =
     Inv-loop
     μ-loop
     loop-holds
+    mul-count
+    shared-slice-read-count
     mul-word
     shared-slice-read-word
-    mul-past
-    shared-slice-read-past
     past-requires
     same-length
     returns
+    noted-requires
     add-work
     mul-work
     slice-write-work

@@ -1,23 +1,24 @@
 -- `meeting::flag` meets its contract. The loop's invariant: none of the words passed was flagged, and each is now.
 -- Assumes nothing.
 use mathlib.Core.Path.{_≡_}
-use Prim.Native.Nat.{_≤_, _<_, _-_}
+use Prim.Native.Nat.{_≤_, _<_, _-_, _+_}
 use native.Mathlib.Omega.{arith}
 use borrow.Author.Needs.{needs}
 use lib.ListN.{length, length-set}
+use Rattle.lists.specs.Sums.{sum}
 use Rattle.meeting.specs.Found.{KeptBelow, FlagsNew}
-use Rattle.meeting.proofs.Stores.{kept-all, kept-store, flags-none, flags-turn, flag-stood}
+use Rattle.meeting.proofs.Stores.{kept-all, kept-store, flags-none, flags-turn, flag-turn-sum, flag-here, flag-end}
 use Rattle.meeting.proofs.flag.Statement.{statement}
 use Rattle.meeting.proofs.flag.Tie as tie
 
 abbrev Inv-loop : tie.InvT-loop
-Inv-loop work₀ a b k₀ work k = (a ≤ k) × (k ≤ b) × KeptBelow a work₀ work × FlagsNew work₀ work a k
+Inv-loop work₀ a b k₀ work k = (a ≤ k) × (k ≤ b) × KeptBelow a work₀ work × FlagsNew work₀ work a k × (sum work ≡ sum work₀ + (k - a))
 
 abbrev μ-loop : tie.MeasureT-loop
 μ-loop work₀ a b k₀ work k = b - k
 
 loop-holds : tie.Need-loop-holds Inv-loop μ-loop
-loop-holds c = (omega arith, omega arith, kept-all _ _, flags-none _ _)
+loop-holds c = (omega arith, omega arith, kept-all _ _, flags-none _ _, omega arith)
 
 mul-if1 : tie.Need-mul-if1 Inv-loop μ-loop
 mul-if1 c = search needs
@@ -32,7 +33,7 @@ returns : tie.Need-returns Inv-loop μ-loop
 returns c =
     let l = c .before .before .before .loop in
     let i = l .inv in
-    (i .2, flag-stood _ (l .work) _ (l .k) _ (i .0) (omega arith) (c .if1 .taken) (i .3))
+    (i .2, flag-here _ (l .work) _ _ (l .k) (i .0) (omega arith) (c .if1 .taken) (i .3) (i .4))
 
 mul-work : tie.Need-mul-work Inv-loop μ-loop
 mul-work c = search needs
@@ -51,7 +52,7 @@ loop-again c =
     let l = c .before .before .before .loop in
     let i = l .inv in
     let there : l .k < length (l .work) = omega (arith, i .2 .same-length) in
-    (omega arith, omega arith, kept-store _ _ 1 _ _ (i .0) (i .2), flags-turn _ _ _ _ (i .0) there (c .if1 .left) (i .3))
+    (omega arith, omega arith, kept-store _ _ 1 _ _ (i .0) (i .2), flags-turn _ _ _ _ (i .0) there (c .if1 .left) (i .3), flag-turn-sum (c .before .before .before .before .args .work .now) (l .work) _ (l .k) (i .0) there (c .if1 .left) (i .4))
 
 same-length-2 : tie.Need-same-length-2 Inv-loop μ-loop
 same-length-2 c = search needs
@@ -61,7 +62,7 @@ returns-2 c =
     let l = c .before .loop in
     let i = l .inv in
     let all : l .k ≡ c .before .before .args .b = omega arith in
-    (i .2, rw (← all) (i .3))
+    (i .2, flag-end _ _ _ _ _ (i .0) all (i .3) (i .4))
 
 pub flag-spec : {M : Type 1} → statement M
 flag-spec =

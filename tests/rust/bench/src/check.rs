@@ -116,6 +116,15 @@ pub fn limits() {
     tables.refs.iter_mut().skip(1).step_by(REF).for_each(|w| *w %= STEP_RANGE);
     row("at the limits, all slices 0", &tables, FOUND_REFERENCE, 1);
 
+    // one short line among many tiles; what is stored for the tiles that have no slots lies all over
+    let side = 256;
+    let mut wide = Tables::new(vec![0], vec![8.0, 4.0, 8.0, 12.0], path([0, 0, side, side], 0).to_vec(), (side * side) as usize, 1);
+    row("one line, the words of tiles with no slots as handed out", &wide, FOUND_YES, 3);
+    for (t, word) in wide.stored.iter_mut().enumerate().skip(1) {
+        *word = !(t as u32 * (u32::MAX / (side * side)));
+    }
+    row("one line, the words of tiles with no slots all over", &wide, FOUND_YES, 3);
+
     // one tile, its slots at the limit's end and past it, whatever room is named: by few lines, so with little working room, and by many
     for lines in [1, lines - 1] {
         let coords = [8.0, 4.0, 8.0, 12.0].repeat(lines);

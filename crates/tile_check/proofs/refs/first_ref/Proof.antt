@@ -1,23 +1,24 @@
 -- `tile_check::refs::first_ref` meets its contract: the first stray one, then the first meeting by line and step, then by tile and slice, each among those before.
 -- Assumes nothing.
 use mathlib.Core.Path.{_≡_, refl, sym, ap, _∙_}
-use Prim.Native.Nat.{ℕ, _+_, _≤_, _<_}
+use mathlib.Core.Bool.{false}
+use Prim.Native.Nat.{ℕ, _+_, _-_, _/_, _*_, _≤_, _<_}
 use native.Mathlib.Omega.{arith}
 use lib.ListN.{length, take}
 use Rattle.meeting.specs.Meeting.{startsAt}
+use Rattle.meeting.proofs.FirstLaws.{first-missed}
 use Rattle.meeting.proofs.Stores.{kept-trans, kept-less}
+use Rattle.meeting.proofs.WorkLaws.{search-few}
 use Rattle.made.specs.Made.{madeOf}
 use Rattle.own_count.specs.View.{viewOf, startOf}
+use Rattle.tile_check.specs.Faults.{strayRef}
 use Rattle.tile_check.specs.Keys.{ownEnd}
 use Rattle.tile_check.proofs.RefLaws.{meet-most, by-slices}
 use Rattle.tile_check.proofs.RoomLaws.{noted-most}
+use Rattle.tile_check.proofs.WorkLaws.{made-most, step-below, slice-below}
 use borrow.Author.Needs.{needs}
 use Rattle.tile_check.proofs.refs.first_ref.Statement.{statement}
 use Rattle.tile_check.proofs.refs.first_ref.Tie as tie
-use Rattle.tile_check.proofs.refs.first_ref.Reads as reads
-use Rattle.tile_check.proofs.refs.first_ref.Lts as lts
-use Rattle.meeting.proofs.meeting.Reads as meeting-reads
-use Rattle.tile_check.proofs.refs.note_refs.Reads as note-refs-reads
 
 add-a : tie.Need-add-a
 add-a c = search needs
@@ -35,7 +36,9 @@ add-free : tie.Need-add-free
 add-free c = search needs
 
 note-refs-requires : tie.Need-note-refs-requires
-note-refs-requires c κs = search needs
+note-refs-requires c κs =
+    let p = c .before .before .before .before .before .before .pre in
+    (p .0, omega (arith, p .1), p .2, p .3, p .4, p .5)
 
 sub-none : tie.Need-sub-none
 sub-none c = search needs
@@ -48,67 +51,33 @@ part-none-end c = search needs
 
 meeting-requires : tie.Need-meeting-requires
 meeting-requires c κs =
-    let m : c .before .before .before .before .note-refs .result ≤ c .before .before .before .before .before .before .before .before .before .before .before .args .n = noted-most
-    (madeOf (c .before .before .before .before .before .before .before .before .before .before .before .args .path-nos .now) (c .before .before .before .before .before .before
-    .before .before .before .before .before .args .coords .now) (c .before .before .before .before .before .before .before .before .before .before .before .args .paths .now))
-    (startOf (c .before .before .before .before .before .before .before .before .before .before .before .args .path-nos .now) (c .before .before .before .before .before .before
-    .before .before .before .before .before .args .coords .now) (c .before .before .before .before .before .before .before .before .before .before .before .args .paths .now) (c
-    .before .before .before .before .before .before .before .before .before .before .before .args .tiles)) (take (c .before .before .before .before .before .before .before
-    .before .before .before .before .args .tiles) (c .before .before .before .before .before .before .before .before .before .before .before .args .work .now)) (c .before
-    .before .before .before .before .before .before .before .before .before .before .args .refs .now) (c .before .before .before .before .before .before .before .before .before
-    .before .before .args .work .now) (c .before .before .before .before .note-refs .last .1 .1 .1 .1 .1 .0) (ownEnd (c .before .before .before .before .before .before .before
-    .before .before .before .before .args .tiles) (length (c .before .before .before .before .before .before .before .before .before .before .before .args .path-nos .now))) (c
-    .before .before .before .before .before .before .before .before .before .before .before .args .n) (c .before .before .before .before .note-refs .result) (c .before .before
-    .before .before .note-refs .ensures) in (
-      omega (arith, m),
-      omega (
-        arith,
-        c .before .before .before .before .note-refs .ensures .kept .same-length,
-        c .before .before .before .before .before .before .before .before .before .before
-            .before .pre .1,
-      ),
-      λ h. omega (
-        arith,
-        c .before .before .before .before .note-refs .ensures .kept .same-length,
-        c .before .before .before .before .before .before .before .before .before .before
-            .before .pre .2 (omega (arith, m)),
-      ),
-    )
+    let x = c .before .before .before .before .before .before .before .before .before .before .before .args in
+    let p = c .before .before .before .before .before .before .before .before .before .before .before .pre in
+    let f = c .before .before .before .before .note-refs in
+    let s = f .ensures in
+    let m : f .result ≤ x .n =
+    noted-most (madeOf (x .path-nos .now) (x .coords .now) (x .paths .now)) (startOf (x .path-nos .now) (x .coords .now) (x .paths .now) (x .tiles)) (take (x .tiles) (x .work .now))
+    (x .refs .now) (x .work .now) (f .last .1 .1 .1 .1 .1 .0) (ownEnd (x .tiles) (length (x .path-nos .now))) (x .n) (f .result) s in
+    let few = made-most (x .path-nos .now) (x .coords .now) (x .paths .now) (x .tiles) (x .made) (x .work .now) (p .0 .own) in
+    (omega (arith, m), omega (arith, s .kept .same-length, p .1), (λ h. omega (arith, s .kept .same-length, p .1, m)), omega (arith, m, few, p .5))
 
 meeting-requires-2 : tie.Need-meeting-requires-2
 meeting-requires-2 c κs =
-    let m : c .before .before .before .before .before .before .before .before .note-refs .result ≤ c .before .before .before .before .before .before .before .before .before .before
-    .before .before .before .before .before .args .n = noted-most (madeOf (c .before .before .before .before .before .before .before .before .before .before .before .before
-    .before .before .before .args .path-nos .now) (c .before .before .before .before .before .before .before .before .before .before .before .before .before .before .before
-    .args .coords .now) (c .before .before .before .before .before .before .before .before .before .before .before .before .before .before .before .args .paths .now)) (startOf
-    (c .before .before .before .before .before .before .before .before .before .before .before .before .before .before .before .args .path-nos .now) (c .before .before .before
-    .before .before .before .before .before .before .before .before .before .before .before .before .args .coords .now) (c .before .before .before .before .before .before
-    .before .before .before .before .before .before .before .before .before .args .paths .now) (c .before .before .before .before .before .before .before .before .before
-    .before .before .before .before .before .before .args .tiles)) (take (c .before .before .before .before .before .before .before .before .before .before .before .before
-    .before .before .before .args .tiles) (c .before .before .before .before .before .before .before .before .before .before .before .before .before .before .before .args .work
-    .now)) (c .before .before .before .before .before .before .before .before .before .before .before .before .before .before .before .args .refs .now) (c .before .before
-    .before .before .before .before .before .before .before .before .before .before .before .before .before .args .work .now) (c .before .before .before .before .before .before
-    .before .before .note-refs .last .1 .1 .1 .1 .1 .0) (ownEnd (c .before .before .before .before .before .before .before .before .before .before .before .before .before
-    .before .before .args .tiles) (length (c .before .before .before .before .before .before .before .before .before .before .before .before .before .before .before .args
-    .path-nos .now))) (c .before .before .before .before .before .before .before .before .before .before .before .before .before .before .before .args .n) (c .before .before
-    .before .before .before .before .before .before .note-refs .result) (c .before .before .before .before .before .before .before .before .note-refs .ensures) in
-    let g : c .before .before .before .meeting .result ≤ c .before .before .before .before .before .before .before .before .note-refs .result = meet-most _ _ _ _ (c .before .before
-    .before .meeting .ensures .0) in (
+    let x = c .before .before .before .before .before .before .before .before .before .before .before .before .before .before .before .args in
+    let p = c .before .before .before .before .before .before .before .before .before .before .before .before .before .before .before .pre in
+    let f = c .before .before .before .before .before .before .before .before .note-refs in
+    let s = f .ensures in
+    let m : f .result ≤ x .n =
+    noted-most (madeOf (x .path-nos .now) (x .coords .now) (x .paths .now)) (startOf (x .path-nos .now) (x .coords .now) (x .paths .now) (x .tiles)) (take (x .tiles) (x .work .now))
+    (x .refs .now) (x .work .now) (f .last .1 .1 .1 .1 .1 .0) (ownEnd (x .tiles) (length (x .path-nos .now))) (x .n) (f .result) s in
+    let few = made-most (x .path-nos .now) (x .coords .now) (x .paths .now) (x .tiles) (x .made) (x .work .now) (p .0 .own) in
+    let e = c .before .before .before .meeting in
+    let g : e .result .first ≤ f .result = meet-most _ _ _ _ (e .ensures .0) in
+    let long = e .ensures .1 .same-length in (
       omega (arith, m, g),
-      omega (
-        arith,
-        c .before .before .before .meeting .ensures .1 .same-length,
-        c .before .before .before .before .before .before .before .before .note-refs .ensures .kept
-            .same-length,
-        c .before .before .before .before .before .before .before .before .before .before .before .before .before .before .before .pre .1,
-      ),
-      λ h. omega (
-        arith,
-        c .before .before .before .meeting .ensures .1 .same-length,
-        c .before .before .before .before .before .before .before .before .note-refs .ensures .kept
-            .same-length,
-        c .before .before .before .before .before .before .before .before .before .before .before .before .before .before .before .pre .2 (omega (arith, m, g)),
-      ),
+      omega (arith, long, s .kept .same-length, p .1),
+      (λ h. omega (arith, long, s .kept .same-length, p .1, m, g)),
+      omega (arith, m, g, few, p .5),
     )
 
 same-length : tie.Need-same-length
@@ -116,59 +85,54 @@ same-length c = search needs
 
 returns : tie.Need-returns
 returns c =
-    let ws1 = c .before .before .before .before .before .before .before .before .before .before .before .note-refs .last .1 .1 .1 .1 .1 .0 in
-    let ws2 = c .before .before .before .before .before .before .meeting .last .0 in
-    let a = (ownEnd (c .before .before .before .before .before .before .before .before .before .before .before .before .before .before .before .before .before .before .args .tiles)
-    (length (c .before .before .before .before .before .before .before .before .before .before .before .before .before .before .before .before .before .before .args .path-nos
-    .now))) in
-    let m : c .before .before .before .before .before .before .before .before .before .before .before .note-refs .result ≤ c .before .before .before .before .before .before .before
-    .before .before .before .before .before .before .before .before .before .before .before .args .n = noted-most (madeOf (c .before .before .before .before .before .before
-    .before .before .before .before .before .before .before .before .before .before .before .before .args .path-nos .now) (c .before .before .before .before .before .before
-    .before .before .before .before .before .before .before .before .before .before .before .before .args .coords .now) (c .before .before .before .before .before .before
-    .before .before .before .before .before .before .before .before .before .before .before .before .args .paths .now)) (startOf (c .before .before .before .before .before
-    .before .before .before .before .before .before .before .before .before .before .before .before .before .args .path-nos .now) (c .before .before .before .before .before
-    .before .before .before .before .before .before .before .before .before .before .before .before .before .args .coords .now) (c .before .before .before .before .before
-    .before .before .before .before .before .before .before .before .before .before .before .before .before .args .paths .now) (c .before .before .before .before .before
-    .before .before .before .before .before .before .before .before .before .before .before .before .before .args .tiles)) (take (c .before .before .before .before .before
-    .before .before .before .before .before .before .before .before .before .before .before .before .before .args .tiles) (c .before .before .before .before .before .before
-    .before .before .before .before .before .before .before .before .before .before .before .before .args .work .now)) (c .before .before .before .before .before .before
-    .before .before .before .before .before .before .before .before .before .before .before .before .args .refs .now) (c .before .before .before .before .before .before .before
-    .before .before .before .before .before .before .before .before .before .before .before .args .work .now) (c .before .before .before .before .before .before .before .before
-    .before .before .before .note-refs .last .1 .1 .1 .1 .1 .0) (ownEnd (c .before .before .before .before .before .before .before .before .before .before .before .before
-    .before .before .before .before .before .before .args .tiles) (length (c .before .before .before .before .before .before .before .before .before .before .before .before
-    .before .before .before .before .before .before .args .path-nos .now))) (c .before .before .before .before .before .before .before .before .before .before .before .before
-    .before .before .before .before .before .before .args .n) (c .before .before .before .before .before .before .before .before .before .before .before .note-refs .result) (c
-    .before .before .before .before .before .before .before .before .before .before .before .note-refs .ensures) in (
-      c .before .before .meeting2 .ensures .0
-          ∙ by-slices (c .before .before .before .before .before .before .before .before .before .before .before .before .before .before .before .before .before .before .args
-          .path-nos .now) (c .before .before .before .before .before .before .before .before .before .before .before .before .before .before .before .before .before .before
-          .args .coords .now) (c .before .before .before .before .before .before .before .before .before .before .before .before .before .before .before .before .before .before
-          .args .paths .now) (c .before .before .before .before .before .before .before .before .before .before .before .before .before .before .before .before .before .before
-          .args .tiles) (viewOf (c .before .before .before .before .before .before .before .before .before .before .before .before .before .before .before .before .before
-          .before .args .tiles) (c .before .before .before .before .before .before .before .before .before .before .before .before .before .before .before .before .before
-          .before .args .work .now) (c .before .before .before .before .before .before .before .before .before .before .before .before .before .before .before .before .before
-          .before .args .made)) (c .before .before .before .before .before .before .before .before .before .before .before .before .before .before .before .before .before
-          .before .pre .0 .own)
-          (take (c .before .before .before .before .before .before .before .before .before .before .before .before .before .before .before .before .before .before .args .tiles) (c
-          .before .before .before .before .before .before .before .before .before .before .before .before .before .before .before .before .before .before .args .work .now)) (c
-          .before .before .before .before .before .before .before .before .before .before .before .before .before .before .before .before .before .before .args .refs .now) (c
-          .before .before .before .before .before .before .before .before .before .before .before .before .before .before .before .before .before .before .args .n) (startsAt
-          ws1 a) (startsAt ws2 (a + c .before .before .before .before .before .before .before .before .before .before .before .before .before .before .before .before .before
-          .before .args .n)) (c .before .before .before .before .before .before .before .before .before .before .before .note-refs .result) (c .before .before .before .before
-          .before .before .before .before .before .before .before .note-refs .ensures .first-stray)
-          (λ j h. c .before .before .before .before .before .before .before .before .before .before .before .note-refs .ensures .noted .steps j h)
-          (λ j h. c .before .before .before .before .before .before .meeting .ensures .1 .kept (a + c .before .before .before .before .before .before .before .before .before
-          .before .before .before .before .before .before .before .before .before .args .n + j) (omega (arith, m)) ∙ c .before .before .before .before .before .before .before
-          .before .before .before .before .note-refs .ensures .noted .slices j h)
-          (c .before .before .before .before .before .before .meeting .result) (c .before .before .before .before .before .before .meeting .ensures .0),
-      kept-trans a (c .before .before .before .before .before .before .before .before .before .before .before .before .before .before .before .before .before .before .args .work
-          .now) ws1 (c .before .before .meeting2 .last .0) (c .before .before .before .before .before .before .before .before .before .before .before .note-refs .ensures .kept)
-          (kept-trans a ws1 ws2 (c .before .before .meeting2 .last .0) (kept-less (a + c .before .before .before .before .before .before .before .before .before .before .before
-          .before .before .before .before .before .before .before .args .n + c .before .before .before .before .before .before .before .before .before .before .before .before
-          .before .before .before .before .before .before .args .n) a ws1 ws2 (omega arith) (c .before .before .before .before .before .before .meeting .ensures .1))
-          (kept-less (a + c .before .before .before .before .before .before .before .before .before .before .before .before .before .before .before .before .before .before .args .n
-          + c .before .before .before .before .before .before .before .before .before .before .before .before .before .before .before .before .before .before .args .n) a ws2 (c
-          .before .before .meeting2 .last .0) (omega arith) (c .before .before .meeting2 .ensures .1))),
+    let x = c .before .before .before .before .before .before .before .before .before .before .before .before .before .before .before .before .before .before .args in
+    let p = c .before .before .before .before .before .before .before .before .before .before .before .before .before .before .before .before .before .before .pre in
+    let f = c .before .before .before .before .before .before .before .before .before .before .before .note-refs in
+    let s = f .ensures in
+    let e = c .before .before .before .before .before .before .meeting in
+    let d = c .before .before .meeting2 in
+    let ws1 = f .last .1 .1 .1 .1 .1 .0 in
+    let ws2 = e .last .0 in
+    let ws3 = d .last .0 in
+    let a = ownEnd (x .tiles) (length (x .path-nos .now)) in
+    let free = a + x .n + x .n in
+    let ours = take (x .tiles) (x .work .now) in
+    let our = madeOf (x .path-nos .now) (x .coords .now) (x .paths .now) in
+    let m : f .result ≤ x .n =
+    noted-most our (startOf (x .path-nos .now) (x .coords .now) (x .paths .now) (x .tiles)) ours (x .refs .now) (x .work .now) ws1 a (x .n) (f .result) s in
+    let g : e .result .first ≤ f .result = meet-most _ _ _ _ (e .ensures .0) in
+    let l1 = s .kept .same-length in
+    let l2 = e .ensures .1 .same-length in
+    let fine : (j : ℕ) → j < f .result → strayRef our ours (x .refs .now) j ≡ false = λ j h. first-missed (strayRef our ours (x .refs .now)) (x .n) j (omega (arith, s .first-stray)) in
+    let low1 : (j : ℕ) → j < f .result → startsAt ws1 a j < x .made =
+    λ j h. omega (
+      arith,
+      s .noted .steps j h,
+      step-below (x .path-nos .now) (x .coords .now) (x .paths .now) (x .tiles) (x .made) (x .work .now) (p .0 .own) (x .refs .now) j (fine j h),
+    ) in
+    let low2 : (j : ℕ) → j < e .result .first → startsAt ws2 (a + x .n) j < x .made =
+    λ j h. omega (
+      arith,
+      e .ensures .1 .kept (a + x .n + j) (omega (arith, m, g)),
+      s .noted .slices j (omega (arith, g)),
+      slice-below (x .path-nos .now) (x .coords .now) (x .paths .now) (x .tiles) (x .made) (x .work .now) (p .0 .own) (x .refs .now) j (fine j (omega (arith, g))),
+    ) in
+    let w1 =
+    search-few (startsAt ws1 a) (f .result) (x .n) (length ws1 - free) (e .result .passes) (e .result .ranges) (e .result .words) (x .made) (e .ensures .2) (e .ensures .4)
+    (e .ensures .3) low1 m (omega (arith, l1, p .1)) in
+    let w2 =
+    search-few (startsAt ws2 (a + x .n)) (e .result .first) (x .n) (length ws2 - free) (d .result .passes) (d .result .ranges) (d .result .words) (x .made) (d .ensures .2)
+    (d .ensures .4) (d .ensures .3) low2 (omega (arith, m, g)) (omega (arith, l1, l2, p .1)) in (
+      d .ensures .0
+          ∙ by-slices (x .path-nos .now) (x .coords .now) (x .paths .now) (x .tiles) (viewOf (x .tiles) (x .work .now) (x .made)) (p .0 .own) ours (x .refs .now) (x .n)
+          (startsAt ws1 a) (startsAt ws2 (a + x .n)) (f .result) (s .first-stray) (λ j h. s .noted .steps j h)
+          (λ j h. e .ensures .1 .kept (a + x .n + j) (omega (arith, m)) ∙ s .noted .slices j h) (e .result .first) (e .ensures .0),
+      kept-trans a (x .work .now) ws1 ws3 (s .kept)
+          (kept-trans a ws1 ws2 ws3 (kept-less free a ws1 ws2 (omega arith) (e .ensures .1)) (kept-less free a ws2 ws3 (omega arith) (d .ensures .1))),
+      w1 .0,
+      omega (arith, w1 .1, l1),
+      w2 .0,
+      omega (arith, w2 .1, l1, l2),
     )
 
 pub first-ref-spec : {M : Type 1} → statement M

@@ -61,7 +61,6 @@ first-ref-requires c κs =
           .before .before .before .before .before .before .before .before .before .before .before .pre .0) (c .before .before .before .before .before .before .before .before
           .before .before .before .before .before .pre .1) (c .before .before .before .before .sum-up .ensures .0) (c .before .before .before .before .sum-up .ensures .1),
       omega (arith, q .0, e, l, c .before .before .before .before .before .before .before .before .before .before .before .before .before .pre .6),
-      (λ h. omega (arith, q .0, e, l, c .before .before .before .before .before .before .before .before .before .before .before .before .before .pre .6)),
       c .before .before .before .before .before .before .before .before .before .before .before .before .before .pre .2,
       c .before .before .before .before .before .before .before .before .before .before .before .before .before .pre .3,
       omega (arith, q .0, e),
@@ -69,7 +68,7 @@ first-ref-requires c κs =
     )
 
 -- the first reference at fault of those looked at, beside the room as it was
-found : (c : tie.After-first-ref) → c .first-ref .result ≡ firstOf (refFault (madeOf (c .before .before .before .before .before .before .before .before .before .before .before
+found : (c : tie.After-first-ref) → c .first-ref .result .first ≡ firstOf (refFault (madeOf (c .before .before .before .before .before .before .before .before .before .before .before
     .before .before .before .args .path-nos .now) (c .before .before .before .before .before .before .before .before .before .before .before .before .before .before .args .coords
     .now) (c .before .before .before .before .before .before .before .before .before .before .before .before .before .before .args .paths .now))
     (take (length (c .before .before .before .before .before .before .before .before .before .before .before .before .before .before .args .counts .now)) (c .before .before .before
@@ -94,8 +93,8 @@ found c =
     .before .before .before .args .work .now)) (c .before .before .before .before .before .before .before .before .before .before .before .before .before .before .args .refs
     .now))) (c .before .before .refs-in .ensures)
 
-cast-t24 : tie.Need-cast-t24
-cast-t24 c = let q = looked-most (length (c .before .before .before .before .before .before .before .before .before .before .before .before .before .before .before .before .before
+cast-t25 : tie.Need-cast-t25
+cast-t25 c = let q = looked-most (length (c .before .before .before .before .before .before .before .before .before .before .before .before .before .before .before .before .before
     .args .refs .now) / refWords) (c .before .before .before .before .before .before .before .before .before .before .before .before .before .before .before .before .before .args
     .made) in omega (arith, q .1, c .before .before .before .before .before .refs-in .ensures, c .if1 .taken)
 
@@ -118,7 +117,7 @@ returns c =
     (c .before .before .before .before .before .before .before .before .before .before .before .before .before .before .before .before .before .args .counts .now) (c .before
     .before .before .before .before .before .before .before .before .before .before .before .before .before .before .before .before .args .backs .now) (c .before .before
     .before .before .before .before .before .before .before .before .before .before .before .before .before .before .before .args .stored .now) (c .before .before .before
-    .before .before .before .before .before .before .before .before .before .before .before .before .before .before .args .room) (c .before .before .before .first-ref .result)
+    .before .before .before .before .before .before .before .before .before .before .before .before .before .before .args .room) (c .before .before .before .first-ref .result .first)
     (found-first (c .before .before .before .before .before .before .before .before .before .before .before .before .before .before .before .before .before .args .path-nos .now) (c
     .before .before .before .before .before .before .before .before .before .before .before .before .before .before .before .before .before .args .coords .now) (c .before
     .before .before .before .before .before .before .before .before .before .before .before .before .before .before .before .before .args .paths .now) (length (c .before
@@ -127,7 +126,7 @@ returns c =
     .before .before .before .before .before .before .before .before .before .before .before .before .before .args .work .now) (c .before .before .before .before .before .before
     .before .before .before .before .before .before .before .before .before .before .before .pre .0) (c .before .before .before .before .before .before .before .before .before
     .before .before .before .before .before .before .before .before .args .refs .now) (length (c .before .before .before .before .before .before .before .before .before .before
-    .before .before .before .before .before .before .before .args .refs .now) / refWords) (c .before .before .before .first-ref .result) f (omega (
+    .before .before .before .before .before .before .before .args .refs .now) / refWords) (c .before .before .before .first-ref .result .first) f (omega (
       arith,
       c .before .before
           .before .before .before .refs-in .ensures,
@@ -162,7 +161,7 @@ returns-2 c =
     let f = found (c .before .before .before .before .before .before .before) in
     let h : lookedAt (length (c .before .before .before .before .before .before .before .before .before .before .before .before .before .before .before .before .before .before
     .before .before .before .args .refs .now) / refWords) (c .before .before .before .before .before .before .before .before .before .before .before .before .before .before
-    .before .before .before .before .before .before .before .args .made) ≤ c .before .before .before .before .before .before .before .first-ref .result = omega (
+    .before .before .before .before .before .before .before .args .made) ≤ c .before .before .before .before .before .before .before .first-ref .result .first = omega (
       arith,
       c
           .before .before .before .before .before .before .before .before .before .refs-in .ensures,
@@ -195,7 +194,7 @@ returns-2 c =
     .counts .now) (c .before .before .before .before .before .before .before .before .before .before .before .before .before .before .before .before .before .before .before
     .before .before .args .backs .now) (c .before .before .before .before .before .before .before .before .before .before .before .before .before .before .before .before
     .before .before .before .before .before .args .stored .now) (c .before .before .before .before .before .before .before .before .before .before .before .before .before
-    .before .before .before .before .before .before .before .before .args .room) (c .before .before .before .before .before .before .before .first-ref .result)
+    .before .before .before .before .before .before .before .before .args .room) (c .before .before .before .before .before .before .before .first-ref .result .first)
     (none-found (c .before .before .before .before .before .before .before .before .before .before .before .before .before .before .before .before .before .before .before .before
     .before .args .path-nos .now) (c .before .before .before .before .before .before .before .before .before .before .before .before .before .before .before .before .before
     .before .before .before .before .args .coords .now) (c .before .before .before .before .before .before .before .before .before .before .before .before .before .before
@@ -206,7 +205,7 @@ returns-2 c =
     .before .before .before .before .before .before .before .before .before .before .before .before .before .before .before .before .before .before .pre .0) (c .before .before
     .before .before .before .before .before .before .before .before .before .before .before .before .before .before .before .before .before .before .before .args .refs .now)
     (length (c .before .before .before .before .before .before .before .before .before .before .before .before .before .before .before .before .before .before .before .before
-    .before .args .refs .now) / refWords) (c .before .before .before .before .before .before .before .first-ref .result) f h) (none-past (c .before .before .before .before
+    .before .args .refs .now) / refWords) (c .before .before .before .before .before .before .before .first-ref .result .first) f h) (none-past (c .before .before .before .before
     .before .before .before .before .before .before .before .before .before .before .before .before .before .before .before .before .before .args .path-nos .now) (c .before
     .before .before .before .before .before .before .before .before .before .before .before .before .before .before .before .before .before .before .before .before .args
     .coords .now) (c .before .before .before .before .before .before .before .before .before .before .before .before .before .before .before .before .before .before .before
@@ -217,7 +216,7 @@ returns-2 c =
     .before .before .before .before .before .before .before .before .before .before .before .before .before .pre .0) (c .before .before .before .before .before .before .before
     .before .before .before .before .before .before .before .before .before .before .before .before .before .before .args .refs .now) (length (c .before .before .before .before
     .before .before .before .before .before .before .before .before .before .before .before .before .before .before .before .before .before .args .refs .now) / refWords) (c
-    .before .before .before .before .before .before .before .first-ref .result) f h)
+    .before .before .before .before .before .before .before .first-ref .result .first) f h)
 
 pub look-spec : {M : Type 1} → statement M
 look-spec =
@@ -228,7 +227,7 @@ look-spec =
     sum-up-requires
     refs-in-requires
     first-ref-requires
-    cast-t24
+    cast-t25
     same-length
     returns
     look-past-requires

@@ -21,8 +21,8 @@ use Rattle.tile_check.proofs.tables.slots_in.Reads as slots-in-reads
 first-count-requires : tie.Need-first-count-requires
 first-count-requires c κs = search needs
 
-cast-t15 : tie.Need-cast-t15
-cast-t15 c = search needs
+cast-t16 : tie.Need-cast-t16
+cast-t16 c = search needs
 
 same-length : tie.Need-same-length
 same-length c = search needs
@@ -38,8 +38,8 @@ returns c = rest-count (viewOf (length (c .before .before .before .before .befor
 first-back-requires : tie.Need-first-back-requires
 first-back-requires c κs = search needs
 
-cast-t18 : tie.Need-cast-t18
-cast-t18 c = search needs
+cast-t19 : tie.Need-cast-t19
+cast-t19 c = search needs
 
 same-length-2 : tie.Need-same-length-2
 same-length-2 c = search needs
@@ -61,10 +61,12 @@ slots-in-requires : tie.Need-slots-in-requires
 slots-in-requires c κs = search needs
 
 first-slots-requires : tie.Need-first-slots-requires
-first-slots-requires c κs = search needs
+first-slots-requires c κs =
+    let p = c .before .before .before .before .before .before .before .before .before .before .before .pre in
+    (omega arith, omega (arith, p .3), omega (arith, p .2), p .1)
 
-cast-t22 : tie.Need-cast-t22
-cast-t22 c = search needs
+cast-t23 : tie.Need-cast-t23
+cast-t23 c = search needs
 
 same-length-3 : tie.Need-same-length-3
 same-length-3 c = search needs
@@ -91,12 +93,12 @@ returns-3 c = rest-slots (viewOf (length (c .before .before .before .before .bef
           .before .before .before .before .before .if2 .left,
       c .before .before .before .before .before .before .before .before .before .before .before .before .before .before .before
           .pre .0,
-    )) (c .before .before .before .first-slots .result) (c .before .before .before .first-slots .ensures .0 ∙ ap (λ (k : ℕ). firstSlotFault k (c .before .before .before
+    )) (c .before .before .before .first-slots .result .first) (c .before .before .before .first-slots .ensures .0 ∙ ap (λ (k : ℕ). firstSlotFault k (c .before .before .before
     .before .before .before .before .before .before .before .before .before .before .before .before .args .counts .now) (c .before .before .before .before .before .before .before
     .before .before .before .before .before .before .before .before .args .stored .now)) (c .before .before .before .before .before .slots-in .ensures)) (c .if3 .taken)
 
-cast-t24 : tie.Need-cast-t24
-cast-t24 c = search needs
+cast-t25 : tie.Need-cast-t25
+cast-t25 c = search needs
 
 same-length-4 : tie.Need-same-length-4
 same-length-4 c = search needs
@@ -124,7 +126,7 @@ returns-4 c = rest-missing (viewOf (length (c .before .before .before .before .b
           .before .before .before .before .before .if2 .left,
       c .before .before .before .before .before .before .before .before .before .before .before .before .before .before .before
           .before .pre .0,
-    )) (c .before .before .before .before .first-slots .result) (c .before .before .before .before .first-slots .ensures .0 ∙ ap (λ (k : ℕ). firstSlotFault k (c
+    )) (c .before .before .before .before .first-slots .result .first) (c .before .before .before .before .first-slots .ensures .0 ∙ ap (λ (k : ℕ). firstSlotFault k (c
     .before .before .before .before .before .before .before .before .before .before .before .before .before .before .before .before .args .counts .now) (c .before .before .before
     .before .before .before .before .before .before .before .before .before .before .before .before .before .args .stored .now)) (c .before .before .before .before .before .before
     .slots-in .ensures)) (c .before .if3 .left) (omega (
@@ -162,7 +164,7 @@ returns-5 c = rest-yes (viewOf (length (c .before .before .before .before .befor
           .before .before .before .before .before .if2 .left,
       c .before .before .before .before .before .before .before .before .before .before .before .before .before .before .before
           .before .pre .0,
-    )) (c .before .before .before .before .first-slots .result) (c .before .before .before .before .first-slots .ensures .0 ∙ ap (λ (k : ℕ). firstSlotFault k (c
+    )) (c .before .before .before .before .first-slots .result .first) (c .before .before .before .before .first-slots .ensures .0 ∙ ap (λ (k : ℕ). firstSlotFault k (c
     .before .before .before .before .before .before .before .before .before .before .before .before .before .before .before .before .args .counts .now) (c .before .before .before
     .before .before .before .before .before .before .before .before .before .before .before .before .before .args .stored .now)) (c .before .before .before .before .before .before
     .slots-in .ensures)) (c .before .if3 .left) (omega (
@@ -179,19 +181,19 @@ look-past-spec =
     tie.close
     (tie.spec
     first-count-requires
-    cast-t15
+    cast-t16
     same-length
     returns
     first-back-requires
-    cast-t18
+    cast-t19
     same-length-2
     returns-2
     slots-in-requires
     first-slots-requires
-    cast-t22
+    cast-t23
     same-length-3
     returns-3
-    cast-t24
+    cast-t25
     same-length-4
     returns-4
     same-length-5
