@@ -16,8 +16,12 @@ use Rattle.colours.specs.Colour.{packOf}
 use Rattle.colours.specs.Layer.{spread, meant}
 use Rattle.colours.proofs.FlatLaws.{of-first, of-own}
 use Rattle.commands.specs.Alike.{sameColour}
-use Rattle.fine.specs.Screen.{rowAt, placeOf, fromList, allFlat, oneWord, OneWord}
+use Rattle.fine.specs.Screen.{rowAt, placeOf, fromList, clear, noColour, allFlat, oneWord, OneWord}
 use Rattle.fine.proofs.Places.{place-in-row}
+
+pub no-colour-length : length noColour ≡ tileSize
+unfolding noColour
+no-colour-length = length-replicate tileSize clear
 
 -- ---- how they start
 -- the rows above y have their first pixel
@@ -39,10 +43,10 @@ unfolding meant allFlat sameColour
 all-started rgba px y n h s =
     sym (mapi-is (spread allFlat rgba) rgba (sameColour px) [] [] (length-replicate tileSize px ∙ sym n)
     (λ k i.
-      let j : k < tileSize = subst (λ (z : ℕ). k < z) n i in
-      let r : k / tileWidth < tileHeight = omega (arith, j) in
-      getD-replicate tileSize k px [] j
-      ∙ sym (of-first allFlat rgba (k / tileWidth) k (getD rgba k []) refl (getD-replicate tileHeight (k / tileWidth) true false r) ∙ s (k / tileWidth) (omega (arith, r, h)))))
+    let j : k < tileSize = subst (λ (z : ℕ). k < z) n i in
+    let r : k / tileWidth < tileHeight = omega (arith, j) in
+    getD-replicate tileSize k px [] j
+    ∙ sym (of-first allFlat rgba (k / tileWidth) k (getD rgba k []) refl (getD-replicate tileHeight (k / tileWidth) true false r) ∙ s (k / tileWidth) (omega (arith, r, h)))))
 
 -- ---- how they are packed
 -- one word for all of the row
