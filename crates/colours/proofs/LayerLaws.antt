@@ -39,7 +39,7 @@ module _ (f : ℕ → List Float → List Float) where
       subst (λ (b : ℕ). Done f 0 b l₀ m) n (turned-to f [] 0 (rowStart y) (rowEnd y) l₀ l m (omega arith) (omega arith) done e)
 
 -- ---- what is added, and the pixel after that
-over-mix : (fg : List Float) (ai : Float) (px : List Float) → mixOf (shareOf fg ai) px ≡ overOf fg ai px
+pub over-mix : (fg : List Float) (ai : Float) (px : List Float) → mixOf (shareOf fg ai) px ≡ overOf fg ai px
 unfolding overOf mixOf shareOf
 over-mix fg ai px = refl
 

@@ -3,3 +3,4 @@ pub mod ByShift
 pub mod Traces
 pub mod SameByte
 pub mod LayerLaws
+pub mod FlatLaws

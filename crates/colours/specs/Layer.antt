@@ -1,13 +1,14 @@
 -- A colour over a tile's pixels, row by row: what the functions of src/layer.rt tell each other; no promise leans on it. Definitions only.
 use mathlib.Core.Path.{_≡_}
-use mathlib.Core.Bool.{false}
+use mathlib.Core.Bool.{Bool, false, cond}
 use mathlib.Core.List.{List, [], _∷_}
-use Prim.Native.Nat.{ℕ, _+_, _<_}
+use Prim.Native.Nat.{ℕ, _+_, _/_, _<_}
 use lib.ListN.{getD}
 use lib.Ieee.{Float, nan, binary32, add, sub, mul}
 use Rattle.float32.specs.Meaning.{signOf}
 use Rattle.util.specs.Constants.{one}
-use Rattle.coverage.specs.Tile.{tileWidth}
+use Rattle.coverage.specs.Tile.{tileWidth, rowStart}
+use Rattle.lists.specs.Grid.{mapi}
 use Rattle.colours.specs.Colour.{overOf}
 
 -- `overOf` in two steps: what the colour fg adds where it covers the part ai, and the pixel px after that
@@ -29,6 +30,18 @@ mixed more k px = mixOf more px
 
 abbrev pub each : List Float → List Float → ℕ → List Float → List Float
 each area fg k px = overOf fg (getD area k nan) px
+
+-- the colour over `one`, whatever stood there
+abbrev pub onto : List Float → List Float → List Float → ℕ → List Float → List Float
+onto area fg one k px = overOf fg (getD area k nan) one
+
+-- Of a flat row the first pixel stands for all 16, and the others hold what they hold. A tile's colours as they are meant, with a flag for each row: the
+-- list has them so where no row is flat
+abbrev pub spread : List Bool → List (List Float) → ℕ → List Float → List Float
+spread flat rgba k px = cond (getD flat (k / tileWidth) false) (getD rgba (rowStart (k / tileWidth)) []) px
+
+unfoldable pub meant : List Bool → List (List Float) → List (List Float)
+meant flat rgba = mapi (spread flat rgba) rgba
 
 -- no area has a minus sign, so that `==` tells two areas apart: what a fill ends as is a size, and the others are 0 and 1
 abbrev pub NoMinus : List Float → Type 0

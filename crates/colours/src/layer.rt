@@ -11,9 +11,9 @@ ghost use lib.ListN.{length, getD};
 ghost use lib.Ieee.{nan};
 ghost use Rattle.float32.specs.Meaning.{signOf};
 ghost use Rattle.lists.specs.Grid.{mapi, within};
-ghost use Rattle.coverage.specs.Tile.{tileWidth, tileSize};
+ghost use Rattle.coverage.specs.Tile.{tileWidth, tileHeight, tileSize, rowStart, rowEnd};
 ghost use Rattle.colours.specs.Colour.{compositeOf};
-ghost use Rattle.colours.specs.Layer.{shareOf, mixOf, mixed, each, NoMinus, Level};
+ghost use Rattle.colours.specs.Layer.{shareOf, mixOf, mixed, each, onto, meant, NoMinus, Level};
 
 // What is added to a pixel of which the colour fg covers the part ai.
 pub fn share(fg: [f32; 4], ai: f32) -> [f32; 4]
@@ -126,6 +126,72 @@ pub fn all_level(area: &[f32], i: usize) -> bool
         & four_level(area, i + 12, v)
 }
 
+// The colour fg over `one`, put down as pixel i, by its area.
+pub fn lay_on(rgba: &mut [[f32; 4]; TILE_SIZE], i: usize, one: [f32; 4], fg: [f32; 4], area: &[f32])
+    requires { ⌜ (i < tileSize) × (length (now area) ≡ tileSize) ⌝ }
+    ensures { λ _. ⌜ now (rgba .exit) ≡ mapi (within i (i + 1) (onto (now (area .entry)) fg one)) (now (rgba .entry)) ⌝ }
+{
+    let next = mix(one, share(fg, area[i]));
+    rgba[i] = next;
+}
+
+// As four pixels from i on.
+pub fn lay_on_four(
+    rgba: &mut [[f32; 4]; TILE_SIZE],
+    i: usize,
+    one: [f32; 4],
+    fg: [f32; 4],
+    area: &[f32],
+)
+    requires { ⌜ (i + 4 ≤ tileSize) × (length (now area) ≡ tileSize) ⌝ }
+    ensures { λ _. ⌜ now (rgba .exit) ≡ mapi (within i (i + 4) (onto (now (area .entry)) fg one)) (now (rgba .entry)) ⌝ }
+{
+    lay_on(rgba, i, one, fg, area);
+    lay_on(rgba, i + 1, one, fg, area);
+    lay_on(rgba, i + 2, one, fg, area);
+    lay_on(rgba, i + 3, one, fg, area);
+}
+
+// As a row of pixels from i on.
+pub fn lay_on_row(
+    rgba: &mut [[f32; 4]; TILE_SIZE],
+    i: usize,
+    one: [f32; 4],
+    fg: [f32; 4],
+    area: &[f32],
+)
+    requires { ⌜ (i + tileWidth ≤ tileSize) × (length (now area) ≡ tileSize) ⌝ }
+    ensures { λ _. ⌜ now (rgba .exit) ≡ mapi (within i (i + tileWidth) (onto (now (area .entry)) fg one)) (now (rgba .entry)) ⌝ }
+{
+    lay_on_four(rgba, i, one, fg, area);
+    lay_on_four(rgba, i + 4, one, fg, area);
+    lay_on_four(rgba, i + 8, one, fg, area);
+    lay_on_four(rgba, i + 12, one, fg, area);
+}
+
+// The colour over row y, which is flat: its first pixel stands for all. It stays flat where its areas are all
+// the same.
+pub fn over_flat(
+    rgba: &mut [[f32; 4]; TILE_SIZE],
+    flat: &mut [bool; TILE_HEIGHT],
+    y: usize,
+    fg: [f32; 4],
+    area: &[f32],
+)
+    requires { ⌜ (y < tileHeight) × (length (now rgba) ≡ tileSize) × (length (now area) ≡ tileSize) × NoMinus (now area) × (getD (now flat) y false ≡ true) ⌝ }
+    ensures { λ _. ⌜ (length (now (rgba .exit)) ≡ tileSize)
+        × (meant (now (flat .exit)) (now (rgba .exit)) ≡ mapi (within (rowStart y) (rowEnd y) (each (now (area .entry)) fg)) (meant (now (flat .entry)) (now (rgba .entry)))) ⌝ }
+{
+    let i = TILE_WIDTH * y;
+    if all_level(area, i) {
+        add(rgba, i, share(fg, area[i]))
+    } else {
+        let one = rgba[i];
+        flat[y] = false;
+        lay_on_row(rgba, i, one, fg, area)
+    }
+}
+
 // The colour over a row of pixels from i on.
 pub fn over_row(rgba: &mut [[f32; 4]; TILE_SIZE], i: usize, fg: [f32; 4], area: &[f32])
     requires { ⌜ (i + tileWidth ≤ tileSize) × (length (now area) ≡ tileSize) × NoMinus (now area) ⌝ }
@@ -138,14 +204,39 @@ pub fn over_row(rgba: &mut [[f32; 4]; TILE_SIZE], i: usize, fg: [f32; 4], area: 
     }
 }
 
-// The colour over each of a tile's pixels, by its coverage.
-pub fn composite(rgba: &mut [[f32; 4]; TILE_SIZE], area: &[f32], fg: [f32; 4])
+// The colour over row y, flat or not.
+pub fn over_any(
+    rgba: &mut [[f32; 4]; TILE_SIZE],
+    flat: &mut [bool; TILE_HEIGHT],
+    y: usize,
+    fg: [f32; 4],
+    area: &[f32],
+)
+    requires { ⌜ (y < tileHeight) × (length (now rgba) ≡ tileSize) × (length (now area) ≡ tileSize) × NoMinus (now area) ⌝ }
+    ensures { λ _. ⌜ (length (now (rgba .exit)) ≡ tileSize)
+        × (meant (now (flat .exit)) (now (rgba .exit)) ≡ mapi (within (rowStart y) (rowEnd y) (each (now (area .entry)) fg)) (meant (now (flat .entry)) (now (rgba .entry)))) ⌝ }
+{
+    if flat[y] {
+        over_flat(rgba, flat, y, fg, area)
+    } else {
+        over_row(rgba, TILE_WIDTH * y, fg, area)
+    }
+}
+
+// The colour over each of a tile's pixels, by its coverage. Of a flat row the first pixel stands for all.
+pub fn composite(
+    rgba: &mut [[f32; 4]; TILE_SIZE],
+    flat: &mut [bool; TILE_HEIGHT],
+    area: &[f32],
+    fg: [f32; 4],
+)
     requires { ⌜ (length (now rgba) ≡ tileSize) × (length (now area) ≡ tileSize) × NoMinus (now area) ⌝ }
-    ensures { λ _. ⌜ now (rgba .exit) ≡ compositeOf (now (area .entry)) fg (now (rgba .entry)) ⌝ }
+    ensures { λ _. ⌜ (length (now (rgba .exit)) ≡ tileSize)
+        × (meant (now (flat .exit)) (now (rgba .exit)) ≡ compositeOf (now (area .entry)) fg (meant (now (flat .entry)) (now (rgba .entry)))) ⌝ }
 {
     let mut y = 0usize;
     while y < TILE_HEIGHT {
-        over_row(rgba, TILE_WIDTH * y, fg, area);
+        over_any(rgba, flat, y, fg, area);
         y += 1;
     }
 }

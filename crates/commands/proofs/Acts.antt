@@ -40,10 +40,6 @@ pub length-cover : (a : Act) (segs area : List Float) → length (coverAll a seg
 unfolding coverAll
 length-cover a segs area = length-mapi (cover a segs) area
 
-pub length-paint : (a : Act) (area : List Float) (rgba : List (List Float)) → length (paintAll a area rgba) ≡ length rgba
-unfolding paintAll
-length-paint a area rgba = length-mapi (λ k colour. paint a (getD area k nan) colour) rgba
-
 -- ---- what the code's steps leave is what the command says
 module _ (segs area : List Float) (rgba : List (List Float)) where
   pub by-fill : (rule first backdrop : ℕ) (z : ℤ) (area′ : List Float) → length area ≡ tileSize → z ≡ signedOf backdrop

@@ -9,6 +9,7 @@ use colours::layer::composite;
 use colours::over;
 use coverage::area::fill_path;
 use coverage::area::set_all;
+use coverage::tile::TILE_HEIGHT;
 use coverage::tile::TILE_SIZE;
 use panel::kinds::Verdict;
 use panel::limits::MOST_COMMANDS;
@@ -24,7 +25,7 @@ ghost use Rattle.float32.specs.Meaning.{signOf};
 ghost use Rattle.util.specs.Constants.{zero};
 ghost use Rattle.panel.specs.Limits.{mostCommands};
 ghost use Rattle.coverage.specs.Tile.{tileSize};
-ghost use Rattle.colours.specs.Layer.{NoMinus};
+ghost use Rattle.colours.specs.Layer.{meant, NoMinus};
 ghost use Rattle.commands.specs.Moves.{traceOf};
 ghost use Rattle.commands.specs.Pixel.{signedOf, Within, paint, coverAll, paintAll, ran};
 ghost use Rattle.commands.specs.Alike.{alike, coverOne, sameArea, sameColour, runFrom, endsHere};
@@ -49,9 +50,16 @@ pub fn same_area(a: f32) -> [f32; TILE_SIZE]
 
 // What one command does to the areas and the colours. fine.rs passes the tile's origin on the screen
 // to fill_path; segments are tile-relative, so here it is 0, 0.
-pub fn carry_out(act: Act, segments: &[f32], area: &mut [f32], rgba: &mut [[f32; 4]; TILE_SIZE])
+pub fn carry_out(
+    act: Act,
+    segments: &[f32],
+    area: &mut [f32],
+    rgba: &mut [[f32; 4]; TILE_SIZE],
+    flat: &mut [bool; TILE_HEIGHT],
+)
     requires { ⌜ (Within act (length (now segments))) × (length (now area) ≡ tileSize) × (length (now rgba) ≡ tileSize) × NoMinus (now area) ⌝ }
-    ensures { λ _. ⌜ (now (area .exit) ≡ coverAll act (now (segments .entry)) (now (area .entry))) × (now (rgba .exit) ≡ paintAll act (now (area .entry)) (now (rgba .entry))) ⌝ }
+    ensures { λ _. ⌜ (now (area .exit) ≡ coverAll act (now (segments .entry)) (now (area .entry))) × (length (now (rgba .exit)) ≡ tileSize)
+        × (meant (now (flat .exit)) (now (rgba .exit)) ≡ paintAll act (now (area .entry)) (meant (now (flat .entry)) (now (rgba .entry)))) ⌝ }
 {
     match act {
         Act::Fill(rule, first, backdrop) => {
@@ -61,7 +69,7 @@ pub fn carry_out(act: Act, segments: &[f32], area: &mut [f32], rgba: &mut [[f32;
             fill_path(area, segments, first as usize, n, even_odd, b, 0.0, 0.0)
         }
         Act::Solid => set_all(area, 1.0),
-        Act::Color(word) => composite(rgba, area, colour(word)),
+        Act::Color(word) => composite(rgba, flat, area, colour(word)),
         Act::Jump => {}
     }
 }
@@ -165,9 +173,12 @@ pub fn run(
     gone: u32,
     a: f32,
     rgba: &mut [[f32; 4]; TILE_SIZE],
+    flat: &mut [bool; TILE_HEIGHT],
 ) -> Verdict
     requires { ⌜ (length (now rgba) ≡ tileSize) × (gone ≤ mostCommands) × (signOf a ≡ false) ⌝ }
-    ensures { λ r. ⌜ ran r (now (rgba .exit)) ≡ runFrom (now (segments .entry)) (traceOf (mostCommands - gone) (now (words .entry)) (now (segments .entry)) start) a (now (rgba .entry)) ⌝ }
+    ensures { λ r. ⌜ (length (now (rgba .exit)) ≡ tileSize)
+        × (ran r (meant (now (flat .exit)) (now (rgba .exit)))
+        ≡ runFrom (now (segments .entry)) (traceOf (mostCommands - gone) (now (words .entry)) (now (segments .entry)) start) a (meant (now (flat .entry)) (now (rgba .entry)))) ⌝ }
 {
     let mut area = same_area(a);
     let mut at = start;
@@ -187,7 +198,7 @@ pub fn run(
                 return Verdict::Against(no);
             }
             Move::Goes(act, next) => {
-                carry_out(act, segments, &mut area, rgba);
+                carry_out(act, segments, &mut area, rgba, flat);
                 at = next;
             }
         }

@@ -1,4 +1,5 @@
 pub mod Places
+pub mod Flats
 pub mod Openings
 pub mod Ranges
 pub mod Screens

@@ -1,6 +1,6 @@
 -- A screen tile, pixel by pixel. Definitions only.
 use mathlib.Core.Path.{_≡_}
-use mathlib.Core.Bool.{Bool, cond, _&&_}
+use mathlib.Core.Bool.{Bool, true, cond, _&&_}
 use mathlib.Core.List.{List, []}
 use Prim.Native.Nat.{ℕ, _+_, _*_, _/_, _%_, _<_}
 use lib.Dec.{eqb}
@@ -49,6 +49,10 @@ oneWord word p old = word
 -- one word stands for all pixels of a row, from the first on: what the functions of a row tell each other, no promise leans on it
 abbrev pub OneWord : List (List Float) → ℕ → Type 0
 OneWord rgba first = (x : ℕ) → x < tileWidth → packOf (getD rgba (first + x) []) ≡ packOf (getD rgba first [])
+
+-- a flag for each row, all true: each row is flat (`meant` of colours, specs/Layer.antt). What the functions of a tile tell each other, no promise leans on it
+unfoldable pub allFlat : List Bool
+allFlat = replicate tileHeight true
 
 -- ---- what its commands make of it
 

@@ -20,15 +20,36 @@ ghost use Rattle.lists.specs.Grid.{mapi, within};
 ghost use Rattle.lists.specs.Sums as Numbers;
 ghost use Rattle.panel.specs.Limits.{mostTiles};
 ghost use Rattle.coverage.specs.Tile.{tileWidth, tileHeight, tileSize};
+ghost use Rattle.colours.specs.Layer.{meant};
 ghost use Rattle.commands.specs.Alike.{sameColour};
-ghost use Rattle.fine.specs.Screen.{oneWord, OneWord, rowAt, fromList, putTile, endsAt, tilePixels};
+ghost use Rattle.fine.specs.Screen.{noColour, allFlat, oneWord, OneWord, rowAt, fromList, putTile, endsAt, tilePixels};
 ghost use Rattle.fine.specs.Fine.{shown, tilesOf, shownOf};
 
-// A tile's colours, all the same.
-pub fn same_colour(px: [f32; 4]) -> [[f32; 4]; TILE_SIZE]
-    ensures { λ r. ⌜ r ≡ sameColour px ⌝ }
+// A flag for each row: all are flat.
+pub fn all_flat() -> [bool; TILE_HEIGHT]
+    ensures { λ r. ⌜ r ≡ allFlat ⌝ }
 {
-    [px; TILE_SIZE]
+    [true; TILE_HEIGHT]
+}
+
+// Room for a tile's colours.
+pub fn no_colour() -> [[f32; 4]; TILE_SIZE]
+    ensures { λ r. ⌜ r ≡ noColour ⌝ }
+{
+    [[0.0f32; 4]; TILE_SIZE]
+}
+
+// One colour for all: the first pixel of each row has it, and every row is flat.
+pub fn start_rows(rgba: &mut [[f32; 4]; TILE_SIZE], px: [f32; 4])
+    requires { ⌜ length (now rgba) ≡ tileSize ⌝ }
+    ensures { λ _. ⌜ (length (now (rgba .exit)) ≡ tileSize) × (meant allFlat (now (rgba .exit)) ≡ sameColour px) ⌝ }
+{
+    let mut y = 0usize;
+    while y < TILE_HEIGHT {
+        let at = TILE_WIDTH * y;
+        rgba[at] = px;
+        y += 1;
+    }
 }
 
 // Row y of the tile, one word in each pixel.
@@ -91,6 +112,28 @@ pub fn put_row(
     }
 }
 
+// Row y of the tile, flat or not. Of a flat row the first pixel stands for all.
+pub fn put_any(
+    pixels: &mut [u32],
+    width: usize,
+    tx: usize,
+    ty: usize,
+    y: usize,
+    rgba: &[[f32; 4]; TILE_SIZE],
+    flat: &[bool; TILE_HEIGHT],
+)
+    requires { ⌜ (tx < mostTiles) × (ty < mostTiles) × (y < tileHeight) × (tileWidth * tx + tileWidth ≤ width) × (rowAt width tx ty y + tileWidth ≤ length (now pixels))
+        × (length (now rgba) ≡ tileSize) ⌝ }
+    ensures { λ _. ⌜ now (pixels .exit)
+        ≡ mapi (within (rowAt width tx ty y) (rowAt width tx ty y + tileWidth) (fromList (meant (now (flat .entry)) (now (rgba .entry))) width)) (now (pixels .entry)) ⌝ }
+{
+    if flat[y] {
+        fill_row(pixels, width, tx, ty, y, pack(rgba[TILE_WIDTH * y]))
+    } else {
+        put_row(pixels, width, tx, ty, y, rgba)
+    }
+}
+
 // All rows of the tile.
 pub fn put_tile(
     pixels: &mut [u32],
@@ -98,13 +141,14 @@ pub fn put_tile(
     tx: usize,
     ty: usize,
     rgba: &[[f32; 4]; TILE_SIZE],
+    flat: &[bool; TILE_HEIGHT],
 )
-    requires { ⌜ (tx < mostTiles) × (ty < mostTiles) × (tileWidth * tx + tileWidth ≤ width) × (width * (tileHeight * ty + tileHeight) ≤ length (now pixels)) ⌝ }
-    ensures { λ _. ⌜ now (pixels .exit) ≡ putTile (fromList (now (rgba .entry)) width) width tx ty (now (pixels .entry)) ⌝ }
+    requires { ⌜ (tx < mostTiles) × (ty < mostTiles) × (tileWidth * tx + tileWidth ≤ width) × (width * (tileHeight * ty + tileHeight) ≤ length (now pixels)) × (length (now rgba) ≡ tileSize) ⌝ }
+    ensures { λ _. ⌜ now (pixels .exit) ≡ putTile (fromList (meant (now (flat .entry)) (now (rgba .entry))) width) width tx ty (now (pixels .entry)) ⌝ }
 {
     let mut y = 0usize;
     while y < TILE_HEIGHT {
-        put_row(pixels, width, tx, ty, y, rgba);
+        put_any(pixels, width, tx, ty, y, rgba, flat);
         y += 1;
     }
 }
@@ -122,7 +166,8 @@ pub fn fill_tile(pixels: &mut [u32], width: usize, tx: usize, ty: usize, word: u
 }
 
 // Tile t, in column tx and row ty of tiles, `width` pixels to a row of the screen. Until its first FILL it
-// has one colour: where END comes first, one pixel is packed for all.
+// has one colour: where END comes first, one pixel is packed for all. Its colours are worked on in `rgba`, whatever
+// that holds.
 pub fn tile(
     words: &[u32],
     segments: &[f32],
@@ -130,11 +175,12 @@ pub fn tile(
     width: usize,
     tx: usize,
     ty: usize,
+    rgba: &mut [[f32; 4]; TILE_SIZE],
     pixels: &mut [u32],
 ) -> Verdict
-    requires { ⌜ (t < mostTiles) × (tx < mostTiles) × (ty < mostTiles) × (tileWidth * tx + tileWidth ≤ width) × (width * (tileHeight * ty + tileHeight) ≤ length (now pixels)) ⌝ }
+    requires { ⌜ (t < mostTiles) × (tx < mostTiles) × (ty < mostTiles) × (tileWidth * tx + tileWidth ≤ width) × (width * (tileHeight * ty + tileHeight) ≤ length (now pixels)) × (length (now rgba) ≡ tileSize) ⌝ }
     ensures { λ r. ⌜ (r ≡ endsAt (now (words .entry)) (now (segments .entry)) t) ×
-        (now (pixels .exit) ≡ tilePixels (now (words .entry)) (now (segments .entry)) t width tx ty (now (pixels .entry))) ⌝ }
+        (now (pixels .exit) ≡ tilePixels (now (words .entry)) (now (segments .entry)) t width tx ty (now (pixels .entry))) × (length (now (rgba .exit)) ≡ tileSize) ⌝ }
 {
     let mut px = [0.0f32; 4];
     let start = TILE_WORDS * t + LIST_START;
@@ -143,18 +189,20 @@ pub fn tile(
         fill_tile(pixels, width, tx, ty, pack(px));
         return Verdict::Fine;
     }
-    let mut rgba = same_colour(px);
-    let v = run(words, segments, o.at, o.count, o.area, &mut rgba);
+    start_rows(rgba, px);
+    let mut flat = all_flat();
+    let v = run(words, segments, o.at, o.count, o.area, rgba, &mut flat);
     match v {
         Verdict::Fine => {
-            put_tile(pixels, width, tx, ty, &rgba);
+            put_tile(pixels, width, tx, ty, rgba, &flat);
             Verdict::Fine
         }
         Verdict::Against(no) => Verdict::Against(no),
     }
 }
 
-// The tiles from `from` up to `to`, in order, up to the first that is refused.
+// The tiles from `from` up to `to`, in order, up to the first that is refused. One local has the colours of one
+// tile after the other.
 pub fn tiles(
     words: &[u32],
     segments: &[f32],
@@ -168,12 +216,13 @@ pub fn tiles(
     requires { ⌜ (from ≤ to) × (to ≤ cols * rows) × (cols * rows ≤ mostTiles) × (tileWidth * cols ≤ width) × (width * (tileHeight * rows) ≤ length (now pixels)) ⌝ }
     ensures { λ r. ⌜ shown r (now (pixels .exit)) ≡ shownOf (tilesOf (now (words .entry)) (now (segments .entry)) width cols from to (now (pixels .entry))) ⌝ }
 {
+    let mut rgba = no_colour();
     let mut t = from;
     while t < to {
         let n = t as usize;
         let tx = n % cols;
         let ty = n / cols;
-        let v = tile(words, segments, n, width, tx, ty, pixels);
+        let v = tile(words, segments, n, width, tx, ty, &mut rgba, pixels);
         if let Verdict::Against(no) = v {
             return Answer::Refused(no, t);
         }

@@ -1,5 +1,7 @@
 -- `colours::layer::composite` meets its contract. The invariant: the rows above y are done. Assumes nothing.
+use mathlib.Core.Path.{_≡_, _∙_}
 use mathlib.Core.List.{[]}
+use lib.ListN.{length}
 use Prim.Native.Nat.{_-_, _≤_}
 use native.Mathlib.Omega.{arith}
 use denote.Ref.{now}
@@ -7,27 +9,28 @@ use borrow.Author.Needs.{needs}
 use Rattle.coverage.specs.Tile.{tileHeight, tileSize, rowStart}
 use Rattle.ranges.proofs.Turn.{Done, begun, ended}
 use Rattle.colours.specs.Colour.{compositeOf}
-use Rattle.colours.specs.Layer.{each}
+use Rattle.colours.specs.Layer.{each, meant}
 use Rattle.colours.proofs.LayerLaws.{row-on}
+use Rattle.colours.proofs.FlatLaws.{meant-length}
 use Rattle.colours.proofs.layer.composite.Statement.{statement}
 use Rattle.colours.proofs.layer.composite.Tie as tie
 
 abbrev Inv-loop : tie.InvT-loop
-Inv-loop rgba₀ area fg y₀ rgba y = (y ≤ tileHeight) × Done (each area fg) 0 (rowStart y) rgba₀ rgba
+Inv-loop rgba₀ flat₀ area fg y₀ rgba flat y =
+    (y ≤ tileHeight) × (length rgba ≡ tileSize) × Done (each area fg) 0 (rowStart y) (meant flat₀ rgba₀) (meant flat rgba)
 
 abbrev μ-loop : tie.MeasureT-loop
-μ-loop rgba₀ area fg y₀ rgba y = tileHeight - y
+μ-loop rgba₀ flat₀ area fg y₀ rgba flat y = tileHeight - y
 
 loop-holds : tie.Need-loop-holds Inv-loop μ-loop
 loop-holds c =
     let a = c .before .args in
-    (search needs, begun (each (now (a .area)) (a .fg)) [] _)
+    (search needs, c .before .pre .0, begun (each (now (a .area)) (a .fg)) [] _)
 
-mul-over-row : tie.Need-mul-over-row Inv-loop μ-loop
-mul-over-row c = search needs
-
-over-row-requires : tie.Need-over-row-requires Inv-loop μ-loop
-over-row-requires c κs = (omega arith, c .before .before .before .before .pre .1, c .before .before .before .before .pre .2)
+over-any-requires : tie.Need-over-any-requires Inv-loop μ-loop
+over-any-requires c κs =
+    let p = c .before .before .before .before .before .pre in
+    (omega arith, c .before .before .before .loop .inv .1, p .1, p .2)
 
 add-y : tie.Need-add-y Inv-loop μ-loop
 add-y c = search needs
@@ -37,16 +40,16 @@ loop-less c = search needs
 
 loop-again : tie.Need-loop-again Inv-loop μ-loop
 loop-again c =
-    let a = c .before .before .before .before .before .args in
-    let l = c .before .before .before .loop in
-    (search needs, row-on (each (now (a .area)) (a .fg)) (l .y) _ (l .rgba) _ (l .inv .1) (c .over-row .ensures))
+    let a = c .before .before .before .before .before .before .args in
+    let l = c .before .before .before .before .loop in
+    (search needs, c .over-any .ensures .0, row-on (each (now (a .area)) (a .fg)) (l .y) _ _ _ (l .inv .2) (c .over-any .ensures .1))
 
 returns : tie.Need-returns Inv-loop μ-loop
 unfolding compositeOf
 returns c =
     let a = c .before .before .before .args in
     let l = c .before .loop in
-    ended (each (now (a .area)) (a .fg)) [] tileSize (rowStart (l .y)) _ _ (l .inv .1) (c .before .before .before .pre .0) (omega arith)
+    (l .inv .1, ended (each (now (a .area)) (a .fg)) [] tileSize (rowStart (l .y)) _ _ (l .inv .2) (meant-length _ _ ∙ c .before .before .before .pre .0) (omega arith))
 
 pub composite-spec : {M : Type 1} → statement M
 composite-spec =
@@ -55,8 +58,7 @@ composite-spec =
     Inv-loop
     μ-loop
     loop-holds
-    mul-over-row
-    over-row-requires
+    over-any-requires
     add-y
     loop-less
     loop-again

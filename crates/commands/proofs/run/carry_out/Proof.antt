@@ -7,6 +7,7 @@ use lib.Ieee.{Float}
 use mir.Syntax.{w32}
 use mir.ValLaws.{toZ-ofZ}
 use Rattle.colours.specs.Colour.{compositeOf}
+use Rattle.colours.specs.Layer.{meant}
 use Rattle.commands.specs.Pixel.{cover, paint, coverAll, paintAll, Within}
 use Rattle.commands.specs.declared.steps.Act.{Act}
 use Rattle.commands.specs.declared.steps.Act.the-variants.{Solid, Jump}
@@ -16,9 +17,9 @@ use Rattle.commands.proofs.run.carry_out.Statement.{statement}
 use Rattle.commands.proofs.run.carry_out.Tie as tie
 
 -- what holds of the command that the arm knows holds of the one given
-known : (segs area : List Float) (rgba : List (List Float)) (a a′ : Act) (area′ : List Float) (rgba′ : List (List Float)) → a ≡ a′
-    → (area′ ≡ coverAll a′ segs area) × (rgba′ ≡ paintAll a′ area rgba) → (area′ ≡ coverAll a segs area) × (rgba′ ≡ paintAll a area rgba)
-known segs area rgba a a′ area′ rgba′ e h = (h .0 ∙ ap (λ (z : Act). coverAll z segs area) (sym e), h .1 ∙ ap (λ (z : Act). paintAll z area rgba) (sym e))
+known : (segs area : List Float) (rgba : List (List Float)) (a a′ : Act) (area′ : List Float) (rgba′ : List (List Float)) (L : Type 0) → a ≡ a′ → L
+    → (area′ ≡ coverAll a′ segs area) × (rgba′ ≡ paintAll a′ area rgba) → (area′ ≡ coverAll a segs area) × L × (rgba′ ≡ paintAll a area rgba)
+known segs area rgba a a′ area′ rgba′ L e l h = (h .0 ∙ ap (λ (z : Act). coverAll z segs area) (sym e), l, h .1 ∙ ap (λ (z : Act). paintAll z area rgba) (sym e))
 
 enum-known-act : tie.Need-enum-known-act
 enum-known-act c = search needs
@@ -51,7 +52,7 @@ colour-requires c κs = search needs
 
 composite-requires : tie.Need-composite-requires
 composite-requires c κs =
-    let p = c .before .before .before .before .before .before .before .before .pre in
+    let p = c .before .before .before .before .before .before .before .before .before .pre in
     (p .2, p .1, p .3)
 
 enum-told-2 : tie.Need-enum-told-2
@@ -63,18 +64,12 @@ same-length c = search needs
 returns : tie.Need-returns
 returns c =
     let s = c .before .before .before .before .before .before .before .before .before .before in
-    known (now (s .args .segments)) (now (s .args .area)) (now (s .args .rgba)) (s .args .act) _ _ _
-    (c .before .before .before .before .before .before .act .given .1) (
-      by-fill (now (c .before .before .before .before .before .before .before .before .before .before .args .segments))
-          (now (c .before .before .before .before .before .before .before .before .before .before .args .area))
-          (now (c .before .before .before .before .before .before .before .before .before .before .args .rgba)) _ _ _ _ _
-          (c .before .before .before .before .before .before .before .before .before .before .pre .1)
+    let m = meant (now (s .args .flat)) (now (s .args .rgba)) in
+    known (now (s .args .segments)) (now (s .args .area)) m (s .args .act) _ _ _ _ (c .before .before .before .before .before .before .act .given .1) (s .pre .2) (
+      by-fill (now (s .args .segments)) (now (s .args .area)) m _ _ _ _ _ (s .pre .1)
           (toZ-ofZ w32 _ (record { sfits = c .before .before .before .before .signed .ok }) ∙ c .before .before .before .before .signed .ensures)
           (c .before .before .fill-path .ensures),
-      fill-paints (now
-          (c .before .before .before .before .before .before .before .before .before .before .args .segments))
-          (now (c .before .before .before .before .before .before .before .before .before .before .args .area))
-          (now (c .before .before .before .before .before .before .before .before .before .before .args .rgba)) _ _ _,
+      fill-paints (now (s .args .segments)) (now (s .args .area)) m _ _ _,
     )
 
 same-length-2 : tie.Need-same-length-2
@@ -84,13 +79,9 @@ returns-2 : tie.Need-returns-2
 unfolding coverAll cover
 returns-2 c =
     let s = c .before .before .before .before .before .before .before .before in
-    known (now (s .args .segments)) (now (s .args .area)) (now (s .args .rgba)) (s .args .act) Solid _ _
-    (c .before .before .before .before .enum-told .given .1) (
-      c .before .before .set-all .ensures,
-      solid-paints (now (c .before .before .before .before .before .before .before .before .args .segments))
-          (now (c .before .before .before .before .before .before .before .before .args .area))
-          (now (c .before .before .before .before .before .before .before .before .args .rgba)),
-    )
+    let m = meant (now (s .args .flat)) (now (s .args .rgba)) in
+    known (now (s .args .segments)) (now (s .args .area)) m (s .args .act) Solid _ _ _ (c .before .before .before .before .enum-told .given .1) (s .pre .2)
+    (c .before .before .set-all .ensures, solid-paints (now (s .args .segments)) (now (s .args .area)) m)
 
 same-length-3 : tie.Need-same-length-3
 same-length-3 c = search needs
@@ -98,25 +89,19 @@ same-length-3 c = search needs
 returns-3 : tie.Need-returns-3
 unfolding paintAll paint compositeOf
 returns-3 c =
-    let s = c .before .before .before .before .before .before .before .before .before in
-    known (now (s .args .segments)) (now (s .args .area)) (now (s .args .rgba)) (s .args .act) _ _ _ (c .before .before .before .before .before .act2 .given .1) (
-      color-covers (now (c .before .before .before .before .before .before .before .before .before .args .segments))
-          (now (c .before .before .before .before .before .before .before .before .before .args .area))
-          (now (c .before .before .before .before .before .before .before .before .before .args .rgba)) _,
-      c .composite .ensures ∙ ap
-          (λ (fg : List Float). compositeOf (now (c .before .before .before .before .before .before .before .before .before .args .area)) fg
-          (now (c .before .before .before .before .before .before .before .before .before .args .rgba))) (c .before .colour .ensures),
+    let s = c .before .before .before .before .before .before .before .before .before .before in
+    let m = meant (now (s .args .flat)) (now (s .args .rgba)) in
+    known (now (s .args .segments)) (now (s .args .area)) m (s .args .act) _ _ _ _ (c .before .before .before .before .before .before .act2 .given .1) (c .composite .ensures .0) (
+      color-covers (now (s .args .segments)) (now (s .args .area)) m _,
+      c .composite .ensures .1 ∙ ap (λ (fg : List Float). compositeOf (now (s .args .area)) fg m) (c .before .colour .ensures),
     )
 
 returns-4 : tie.Need-returns-4
 returns-4 c =
     let s = c .before .before .before .before in
-    known (now (s .args .segments)) (now (s .args .area)) (now (s .args .rgba)) (s .args .act) Jump _ _ (c .enum-told2 .given .1) (
-      jump-covers (now (c .before .before .before .before .args .segments)) (now (c .before .before .before .before .args .area))
-          (now (c .before .before .before .before .args .rgba)),
-      jump-paints (now (c .before .before .before .before .args .segments))
-          (now (c .before .before .before .before .args .area)) (now (c .before .before .before .before .args .rgba)),
-    )
+    let m = meant (now (s .args .flat)) (now (s .args .rgba)) in
+    known (now (s .args .segments)) (now (s .args .area)) m (s .args .act) Jump _ _ _ (c .enum-told2 .given .1) (s .pre .2)
+    (jump-covers (now (s .args .segments)) (now (s .args .area)) m, jump-paints (now (s .args .segments)) (now (s .args .area)) m)
 
 pub carry-out-spec : {M : Type 1} → statement M
 carry-out-spec =

@@ -12,10 +12,11 @@ use Rattle.commands.specs.Moves.{Trace, ends, does, traceOf}
 use Rattle.commands.specs.Pixel.{coverAll, paintAll, Ran, ran}
 use Rattle.commands.specs.Alike.{sameArea, runFrom}
 use Rattle.commands.specs.declared.steps.Act.{Act}
-use Rattle.commands.proofs.Acts.{length-cover, length-paint, move-within}
+use Rattle.commands.proofs.Acts.{length-cover, move-within}
 use Rattle.commands.proofs.Traced.{found, more, trace-past, trace-end, trace-full, trace-stop, trace-goes, left, left-ends, left-does, left-starts}
 use Rattle.commands.proofs.AlikeLaws.{same-area-length}
-use Rattle.colours.specs.Layer.{NoMinus}
+use Rattle.colours.specs.Layer.{meant, NoMinus}
+use Rattle.colours.proofs.FlatLaws.{meant-length}
 use Rattle.commands.proofs.Signs.{all-alike, all-covered}
 use native.Mathlib.Omega.{arith}
 use borrow.Author.Needs.{needs}
@@ -41,17 +42,17 @@ module _ (ws : List ℕ) (segs : List Float) (all : Ran) (area : List Float) (rg
       ap (λ (x : List Float). left segs t x rgba′) p ∙ ap (left segs t (coverAll a segs area)) q ∙ sym (left-does segs a t area rgba l)
       ∙ ap (λ (x : Trace). left segs x area rgba) (sym (ap (λ (k : ℕ). traceOf k ws segs at) (more count h z) ∙ e)) ∙ inv
 
-lengths : (a : Act) (segs area area′ : List Float) (rgba rgba′ : List (List Float)) → area′ ≡ coverAll a segs area → rgba′ ≡ paintAll a area rgba → length area ≡ tileSize → length rgba ≡ tileSize
-    → (length area′ ≡ tileSize) × (length rgba′ ≡ tileSize)
-lengths a segs area area′ rgba rgba′ p q m n = (ap length p ∙ length-cover a segs area ∙ m, ap length q ∙ length-paint a area rgba ∙ n)
+area-length : (a : Act) (segs area area′ : List Float) → area′ ≡ coverAll a segs area → length area ≡ tileSize → length area′ ≡ tileSize
+area-length a segs area area′ p m = ap length p ∙ length-cover a segs area ∙ m
 
 abbrev Inv-loop : tie.InvT-loop
-Inv-loop words segments start gone a rgba₀ area₀ at₀ count₀ rgba area at count = (count ≤ mostCommands) × (length area ≡ tileSize) × (length rgba ≡ tileSize) ×
-    (left segments (traceOf (mostCommands - count) words segments at) area rgba ≡ runFrom segments (traceOf (mostCommands - gone) words segments start) a rgba₀)
+Inv-loop words segments start gone a rgba₀ flat₀ area₀ at₀ count₀ rgba flat area at count = (count ≤ mostCommands) × (length area ≡ tileSize) × (length rgba ≡ tileSize) ×
+    (left segments (traceOf (mostCommands - count) words segments at) area (meant flat rgba)
+    ≡ runFrom segments (traceOf (mostCommands - gone) words segments start) a (meant flat₀ rgba₀))
     × NoMinus area
 
 abbrev μ-loop : tie.MeasureT-loop
-μ-loop words segments start gone a rgba₀ area₀ at₀ count₀ rgba area at count = mostCommands - count
+μ-loop words segments start gone a rgba₀ flat₀ area₀ at₀ count₀ rgba flat area at count = mostCommands - count
 
 same-area-requires : tie.Need-same-area-requires Inv-loop μ-loop
 same-area-requires c κs = search needs
@@ -64,7 +65,7 @@ loop-holds c =
       ap length (c .same-area .ensures) ∙ same-area-length (s .args .a),
       s .pre .0,
       begins (now (s .args .segments)) t (s .args .a)
-          (now (s .args .rgba)) _ (s .pre .0) (c .same-area .ensures),
+          (meant (now (s .args .flat)) (now (s .args .rgba))) _ (meant-length _ _ ∙ s .pre .0) (c .same-area .ensures),
       all-alike (s .args .a) _ (c .same-area .ensures) (s .pre .2),
     )
 
@@ -80,25 +81,31 @@ enum-told c = search needs
 returns : tie.Need-returns Inv-loop μ-loop
 returns c =
     let s = c .before .before .before .before .before .before .before in
-    let l = c .before .before .before .loop in
-    stop (now (s .args .words)) (now (s .args .segments)) _ (l .area) (l .rgba) (l .at) (l .count) (l .inv .3) _ _ refl
-    (trace-past (now (s .args .words)) (now (s .args .segments)) (l .at) _ (sym (c .before .before .peek-from .ensures) ∙ c .enum-told .given .1))
+    let l = c .before .before .before .loop in (
+      l .inv .2,
+      stop (now (s .args .words)) (now (s .args .segments)) _ (l .area) (meant (l .flat) (l .rgba)) (l .at) (l .count) (l .inv .3) _ _ refl
+          (trace-past (now (s .args .words)) (now (s .args .segments)) (l .at) _ (sym (c .before .before .peek-from .ensures) ∙ c .enum-told .given .1)),
+    )
 
 returns-2 : tie.Need-returns-2 Inv-loop μ-loop
 returns-2 c =
     let s = c .before .before .before .before .before .before .before .before .before in
-    let l = c .before .before .before .before .before .loop in
-    stop (now (s .args .words)) (now (s .args .segments)) _ (l .area) (l .rgba) (l .at) (l .count) (l .inv .3) _ _ refl
-    (trace-end (now (s .args .words)) (now (s .args .segments)) (l .at) _
-    (sym (c .before .before .before .before .peek-from .ensures) ∙ c .before .before .tag .given .1) _ (c .if1 .taken))
+    let l = c .before .before .before .before .before .loop in (
+      l .inv .2,
+      stop (now (s .args .words)) (now (s .args .segments)) _ (l .area) (meant (l .flat) (l .rgba)) (l .at) (l .count) (l .inv .3) _ _ refl
+          (trace-end (now (s .args .words)) (now (s .args .segments)) (l .at) _
+          (sym (c .before .before .before .before .peek-from .ensures) ∙ c .before .before .tag .given .1) _ (c .if1 .taken)),
+    )
 
 returns-3 : tie.Need-returns-3 Inv-loop μ-loop
 returns-3 c =
     let s = c .before .before .before .before .before .before .before .before .before .before in
-    let l = c .before .before .before .before .before .before .loop in
-    stop (now (s .args .words)) (now (s .args .segments)) _ (l .area) (l .rgba) (l .at) (l .count) (l .inv .3) 0 _ (omega arith)
-    (trace-full (now (s .args .words)) (now (s .args .segments)) (l .at) _
-    (sym (c .before .before .before .before .before .peek-from .ensures) ∙ c .before .before .before .tag .given .1) (c .before .if1 .left))
+    let l = c .before .before .before .before .before .before .loop in (
+      l .inv .2,
+      stop (now (s .args .words)) (now (s .args .segments)) _ (l .area) (meant (l .flat) (l .rgba)) (l .at) (l .count) (l .inv .3) 0 _ (omega arith)
+          (trace-full (now (s .args .words)) (now (s .args .segments)) (l .at) _
+          (sym (c .before .before .before .before .before .peek-from .ensures) ∙ c .before .before .before .tag .given .1) (c .before .if1 .left)),
+    )
 
 op-of-requires : tie.Need-op-of-requires Inv-loop μ-loop
 op-of-requires c κs = search needs
@@ -114,12 +121,14 @@ enum-known-no c = search needs
 returns-4 : tie.Need-returns-4 Inv-loop μ-loop
 returns-4 c =
     let s = c .before .before .before .before .before .before .before .before .before .before .before .before .before .before .before in
-    let l = c .before .before .before .before .before .before .before .before .before .before .before .loop in
-    stop (now (s .args .words)) (now (s .args .segments)) _ (l .area) (l .rgba) (l .at) (l .count) (l .inv .3) _ _ (more (l .count) (l .inv .0) (c .before .before .before .before .before .if2 .left))
-    (trace-stop (now (s .args .words)) (now (s .args .segments)) (l .at) _
-    (sym (c .before .before .before .before .before .before .before .before .before .before .peek-from .ensures) ∙ c .before .before .before .before
-    .before .before .before .before .tag .given .1) (c .before .before .before .before .before .before .if1 .left) _
-    (c .before .before .before .before .op-of .ensures) _ (c .before .before .before .move-at .ensures) _ _ (c .before .no .given .1))
+    let l = c .before .before .before .before .before .before .before .before .before .before .before .loop in (
+      l .inv .2,
+      stop (now (s .args .words)) (now (s .args .segments)) _ (l .area) (meant (l .flat) (l .rgba)) (l .at) (l .count) (l .inv .3) _ _ (more (l .count) (l .inv .0) (c .before .before .before .before .before .if2 .left))
+          (trace-stop (now (s .args .words)) (now (s .args .segments)) (l .at) _
+          (sym (c .before .before .before .before .before .before .before .before .before .before .peek-from .ensures) ∙ c .before .before .before .before
+          .before .before .before .before .tag .given .1) (c .before .before .before .before .before .before .if1 .left) _
+          (c .before .before .before .before .op-of .ensures) _ (c .before .before .before .move-at .ensures) _ _ (c .before .no .given .1)),
+    )
 
 enum-known-act : tie.Need-enum-known-act Inv-loop μ-loop
 enum-known-act c = search needs
@@ -129,10 +138,10 @@ slice-aggregate-carry-out c = search needs
 
 carry-out-requires : tie.Need-carry-out-requires Inv-loop μ-loop
 carry-out-requires c κs =
-    let s = c .before .before .before .before .before .before .before .before .before .before .before .before .before in
-    let t = c .before .before .before .before .before .before .before .before .before .before .before .before .before .before .before .before .before in (
+    let s = c .before .before .before .before .before .before .before .before .before .before .before .before .before .before in
+    let t = c .before .before .before .before .before .before .before .before .before .before .before .before .before .before .before .before .before .before in (
       move-within _ (now (t .args .words)) (now (t .args .segments)) (s .loop .at) _ _
-          (sym (c .before .before .before .before .before .move-at .ensures) ∙ c .before .before .before .act .given .1),
+          (sym (c .before .before .before .before .before .before .move-at .ensures) ∙ c .before .before .before .before .act .given .1),
       s .loop .inv .1,
       s .loop .inv .2,
       s .loop .inv .4,
@@ -146,21 +155,19 @@ loop-less c = search needs
 
 loop-again : tie.Need-loop-again Inv-loop μ-loop
 loop-again c =
-    let s = c .before .before .before .before .before .before .before .before .before .before .before .before .before .before .before .before .before .before .before in
-    let l = c .before .before .before .before .before .before .before .before .before .before .before .before .before .before .before .loop in
-    let n = lengths _ _ _ _ _ _ (c .before .carry-out .ensures .0) (c .before .carry-out .ensures .1) (l .inv .1) (l .inv .2) in (
+    let s = c .before .before .before .before .before .before .before .before .before .before .before .before .before .before .before .before .before .before .before .before in
+    let l = c .before .before .before .before .before .before .before .before .before .before .before .before .before .before .before .before .loop in (
       omega arith,
-      n .0,
-      n .1,
-      turn (now (s .args .words)) (now (s .args .segments)) _ (l .area) (l .rgba) (l .at) (l .count) (l .inv .3) _ _ _ _ (l .inv .0)
-          (c .before .before .before .before .before .before .before .before .before .if2 .left) (l .inv .1 ∙ sym (l .inv .2))
+      area-length _ _ _ _ (c .before .carry-out .ensures .0) (l .inv .1),
+      c .before .carry-out .ensures .1,
+      turn (now (s .args .words)) (now (s .args .segments)) _ (l .area) (meant (l .flat) (l .rgba)) (l .at) (l .count) (l .inv .3) _ _ _ _ (l .inv .0)
+          (c .before .before .before .before .before .before .before .before .before .before .if2 .left) (l .inv .1 ∙ sym (meant-length _ _ ∙ l .inv .2))
           (trace-goes (now (s .args .words)) (now (s .args .segments)) (l .at) _
-          (sym (c .before .before .before .before .before .before .before .before .before .before .before .before .before .before .peek-from .ensures) ∙ c
-          .before .before .before .before .before .before .before .before .before .before .before .before .tag .given .1)
-          (c .before .before .before .before .before .before .before .before .before .before .if1 .left) _
-          (c .before .before .before .before .before .before .before .before .op-of .ensures) _
-          (c .before .before .before .before .before .before .before .move-at .ensures) _ _ _ (c .before .before .before .before .before .act .given .1))
-          (c .before .carry-out .ensures .0) (c .before .carry-out .ensures .1),
+          (sym (c .before .before .before .before .before .before .before .before .before .before .before .before .before .before .before .peek-from .ensures) ∙ c .before .before .before .before .before .before .before .before .before .before .before .before .before .tag .given .1)
+          (c .before .before .before .before .before .before .before .before .before .before .before .if1 .left) _
+          (c .before .before .before .before .before .before .before .before .before .op-of .ensures) _
+          (c .before .before .before .before .before .before .before .before .move-at .ensures) _ _ _ (c .before .before .before .before .before .before .act .given .1))
+          (c .before .carry-out .ensures .0) (c .before .carry-out .ensures .2),
       all-covered _ _ (l .area) _ (c .before .carry-out .ensures .0) (l .inv .4),
     )
 

@@ -5,13 +5,12 @@ use Prim.Native.Nat.{ℕ, _*_, _-_, _+_, _≤_, _<_}
 use lib.ListN.{getD, set}
 use denote.Ref.{now}
 use lib.Ieee.{Float}
-use Rattle.lists.specs.Grid.{mapi, within}
-use Rattle.lists.specs.GridLaws.{within-cong}
 use Rattle.coverage.specs.Tile.{tileWidth, tileHeight}
 use Rattle.ranges.proofs.Turn.{Done, begun-at, turned-at, ended-at}
 use Rattle.colours.specs.Colour.{packOf}
-use Rattle.fine.specs.Screen.{rowAt, placeOf, fromList, oneWord, OneWord}
+use Rattle.fine.specs.Screen.{rowAt, fromList}
 use Rattle.fine.proofs.Places.{place-in-row}
+use Rattle.fine.proofs.Flats.{once}
 use native.Mathlib.Omega.{arith}
 use borrow.Author.Needs.{needs}
 use Rattle.fine.proofs.screen.put_row.Statement.{statement}
@@ -22,22 +21,6 @@ turn : (rgba : List (List Float)) (w tx ty y x : ℕ) (l₀ l : List ℕ) (v : �
     (rowAt w tx ty y) (rowAt w tx ty y + (x + 1)) l₀ (set l (rowAt w tx ty y + x) v)
 turn rgba w tx ty y x l₀ l v hy hw hx done e =
     turned-at (fromList rgba w) 0 (rowAt w tx ty y) x l₀ l v done (e ∙ ap (λ (k : ℕ). packOf (getD rgba k [])) (sym (place-in-row w tx ty y hy hw x hx)))
-
--- one word for all of the row
-once : (rgba : List (List Float)) (w tx ty y word : ℕ) (l m : List ℕ) → y < tileHeight → tileWidth * tx + tileWidth ≤ w → OneWord rgba (tileWidth * y)
-    → word ≡ packOf (getD rgba (tileWidth * y) []) → m ≡ mapi (within (rowAt w tx ty y) (rowAt w tx ty y + tileWidth) (oneWord word)) l
-    → m ≡ mapi (within (rowAt w tx ty y) (rowAt w tx ty y + tileWidth) (fromList rgba w)) l
-once rgba w tx ty y word l m hy hw one e h = h ∙ within-cong (oneWord word) (fromList rgba w) R (R + tileWidth) 0 l (λ p x lo hi. at p lo hi)
-  where
-    R : ℕ
-    R = rowAt w tx ty y
-
-    at : (p : ℕ) → R ≤ p → p < R + tileWidth → word ≡ packOf (getD rgba (placeOf w p) [])
-    at p lo hi =
-        let x = p - R in
-        let hx : x < tileWidth = omega (arith, lo, hi) in
-        let q : R + x ≡ p = omega (arith, lo) in
-        e ∙ sym (one x hx) ∙ ap (λ (k : ℕ). packOf (getD rgba k [])) (sym (place-in-row w tx ty y hy hw x hx) ∙ ap (placeOf w) q)
 
 abbrev Inv-loop : tie.InvT-loop
 Inv-loop pixels₀ width tx ty y rgba base first x₀ pixels x = (x ≤ tileWidth) × Done (fromList rgba width) base (base + x) pixels₀ pixels

@@ -1,6 +1,6 @@
 -- `fine::screen::tile` meets its contract. Assumes nothing.
 use mathlib.Core.Path.{_≡_, refl, sym, ap, _∙_}
-use mathlib.Core.Bool.{cond}
+use mathlib.Core.Bool.{Bool, cond}
 use mathlib.Core.List.{List, []}
 use Prim.Native.Nat.{ℕ, _+_, _*_, _/_, _%_, _<_}
 use native.Mathlib.Omega.{arith}
@@ -13,12 +13,11 @@ use Rattle.panel.specs.declared.kinds.Verdict.{Verdict}
 use Rattle.panel.specs.declared.kinds.Verdict.the-variants.{Fine, Against}
 use Rattle.coverage.specs.Tile.{tileWidth, tileHeight, tileSize}
 use Rattle.colours.specs.Colour.{packOf}
+use Rattle.colours.specs.Layer.{meant}
 use Rattle.commands.specs.Numbers.{startOf}
 use Rattle.commands.specs.Pixel.{point, pointOf, Ran, ran, runOf}
 use Rattle.commands.specs.Alike.{sameColour}
 use Rattle.commands.proofs.Acts.{mapi-cong}
-use Rattle.commands.proofs.AlikeLaws.{same-colour-length}
-use lib.ListN.{length}
 use Rattle.fine.specs.Screen.{inTile, placeOf, putTile, packed, fromList, clear, noColour, tileTrace, endsAt, colourAt, ifFine, tilePixels}
 use Rattle.fine.proofs.Openings.{goes-on, one-colour, put-one}
 use borrow.Author.Needs.{needs}
@@ -82,22 +81,24 @@ same-length c = search needs
 
 returns : tie.Need-returns
 returns c =
-    let a = c .before .before .before .before .before .before .before .before .before .before .before .before .args in
+    let s = c .before .before .before .before .before .before .before .before .before .before .before .before in
+    let a = s .args in
     let o = c .before .before .before .before .before .before .before .begin .result in
-    let e = one-colour (now (a .words)) (now (a .segments)) (a .t) (o .at) (o .count) (o .area)
-    (c .before .before .before .before .before .before .before .begin .last .1 .1 .1 .0)
-    (c .before .before .before .before .before .before .before .begin .ensures .1)
+    let px = c .before .before .before .before .before .before .before .begin .last .1 .1 .1 .0 in
+    let e = one-colour (now (a .words)) (now (a .segments)) (a .t) (o .at) (o .count) (o .area) px (c .before .before .before .before .before .before .before .begin .ensures .1)
     (sym (c .before .before .before .before .before .before .ends-at .ensures) ∙ c .before .before .before .before .before .if1 .taken) in
-    done (now (a .words)) (now (a .segments)) (a .t) (a .width) (a .tx) (a .ty) (now (a .pixels)) Fine
-    (sameColour (c .before .before .before .before .before .before .before .begin .last .1 .1 .1 .0)) noColour refl e _ refl
-    (c .before .before .fill-tile .ensures ∙ put-one (a .width) (a .tx) (a .ty) _
-    (c .before .before .before .before .before .before .before .begin .last .1 .1 .1 .0) (now (a .pixels)) (c .before .before .before .pack .ensures))
+    let d = done (now (a .words)) (now (a .segments)) (a .t) (a .width) (a .tx) (a .ty) (now (a .pixels)) Fine (sameColour px) noColour refl e _ refl
+    (c .before .before .fill-tile .ensures ∙ put-one (a .width) (a .tx) (a .ty) _ px (now (a .pixels)) (c .before .before .before .pack .ensures)) in
+    (d .0, d .1, s .pre .5)
 
-same-colour-requires : tie.Need-same-colour-requires
-same-colour-requires c κs = search needs
+start-rows-requires : tie.Need-start-rows-requires
+start-rows-requires c κs = search needs
+
+all-flat-requires : tie.Need-all-flat-requires
+all-flat-requires c κs = search needs
 
 run-requires : tie.Need-run-requires
-run-requires c κs = (ap length (c .before .same-colour .ensures) ∙ same-colour-length _, c .before .before .before .before .begin .ensures .0, c .before .before .before .before .begin .ensures .2)
+run-requires c κs = search needs
 
 enum-told : tie.Need-enum-told
 enum-told c = search needs
@@ -113,25 +114,28 @@ same-length-2 c = search needs
 
 returns-2 : tie.Need-returns-2
 returns-2 c =
-    let a = c .before .before .before .before .before .before .before .before .before .before .before .before .before .before .before .before .before .args in
-    let o = c .before .before .before .before .before .before .before .before .before .before .before .before .begin .result in
-    let e = goes-on (now (a .words)) (now (a .segments)) (a .t) (o .at) (o .count) (o .area)
-    (c .before .before .before .before .before .before .before .before .before .before .before .before .begin .last .1 .1 .1 .0)
-    (c .before .before .before .before .before .before .before .before .before .before .before .before .begin .ensures .1) _ _ _
-    (c .before .before .before .before .before .before .before .before .before .same-colour .ensures)
-    (c .before .before .before .before .before .before .before .run .ensures) in
-    done (now (a .words)) (now (a .segments)) (a .t) (a .width) (a .tx) (a .ty) (now (a .pixels)) _ _ noColour refl e _
-    (c .before .before .before .before .before .enum-told .given .1) (c .before .before .put-tile .ensures)
+    let s = c .before .before .before .before .before .before .before .before .before .before .before .before .before .before .before .before .before .before .before .before .before in
+    let a = s .args in
+    let b = c .before .before .before .before .before .before .before .before .before .before .before .before .before .before .before .before .begin in
+    let o = b .result in
+    let r = c .before .before .before .before .before .before .before .before .before .before .before .before .start-rows in
+    let e = goes-on (now (a .words)) (now (a .segments)) (a .t) (o .at) (o .count) (o .area) (b .last .1 .1 .1 .0) (b .ensures .1) _ _ _
+    (ap (λ (f : List Bool). meant f (r .last .0)) (c .before .before .before .before .before .before .before .before .before .before .before .all-flat .ensures) ∙ r .ensures .1) (c .before .before .before .before .before .before .before .before .run .ensures .1) in
+    let d = done (now (a .words)) (now (a .segments)) (a .t) (a .width) (a .tx) (a .ty) (now (a .pixels)) _ _ noColour refl e _
+    (c .before .before .before .before .before .before .enum-told .given .1) (c .before .before .put-tile .ensures) in
+    (d .0, d .1, c .before .before .before .before .before .before .before .before .run .ensures .0)
 
 returns-3 : tie.Need-returns-3
 returns-3 c =
-    let a = c .before .before .before .before .before .before .before .before .before .before .before .before .before .args in
-    let o = c .before .before .before .before .before .before .before .before .begin .result in
-    let e = goes-on (now (a .words)) (now (a .segments)) (a .t) (o .at) (o .count) (o .area)
-    (c .before .before .before .before .before .before .before .before .begin .last .1 .1 .1 .0)
-    (c .before .before .before .before .before .before .before .before .begin .ensures .1) _ _ _
-    (c .before .before .before .before .before .same-colour .ensures) (c .before .before .before .run .ensures) in
-    stopped (now (a .words)) (now (a .segments)) (a .t) (a .width) (a .tx) (a .ty) (now (a .pixels)) _ _ noColour refl e _ (c .before .v .given .1)
+    let s = c .before .before .before .before .before .before .before .before .before .before .before .before .before .before .before .before in
+    let a = s .args in
+    let b = c .before .before .before .before .before .before .before .before .before .before .before .begin in
+    let o = b .result in
+    let r = c .before .before .before .before .before .before .before .start-rows in
+    let e = goes-on (now (a .words)) (now (a .segments)) (a .t) (o .at) (o .count) (o .area) (b .last .1 .1 .1 .0) (b .ensures .1) _ _ _
+    (ap (λ (f : List Bool). meant f (r .last .0)) (c .before .before .before .before .before .before .all-flat .ensures) ∙ r .ensures .1) (c .before .before .before .run .ensures .1) in
+    let d = stopped (now (a .words)) (now (a .segments)) (a .t) (a .width) (a .tx) (a .ty) (now (a .pixels)) _ _ noColour refl e _ (c .before .v .given .1) in
+    (d .0, d .1, c .before .before .before .run .ensures .0)
 
 pub tile-spec : {M : Type 1} → statement M
 tile-spec =
@@ -145,7 +149,8 @@ tile-spec =
     fill-tile-requires
     same-length
     returns
-    same-colour-requires
+    start-rows-requires
+    all-flat-requires
     run-requires
     enum-told
     put-tile-requires

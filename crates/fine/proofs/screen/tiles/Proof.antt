@@ -9,9 +9,10 @@ use Rattle.lists.specs.Run as Walk
 use Rattle.panel.specs.declared.kinds.Answer.the-variants.{Done, Refused}
 use Rattle.panel.specs.declared.kinds.Verdict.{Verdict}
 use Rattle.panel.specs.declared.kinds.Verdict.the-variants.{Fine, Against}
-use Rattle.coverage.specs.Tile.{tileHeight}
+use Rattle.coverage.specs.Tile.{tileHeight, tileSize}
 use Rattle.fine.specs.Screen.{endsAt, ifFine, putTile, packed, colourAt, tilePixels}
 use Rattle.fine.specs.Fine.{shown, shownOf, tilesOf}
+use Rattle.fine.proofs.Flats.{no-colour-length}
 use Rattle.fine.proofs.Ranges.{some, on-screen, no-tiles, tile-stops, tile-goes}
 use native.Mathlib.Omega.{arith}
 use borrow.Author.Needs.{needs}
@@ -34,47 +35,49 @@ module _ (ws : List ℕ) (segs : List Float) (w cols from to t : ℕ) (pixels₀
     go d = ap (tilesOf ws segs w cols (t + 1) to) f ∙ sym (tile-goes ws segs w cols t to pixels h (sym d ∙ e)) ∙ inv
 
 abbrev Inv-loop : tie.InvT-loop
-Inv-loop words segments width cols rows from to pixels₀ t₀ pixels t = (from ≤ t) × (t ≤ to) × (length pixels ≡ length pixels₀) ×
-    (tilesOf words segments width cols t to pixels ≡ tilesOf words segments width cols from to pixels₀)
+Inv-loop words segments width cols rows from to pixels₀ rgba₀ t₀ pixels rgba t = (from ≤ t) × (t ≤ to) × (length pixels ≡ length pixels₀) ×
+    (tilesOf words segments width cols t to pixels ≡ tilesOf words segments width cols from to pixels₀) × (length rgba ≡ tileSize)
 
 abbrev μ-loop : tie.MeasureT-loop
-μ-loop words segments width cols rows from to pixels₀ t₀ pixels t = to - t
+μ-loop words segments width cols rows from to pixels₀ rgba₀ t₀ pixels rgba t = to - t
+
+no-colour-requires : tie.Need-no-colour-requires Inv-loop μ-loop
+no-colour-requires c κs = search needs
 
 loop-holds : tie.Need-loop-holds Inv-loop μ-loop
-loop-holds c = (search needs, search needs, refl, refl)
+loop-holds c = (search needs, search needs, refl, refl, ap length (c .no-colour .ensures) ∙ no-colour-length)
 
 cast-n : tie.Need-cast-n Inv-loop μ-loop
 cast-n c = search needs
 
 rem-tx : tie.Need-rem-tx Inv-loop μ-loop
-rem-tx c = some (c .before .before .before .before .before .args .cols) (c .before .before .before .before .before .args .rows) (c .before .loop .t) (omega arith)
+rem-tx c = some (c .before .before .before .before .before .before .args .cols) (c .before .before .before .before .before .before .args .rows) (c .before .loop .t) (omega arith)
 
 div-ty : tie.Need-div-ty Inv-loop μ-loop
-div-ty c = some (c .before .before .before .before .before .args .cols) (c .before .before .before .before .before .args .rows) (c .before .loop .t) (omega arith)
+div-ty c = some (c .before .before .before .before .before .before .args .cols) (c .before .before .before .before .before .before .args .rows) (c .before .loop .t) (omega arith)
 
 tile-requires : tie.Need-tile-requires Inv-loop μ-loop
 tile-requires c κs =
-    let a = c .before .before .before .before .before .before .args in
-    on-screen (a .width) (a .cols) (a .rows) (c .before .before .loop .t) _ (omega arith) (c .before .before .before .before .before .before .pre .2)
-    (c .before .before .before .before .before .before .pre .3)
-    (subst (λ (n : ℕ). a .width * (tileHeight * a .rows) ≤ n) (sym (c .before .before .loop .inv .2))
-    (c .before .before .before .before .before .before .pre .4))
+    let s = c .before .before .before .before .before .before .before .before in
+    let a = s .args in
+    let l = c .before .before .before .loop in
+    let h = on-screen (a .width) (a .cols) (a .rows) (l .t) _ (omega arith) (s .pre .2) (s .pre .3)
+    (subst (λ (n : ℕ). a .width * (tileHeight * a .rows) ≤ n) (sym (l .inv .2)) (s .pre .4)) in
+    (h .0, h .1, h .2, h .3, h .4, l .inv .4)
 
 enum-known-v : tie.Need-enum-known-v Inv-loop μ-loop
 enum-known-v c = search needs
 
 same-length : tie.Need-same-length Inv-loop μ-loop
-same-length c = c .before .before .before .before .before .tile .kept .1 .1 .1 .1 .1 .1 .0 ∙ c .before .before .before .before .before .before .before .before .loop .inv .2
+same-length c = c .before .before .before .before .before .tile .kept .1 .1 .1 .1 .1 .1 .1 .0 ∙ c .before .before .before .before .before .before .before .before .before .loop .inv .2
 
 returns : tie.Need-returns Inv-loop μ-loop
 returns c =
-    let a = c .before .before .before .before .before .before .before .before .before .before .before .before .args in
-    stop (now (a .words)) (now (a .segments)) (a .width) (a .cols) (a .from) (a .to)
-    (c .before .before .before .before .before .before .before .before .loop .t) _
-    (c .before .before .before .before .before .before .before .before .loop .pixels)
-    (c .before .before .before .before .before .before .before .before .loop .inv .3)
-    (c .before .before .before .before .before .before .before .loop-test .taken) _ _ (c .before .before .before .before .before .tile .ensures .0)
-    (c .before .before .before .before .before .tile .ensures .1) _ (c .before .v .given .1)
+    let a = c .before .before .before .before .before .before .before .before .before .before .before .before .before .before .args in
+    let l = c .before .before .before .before .before .before .before .before .before .loop in
+    let e = c .before .before .before .before .before .tile .ensures in
+    stop (now (a .words)) (now (a .segments)) (a .width) (a .cols) (a .from) (a .to) (l .t) _ (l .pixels) (l .inv .3) (c .before .before .before .before .before .before .before .before .loop-test .taken) _ _ (e .0) (e .1) _
+    (c .before .v .given .1)
 
 enum-told : tie.Need-enum-told Inv-loop μ-loop
 enum-told c = search needs
@@ -87,15 +90,15 @@ loop-less c = search needs
 
 loop-again : tie.Need-loop-again Inv-loop μ-loop
 loop-again c =
-    let a = c .before .before .before .before .before .before .before .before .before .before .before .args in (
+    let a = c .before .before .before .before .before .before .before .before .before .before .before .before .before .args in
+    let l = c .before .before .before .before .before .before .before .before .loop in
+    let e = c .before .before .before .before .tile .ensures in (
       search needs,
       search needs,
-      c .before .before .before .before .tile .kept .1 .1 .1 .1 .1 .1 .0 ∙ c .before .before .before .before .before .before .before
-          .loop .inv .2,
-      go (now (a .words)) (now (a .segments)) (a .width) (a .cols) (a .from) (a .to)
-          (c .before .before .before .before .before .before .before .loop .t) _ (c .before .before .before .before .before .before .before .loop .pixels)
-          (c .before .before .before .before .before .before .before .loop .inv .3) (c .before .before .before .before .before .before .loop-test .taken) _ _
-          (c .before .before .before .before .tile .ensures .0) (c .before .before .before .before .tile .ensures .1) (c .enum-told .given .1),
+      c .before .before .before .before .tile .kept .1 .1 .1 .1 .1 .1 .1 .0 ∙ l .inv .2,
+      go (now (a .words)) (now (a .segments)) (a .width) (a .cols) (a .from) (a .to) (l .t) _ (l .pixels) (l .inv .3) (c .before .before .before .before .before .before .before .loop-test .taken) _ _ (e .0) (e .1)
+          (c .enum-told .given .1),
+      e .2,
     )
 
 same-length-2 : tie.Need-same-length-2 Inv-loop μ-loop
@@ -103,7 +106,7 @@ same-length-2 c = c .before .loop .inv .2
 
 returns-2 : tie.Need-returns-2 Inv-loop μ-loop
 returns-2 c =
-    let a = c .before .before .before .before .before .args in
+    let a = c .before .before .before .before .before .before .args in
     over (now (a .words)) (now (a .segments)) (a .width) (a .cols) (a .from) (a .to) (c .before .loop .t) _ (c .before .loop .pixels) (c .before .loop .inv .3) (c .loop-test .left)
 
 pub tiles-spec : {M : Type 1} → statement M
@@ -112,6 +115,7 @@ tiles-spec =
     (tie.spec
     Inv-loop
     μ-loop
+    no-colour-requires
     loop-holds
     cast-n
     rem-tx

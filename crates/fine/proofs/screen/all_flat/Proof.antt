@@ -1,0 +1,12 @@
+-- `fine::screen::all_flat` meets its contract. Assumes nothing.
+use mathlib.Core.Path.{refl}
+use Rattle.fine.specs.Screen.{allFlat}
+use Rattle.fine.proofs.screen.all_flat.Statement.{statement}
+use Rattle.fine.proofs.screen.all_flat.Tie as tie
+
+returns : tie.Need-returns
+unfolding allFlat
+returns c = refl
+
+pub all-flat-spec : {M : Type 1} → statement M
+all-flat-spec = tie.close (tie.spec returns)
