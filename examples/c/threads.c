@@ -70,8 +70,8 @@ int main(void) {
     printf("one call: %u, pixels that differ: %u\n", no, differ);
 
     /* Red is in the lowest byte, blue in the third. */
-    for (int y = 0; y < GP_TILE * ROWS; y += 2) {
-        for (int x = 0; x < WIDTH; x++) {
+    for (uint32_t y = 0; y < GP_TILE * ROWS; y += 2) {
+        for (uint32_t x = 0; x < WIDTH; x++) {
             uint32_t p = bands[WIDTH * y + x];
             putchar(p >> 24 < 64 ? '.' : (p >> 16 & 255) > 127 ? 'b' : 'r');
         }
