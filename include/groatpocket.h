@@ -16,9 +16,9 @@
  * runs, not proved.
  *
  * Threads: the archive has no data of its own. Calls may run at once, on any threads, where no call
- * writes what another reads or writes: they may share what all of them only read. So one screen may
- * be drawn by several calls of gp_fine at once over ranges of tiles only where each has pixels of its
- * own: the slice of pixels that a call is lent is its own while it runs.
+ * writes what another reads or writes: they may share what all of them only read. The slice of pixels
+ * that a call is lent is its own while it runs; gp_fine_rows draws a band of the screen in a slice of
+ * its own, so that several may draw one screen at once.
  *
  * Stack: under 65,536 bytes for gp_write_lists and under 8,192 for any other call, no recursion, nothing allocated. From outside it needs memcpy
  * and memset alone.
@@ -344,6 +344,18 @@ uint32_t gp_svg_lines(const uint8_t *text, size_t text_len,
                       uint32_t *path_nos, size_t path_nos_len,
                       float *coords, size_t coords_len,
                       size_t *lines, size_t *place);
+
+/* A band of gp_fine's screen: its tile rows from first up to end. pixels is the band's own slice, from the
+ * first pixel of row GP_TILE * first of the screen on, width * GP_TILE * (end - first) of them or more (else
+ * 16). Calls over bands that don't meet may run at once, and share words and segments; wherever the rows
+ * are cut, the bands' pixels one after another are what gp_fine leaves on the whole screen. *item is the
+ * tile's number on the whole screen. Where bands refuse, the refusal of the uppermost is gp_fine's; gp_fine
+ * would draw nothing after it.
+ * 1: segments whole; first <= end; end <= rows. */
+uint32_t gp_fine_rows(const uint32_t *words, size_t words_len,
+                      const float *segments, size_t segments_len,
+                      uint32_t width, uint32_t cols, uint32_t rows, uint32_t first, uint32_t end,
+                      uint32_t *pixels, size_t pixels_len, uint32_t *item);
 
 /* The float helpers: each is the rules' own, docs/RULES.md, "Float meanings". */
 float gp_floor(float x);

@@ -80,7 +80,7 @@ shut A M No P Q before a b m n one two p q fine not new =
     }
 
 -- two lists that differ at place k
-apart : (l m : List ℕ) (k : ℕ) → getD l k 0 ≢ getD m k 0 → l ≢ m
+pub apart : (l m : List ℕ) (k : ℕ) → getD l k 0 ≢ getD m k 0 → l ≢ m
 apart l m k h e = h (ap (λ (x : List ℕ). getD x k 0) e)
 
 -- and two of floats of which only one has a NaN there
@@ -179,7 +179,7 @@ fill-shut =
 
 -- ---- fine: SOLID and COLOR 204060ff on a screen of one tile; and a range past it
 
-abbrev one-list : List ℕ
+abbrev pub one-list : List ℕ
 one-list = 0 ∷ encode Solid ++ encode (Color 0x2040_60ff) ++ (endNo ∷ [])
 
 abbrev FineAt : (to : ℕ) → Answer → List ℕ → Type 0

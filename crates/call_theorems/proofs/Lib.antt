@@ -3,7 +3,7 @@
 --     Cheats       no cheat meets a promise: one law, and an instance for each call
 --     Drawn        from counting to the screen: no tile is refused, and the pixels are those of painting
 --     FillTags     every slot of a written FILL carries the beam number of the path that it was written for
---     ExactCount, ExactStages, ExactTile, ExactLists, ExactFrame, ExactPpm, ExactPixel   exact at the call: a promise is met where one of the call's ways holds, and nowhere else
+--     ExactCount, ExactStages, ExactTile, ExactLists, ExactFrame, ExactPpm, ExactPixel, ExactBands   exact at the call: a promise is met where one of the call's ways holds, and nowhere else
 --     CheckAnswers   the same of a check of another's tables
 pub mod OneAnswer
 pub mod Cheats
@@ -14,6 +14,7 @@ pub mod ExactLists
 pub mod ExactFrame
 pub mod ExactPpm
 pub mod ExactPixel
+pub mod ExactBands
 pub mod Drawn
 pub mod FillTags
 pub mod CheckAnswers

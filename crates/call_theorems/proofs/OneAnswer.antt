@@ -15,7 +15,7 @@ use Rattle.ppm_read.specs.Read.{ReadMet}
 use Rattle.ppm_read.specs.declared.Answer.{Answer}
 use Rattle.ppm_read.proofs.Answers as Read
 use Rattle.groatpocket.specs.Seen.{Seen, seen, SeenAt, seenAt}
-use Rattle.groatpocket.specs.Calls.{CountSeen, GpFillMet, GpBackdropMet, GpHandMet, GpTileMet, GpFineMet, GpCountMet}
+use Rattle.groatpocket.specs.Calls.{CountSeen, GpFillMet, GpBackdropMet, GpHandMet, GpTileMet, GpFineMet, GpFineRowsMet, GpCountMet}
 use Rattle.groatpocket.specs.CallFrame.{FrameSeen, GpFrameMet}
 use Rattle.groatpocket.specs.CallLists.{GpListsMet}
 use Rattle.groatpocket.specs.CallPixel.{GpPixelAreaMet, GpPixelMet}
@@ -68,6 +68,11 @@ pub one-gp-fine : (words : List ℕ) (segs : List Float) (width cols rows from t
     → GpFineMet words segs width cols rows from to pixels r i pixels₁ → GpFineMet words segs width cols rows from to pixels s j pixels₂
     → (r ≡ s) × (i ≡ j) × (pixels₁ ≡ pixels₂)
 one-gp-fine words segs width cols rows from to pixels r s i j pixels₁ pixels₂ p q = same-seen-at r s i j pixels₁ pixels₂ _ p q
+
+pub one-gp-fine-rows : (words : List ℕ) (segs : List Float) (width cols rows first end : ℕ) (pixels : List ℕ) (r s i j : ℕ) (pixels₁ pixels₂ : List ℕ)
+    → GpFineRowsMet words segs width cols rows first end pixels r i pixels₁ → GpFineRowsMet words segs width cols rows first end pixels s j pixels₂
+    → (r ≡ s) × (i ≡ j) × (pixels₁ ≡ pixels₂)
+one-gp-fine-rows words segs width cols rows first end pixels r s i j pixels₁ pixels₂ p q = same-seen-at r s i j pixels₁ pixels₂ _ p q
 
 pub one-gp-count : (l m end : ℕ) (nos : List ℕ) (coords : List Float) (paths : List ℕ) (bs : List ℤ) (cs rs : List ℕ) (r s i j l₁ l₂ m₁ m₂ : ℕ) (bs₁ bs₂ : List ℤ) (cs₁ cs₂ rs₁ rs₂ : List ℕ)
     → GpCountMet l m end nos coords paths bs cs rs r i l₁ m₁ bs₁ cs₁ rs₁ → GpCountMet l m end nos coords paths bs cs rs s j l₂ m₂ bs₂ cs₂ rs₂

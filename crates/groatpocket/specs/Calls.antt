@@ -8,6 +8,7 @@ use lib.IntN.{ℤ}
 use lib.Ieee.{Float}
 use Rattle.coverage.specs.Fill as Fill
 use Rattle.fine.specs.Fine as Fine
+use Rattle.bands.specs.Bands as Bands
 use Rattle.backdrop.specs.Backdrop as Backdrop
 use Rattle.hand_out.specs.HandOut as HandOut
 use Rattle.path_tiling.specs.Look.{Lent}
@@ -98,6 +99,10 @@ GpTileMet from to L p r at p′ = seenAt r at p′ ≡ tileSeen (Tiling.tiledOf 
 
 abbrev pub GpFineMet : List ℕ → List Float → ℕ → ℕ → ℕ → ℕ → ℕ → (pixels : List ℕ) → ℕ → ℕ → (pixels′ : List ℕ) → Type 0
 GpFineMet words segs width cols rows from to pixels r at pixels′ = seenAt r at pixels′ ≡ fineSeen (Fine.fineOf words segs width cols rows from to pixels)
+
+-- a band is seen as fine is, with its own pixels
+abbrev pub GpFineRowsMet : List ℕ → List Float → ℕ → ℕ → ℕ → ℕ → ℕ → (pixels : List ℕ) → ℕ → ℕ → (pixels′ : List ℕ) → Type 0
+GpFineRowsMet words segs width cols rows first end pixels r at pixels′ = seenAt r at pixels′ ≡ fineSeen (Bands.bandOf words segs width cols rows first end pixels)
 
 -- from the lines and references so far, l and m, to those afterwards, l′ and m′
 abbrev pub GpCountMet : ℕ → ℕ → ℕ → (nos : List ℕ) (coords : List Float) (paths : List ℕ) (bs : List ℤ) (cs rs : List ℕ) → ℕ → ℕ → ℕ → ℕ → (bs′ : List ℤ) (cs′ rs′ : List ℕ) → Type 0

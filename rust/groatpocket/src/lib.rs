@@ -65,7 +65,8 @@
 //!
 //! The stages of a frame are calls too, for whoever feeds lines in batches: [`count`], [`backdrop`], [`hand_out`],
 //! [`tile`]. Where one gauge has moved, its path alone is counted again: [`recount`]. What another has counted, a graphics card, is
-//! held against our own count before it is used: [`check`]. One pixel can be asked for by itself: [`pixel`], [`pixel_area`]. Lines of an outline can be read from
+//! held against our own count before it is used: [`check`]. One pixel can be asked for by itself: [`pixel`], [`pixel_area`]. Threads can
+//! draw one screen at once, a band of its rows each: [`fine_rows`]. Lines of an outline can be read from
 //! SVG: [`svg_lines`].
 //!
 //! Nothing is allocated and the crate is `no_std`. It links `libgroatpocket.a`: see its README. Colours are multiplied by
@@ -99,6 +100,8 @@
 #![no_std]
 #![warn(missing_docs)]
 
+#[cfg(feature = "bands")]
+mod bands;
 #[cfg(feature = "check")]
 mod check;
 #[cfg(feature = "frame")]
@@ -119,6 +122,8 @@ mod stages;
 #[cfg(feature = "svg")]
 mod svg;
 
+#[cfg(feature = "bands")]
+pub use bands::fine_rows;
 #[cfg(feature = "check")]
 pub use check::{check, work_needed, Check, Found};
 #[cfg(feature = "frame")]

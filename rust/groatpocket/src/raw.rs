@@ -137,4 +137,12 @@ extern "C" {
         coords: *mut f32, coords_len: usize,
         lines: &mut usize, place: &mut usize,
     ) -> u32;
+
+    pub fn gp_fine_rows(
+        words: *const u32, words_len: usize,
+        segments: *const f32, segments_len: usize,
+        width: u32, cols: u32, rows: u32, first: u32, end: u32,
+        pixels: *mut u32, pixels_len: usize,
+        item: &mut u32,
+    ) -> u32;
 }

@@ -85,6 +85,9 @@ extern uint32_t gp_check(const uint32_t *path_nos, size_t path_nos_len, const fl
 #ifdef HAS_SVG
 extern uint32_t gp_svg_lines(const uint8_t *text, size_t text_len, uint32_t depth, uint32_t path, uint32_t *path_nos, size_t path_nos_len, float *coords, size_t coords_len, size_t *lines, size_t *place);
 #endif
+#ifdef HAS_BANDS
+extern uint32_t gp_fine_rows(const uint32_t *words, size_t words_len, const float *segments, size_t segments_len, uint32_t width, uint32_t cols, uint32_t rows, uint32_t first, uint32_t end, uint32_t *pixels, size_t pixels_len, uint32_t *item);
+#endif
 
 static uint32_t run(uint32_t which) {
     uint32_t *n = numbers;
@@ -187,6 +190,12 @@ static uint32_t run(uint32_t which) {
         uint32_t answer = gp_svg_lines(SLICE(0, uint8_t), (uint32_t)n[0], (uint32_t)n[1], SLICE(1, uint32_t), SLICE(2, float), &lines, &place);
         n[2] = (uint32_t)lines;
         n[3] = (uint32_t)place;
+        return answer;
+    }
+#endif
+#ifdef HAS_BANDS
+    case 16: { /* fine_rows */
+        uint32_t answer = gp_fine_rows(SLICE(0, uint32_t), SLICE(1, float), (uint32_t)n[0], (uint32_t)n[1], (uint32_t)n[2], (uint32_t)n[3], (uint32_t)n[4], SLICE(2, uint32_t), &n[5]);
         return answer;
     }
 #endif

@@ -183,6 +183,16 @@ uint32_t __wrap_gp_svg_lines(const uint8_t *text, size_t text_len, uint32_t dept
     return answer;
 }
 
+uint32_t __real_gp_fine_rows(const uint32_t *words, size_t words_len, const float *segments, size_t segments_len, uint32_t width, uint32_t cols, uint32_t rows, uint32_t first, uint32_t end, uint32_t *pixels, size_t pixels_len, uint32_t *item);
+uint32_t __wrap_gp_fine_rows(const uint32_t *words, size_t words_len, const float *segments, size_t segments_len, uint32_t width, uint32_t cols, uint32_t rows, uint32_t first, uint32_t end, uint32_t *pixels, size_t pixels_len, uint32_t *item) {
+    uint32_t answer = __real_gp_fine_rows(words, words_len, segments, segments_len, width, cols, rows, first, end, pixels, pixels_len, item);
+    if (strikes("fine_rows pixels", answer == 0 && pixels_len > 0)) flip(pixels + pixels_len / 2);
+    if (strikes("fine_rows pixels refused", answer != 0 && pixels_len > 0)) flip(pixels + pixels_len / 2);
+    if (strikes("fine_rows item", answer != 0)) *item += 1;
+    if (strikes("fine_rows answer", 1)) answer ^= 1;
+    return answer;
+}
+
 #ifndef BRIDGED /* over the bridge the helpers are no functions of their own */
 
 float __real_gp_floor(float x);

@@ -25,6 +25,7 @@ pub const NAMES: &[&str] = &[
     "recount",
     "check",
     "svg_lines",
+    "fine_rows",
 ];
 
 /// The slices that a call of a kind may change.
@@ -45,6 +46,7 @@ pub const CHANGED: &[&[usize]] = &[
     &[4, 5, 6, 7, 8],
     &[7],
     &[1, 2],
+    &[2],
 ];
 
 /// The slices that are bytes, a word for each.
@@ -65,6 +67,7 @@ pub const BYTES: &[&[usize]] = &[
     &[],
     &[],
     &[0],
+    &[],
 ];
 
 /// How many slices and numbers a call of a kind takes.
@@ -85,6 +88,7 @@ pub const SHAPES: &[(usize, usize)] = &[
     (9, 1),
     (8, 1),
     (3, 2),
+    (3, 5),
 ];
 
 /// Whether a call of a kind is linked.
@@ -105,6 +109,7 @@ pub const LINKED: &[bool] = &[
     ours::has::RECOUNT,
     ours::has::CHECK,
     ours::has::SVG,
+    ours::has::BANDS,
 ];
 
 macro_rules! answered_by {
@@ -338,6 +343,21 @@ macro_rules! answered_by {
                     );
                     text_bytes.give_back(text.u32s_mut());
                     vec![no, 0, lines as u32, place as u32]
+                }
+                (16, [words, segments, pixels]) => {
+                    let mut item = UNTOLD;
+                    let no = $side::fine_rows(
+                        words.u32s(),
+                        segments.f32s(),
+                        n[0],
+                        n[1],
+                        n[2],
+                        n[3],
+                        n[4],
+                        pixels.u32s_mut(),
+                        &mut item,
+                    );
+                    vec![no, item]
                 }
                 _ => panic!("no call of kind {}", call.kind),
             };

@@ -104,6 +104,45 @@ fn any_words(rng: &mut Rng, n: usize) -> Vec<u32> {
         .collect()
 }
 
+/// A screen of at most so many tile rows, with its lists, as a good caller lends it; no range is named yet.
+pub fn made(rng: &mut Rng, rows_most: i64) -> Case {
+    let n_segments = rng.pick(&[0, 1, 4, 9]) as u32;
+    let list: Vec<u32> = segments::list(rng, n_segments as usize).into_iter().map(f32::to_bits).collect();
+    let (cols, rows) = (rng.range(0, 3) as u32, rng.range(0, rows_most) as u32);
+    let tiles = (cols * rows) as usize;
+    let mut case =
+        Case { lists: Lists::default(), segments: list, width: 16 * cols + rng.below(4) as u32, cols, rows, ranges: vec![], pixels: 0, paired: true };
+    let wild = rng.pick(&[3, 12, 100]);
+    case.lists = Lists::new(REGION * (tiles + 1), 77);
+    match rng.below(16) {
+        0 => {
+            let n = COMMANDS_MOST as usize + rng.pick(&[0, 1, 1, 2, 3]) - 1;
+            let last = rng.pick(&[Command::End, Command::End, Command::Unknown(99), Command::Solid]);
+            case.lists = chain(rng, n, last);
+            (case.cols, case.rows, case.width) = (1, 1, 16);
+        }
+        1 => {
+            let n = rng.below(70) as usize;
+            case.lists = Lists::of_words(any_words(rng, n));
+            case.paired = false;
+        }
+        _ => {
+            let mut fresh = REGION * tiles;
+            let grown = REGION * (tiles + 12 * tiles.max(1));
+            case.lists = Lists::new(grown, 77);
+            let mut starts = vec![];
+            for t in 0..tiles {
+                put_list(rng, &mut case.lists, t, &mut fresh, &mut starts, n_segments, wild);
+            }
+            if rng.one_in(6) {
+                case.lists.cut(rng.below(fresh as u64 + 1) as usize);
+            }
+        }
+    }
+    case.pixels = (case.width * 16 * case.rows) as usize + rng.below(3) as usize;
+    case
+}
+
 impl Stage for Fine {
     type Case = Case;
     const NAME: &'static str = "fine";
@@ -111,49 +150,8 @@ impl Stage for Fine {
     const LEAST: u64 = 25_000;
 
     fn make(&self, rng: &mut Rng) -> Case {
-        let n_segments = rng.pick(&[0, 1, 4, 9]) as u32;
-        let list: Vec<u32> = segments::list(rng, n_segments as usize).into_iter().map(f32::to_bits).collect();
-        let (cols, rows) = (rng.range(0, 3) as u32, rng.range(0, 2) as u32);
-        let tiles = (cols * rows) as usize;
-        let mut case = Case {
-            lists: Lists::default(),
-            segments: list,
-            width: 16 * cols + rng.below(4) as u32,
-            cols,
-            rows,
-            ranges: vec![],
-            pixels: 0,
-            paired: true,
-        };
-        let wild = rng.pick(&[3, 12, 100]);
-        case.lists = Lists::new(REGION * (tiles + 1), 77);
-        match rng.below(16) {
-            0 => {
-                let n = COMMANDS_MOST as usize + rng.pick(&[0, 1, 1, 2, 3]) - 1;
-                let last = rng.pick(&[Command::End, Command::End, Command::Unknown(99), Command::Solid]);
-                case.lists = chain(rng, n, last);
-                (case.cols, case.rows, case.width) = (1, 1, 16);
-            }
-            1 => {
-                let n = rng.below(70) as usize;
-                case.lists = Lists::of_words(any_words(rng, n));
-                case.paired = false;
-            }
-            _ => {
-                let mut fresh = REGION * tiles;
-                let grown = REGION * (tiles + 12 * tiles.max(1));
-                case.lists = Lists::new(grown, 77);
-                let mut starts = vec![];
-                for t in 0..tiles {
-                    put_list(rng, &mut case.lists, t, &mut fresh, &mut starts, n_segments, wild);
-                }
-                if rng.one_in(6) {
-                    case.lists.cut(rng.below(fresh as u64 + 1) as usize);
-                }
-            }
-        }
+        let mut case = made(rng, 2);
         let tiles = case.cols * case.rows;
-        case.pixels = (case.width * 16 * case.rows) as usize + rng.below(3) as usize;
         let mut from = 0;
         while rng.one_in(3) {
             let to = rng.range(from as i64, tiles as i64) as u32;
@@ -229,7 +227,7 @@ impl Stage for Fine {
 }
 
 /// Sizes, ranges and lengths that a caller may get wrong.
-fn hostile(rng: &mut Rng, case: &mut Case) {
+pub fn hostile(rng: &mut Rng, case: &mut Case) {
     match rng.below(14) {
         0 => _ = case.segments.pop(),
         1 => case.segments.push(3),
@@ -254,7 +252,7 @@ fn hostile(rng: &mut Rng, case: &mut Case) {
 }
 
 /// Each tile as a screen of one tile, entered by a JUMP at word 1.
-fn by_the_rust(case: &Case, mut was: Lent, from: u32, stop: u32, wanted: &Lent) -> Result<(), String> {
+pub fn by_the_rust(case: &Case, mut was: Lent, from: u32, stop: u32, wanted: &Lent) -> Result<(), String> {
     let segments = oracle::segments_of(as_f32(&case.segments));
     let mut theirs = case.lists.theirs();
     for t in from..stop {

@@ -25,10 +25,11 @@ const LIMITS: [u32; 11] = [
     COORD_MOST.to_bits(),
 ];
 
-/// The numbers of the calls whose lists may be endless: the screen's, and a pixel's.
+/// The numbers of the calls whose lists may be endless: the screen's, its bands', and a pixel's.
 const FINE: u32 = 6;
 const PIXEL: u32 = 12;
-const LISTS: [u32; 2] = [FINE, PIXEL];
+const FINE_ROWS: u32 = kind_of("fine_rows");
+const LISTS: [u32; 3] = [FINE, PIXEL, FINE_ROWS];
 
 const SVG_LINES: u32 = kind_of("svg_lines");
 
@@ -165,6 +166,13 @@ fn good(rng: &mut Rng, kind: u32) -> Call {
             let list_words = (0..REGION as u32 * cols * rows).map(|k| if k % REGION as u32 == 0 { 0 } else { rng.below(6) as u32 }).collect();
             let pixels = words(rng, (256 * cols * rows) as usize);
             (vec![16 * cols, cols, rows, 0, cols * rows], vec![list_words, list, pixels])
+        }
+        FINE_ROWS => {
+            let (cols, rows, first) = (rng.below(3) as u32, rng.below(3) as u32, rng.below(2) as u32);
+            let (first, end) = (first.min(rows), rows);
+            let list_words = (0..REGION as u32 * cols * rows).map(|k| if k % REGION as u32 == 0 { 0 } else { rng.below(6) as u32 }).collect();
+            let pixels = words(rng, (256 * cols * (end - first)) as usize);
+            (vec![16 * cols, cols, rows, first, end], vec![list_words, list, pixels])
         }
         SVG_LINES => {
             let commands = rng.below(6);

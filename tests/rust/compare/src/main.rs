@@ -21,6 +21,7 @@ mod dispatch;
 mod fill;
 mod findings;
 mod fine;
+mod fine_rows;
 mod floats;
 mod frame;
 mod hand_out;
@@ -106,7 +107,7 @@ fn run<S: Stage>(stage: &S, args: &Args, linked: bool, seconds: f64) -> bool {
     stage::run(stage, Sides { ours, rust: oracle::AT_HAND }, budget)
 }
 
-const STAGES: [&str; 16] = [
+const STAGES: [&str; 17] = [
     "floats",
     "backdrop",
     "hand_out",
@@ -114,6 +115,7 @@ const STAGES: [&str; 16] = [
     "tile",
     "fill",
     "fine",
+    "fine_rows",
     "frame",
     "write_lists",
     "picture",
@@ -139,6 +141,7 @@ fn stages(args: &Args) -> bool {
     well &= run(&tiling::Tile, args, ours::has::TILE, 18.0);
     well &= run(&fill::Fill, args, ours::has::FILL, 6.0);
     well &= run(&fine::Fine, args, ours::has::FINE, 12.0);
+    well &= run(&fine_rows::FineRows, args, ours::has::BANDS && ours::has::FINE, 8.0);
     well &= run(&frame::Frame, args, ours::has::FRAME, 12.0);
     well &= run(&write_lists::WriteLists, args, ours::has::LISTS, 12.0);
     well &= picture(args);

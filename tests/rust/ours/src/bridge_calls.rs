@@ -384,3 +384,26 @@ unsafe extern "C" fn gp_svg_lines(
     *place = n[3] as usize;
     answer
 }
+
+#[cfg(feature = "bands")]
+#[no_mangle]
+unsafe extern "C" fn gp_fine_rows(
+    words: *const u32, words_len: usize,
+    segments: *const f32, segments_len: usize,
+    width: u32, cols: u32, rows: u32, first: u32, end: u32,
+    pixels: *mut u32, pixels_len: usize,
+    item: &mut u32,
+) -> u32 {
+    let mut n = [width, cols, rows, first, end, *item];
+    let answer = call(
+        16,
+        &mut n,
+        vec![
+            read_only(words, words_len),
+            read_only(segments, segments_len),
+            changed(pixels, pixels_len),
+        ],
+    );
+    *item = n[5];
+    answer
+}

@@ -376,3 +376,27 @@ pub fn svg_lines(
     #[cfg(not(feature = "svg"))]
     not_linked(("svg_lines", text, depth, path, path_nos, coords, lines, place))
 }
+
+pub fn fine_rows(
+    words: &[u32],
+    segments: &[f32],
+    width: u32,
+    cols: u32,
+    rows: u32,
+    first: u32,
+    end: u32,
+    pixels: &mut [u32],
+    item: &mut u32,
+) -> u32 {
+    #[cfg(all(feature = "bands", not(bridge)))]
+    if crate::null::is_lent(&[words.len(), segments.len(), pixels.len()]) {
+        // SAFETY: every pointer and length is a slice's, lent for the call alone, or NULL and 0.
+        return unsafe { groatpocket::raw::gp_fine_rows(crate::null::at(words), words.len(), crate::null::at(segments), segments.len(), width, cols, rows, first, end, crate::null::at_mut(pixels), pixels.len(), item) };
+    }
+    #[cfg(feature = "bands")]
+    let answer = groatpocket::fine_rows(words, segments, groatpocket::Screen { width, cols, rows }, first, end, pixels);
+    #[cfg(feature = "bands")]
+    return crate::answers::item(answer, item);
+    #[cfg(not(feature = "bands"))]
+    not_linked(("fine_rows", words, segments, width, cols, rows, first, end, pixels, item))
+}

@@ -39,6 +39,7 @@ pub mod has {
     pub const RECOUNT: bool = cfg!(feature = "recount");
     pub const CHECK: bool = cfg!(feature = "check");
     pub const SVG: bool = cfg!(feature = "svg");
+    pub const BANDS: bool = cfg!(feature = "bands");
 }
 
 /// A float helper over many operands; the numbers are those of the list of floats (01 floor .. 20 clamp).

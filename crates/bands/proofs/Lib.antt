@@ -1,0 +1,3 @@
+pub mod BandLaws
+pub mod Windows
+pub mod Cutting
