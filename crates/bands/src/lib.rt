@@ -3,6 +3,7 @@
 // from the band's first.
 use coverage::tile::TILE_HEIGHT;
 use coverage::tile::TILE_WIDTH;
+use fine::screen::no_colour;
 use fine::screen::tile;
 use panel::kinds::Answer;
 use panel::kinds::Verdict;
@@ -72,12 +73,13 @@ fn tiles(
     ensures { λ r. ⌜ shown r (now (pixels .exit)) ≡ shownOf (bandTiles (now (words .entry)) (now (segments .entry)) width cols base 0 (cols * rows) (now (pixels .entry))) ⌝ }
 {
     let n = cols * rows;
+    let mut rgba = no_colour();
     let mut k = 0usize;
     while k < n {
         let t = base + k;
         let tx = k % cols;
         let ty = k / cols;
-        let v = tile(words, segments, t, width, tx, ty, pixels);
+        let v = tile(words, segments, t, width, tx, ty, &mut rgba, pixels);
         if let Verdict::Against(no) = v {
             let at = t as u32;
             return Answer::Refused(no, at);

@@ -10,9 +10,10 @@ use Rattle.panel.specs.Limits.{mostTiles}
 use Rattle.panel.specs.declared.kinds.Answer.the-variants.{Done, Refused}
 use Rattle.panel.specs.declared.kinds.Verdict.{Verdict}
 use Rattle.panel.specs.declared.kinds.Verdict.the-variants.{Fine, Against}
-use Rattle.coverage.specs.Tile.{tileWidth, tileHeight}
+use Rattle.coverage.specs.Tile.{tileWidth, tileHeight, tileSize}
 use Rattle.fine.specs.Screen.{endsAt, ifFine, putTile, packed, colourAt, tilePixels}
 use Rattle.fine.specs.Fine.{shown, shownOf}
+use Rattle.fine.proofs.Flats.{no-colour-length}
 use Rattle.fine.proofs.Ranges.{some, on-screen}
 use Rattle.bands.specs.Bands.{bandTiles}
 use Rattle.bands.proofs.BandLaws.{no-tiles, tile-stops, tile-goes}
@@ -42,34 +43,38 @@ module _ (ws : List ℕ) (segs : List Float) (w cols base to k : ℕ) (pixels₀
     go d = ap (bandTiles ws segs w cols base (k + 1) to) f ∙ sym (tile-goes ws segs w cols base k to pixels h (sym d ∙ e)) ∙ inv
 
 abbrev Inv-loop : tie.InvT-loop
-Inv-loop words segments width cols rows base pixels₀ n k₀ pixels k = (k ≤ n) × (length pixels ≡ length pixels₀) ×
-    (bandTiles words segments width cols base k n pixels ≡ bandTiles words segments width cols base 0 n pixels₀)
+Inv-loop words segments width cols rows base pixels₀ n rgba₀ k₀ pixels rgba k = (k ≤ n) × (length pixels ≡ length pixels₀) ×
+    (bandTiles words segments width cols base k n pixels ≡ bandTiles words segments width cols base 0 n pixels₀) × (length rgba ≡ tileSize)
 
 abbrev μ-loop : tie.MeasureT-loop
-μ-loop words segments width cols rows base pixels₀ n k₀ pixels k = n - k
+μ-loop words segments width cols rows base pixels₀ n rgba₀ k₀ pixels rgba k = n - k
 
 mul-n : tie.Need-mul-n Inv-loop μ-loop
 mul-n c = search needs
 
+no-colour-requires : tie.Need-no-colour-requires Inv-loop μ-loop
+no-colour-requires c κs = search needs
+
 loop-holds : tie.Need-loop-holds Inv-loop μ-loop
-loop-holds c = (search needs, refl, refl)
+loop-holds c = (search needs, refl, refl, ap length (c .no-colour .ensures) ∙ no-colour-length)
 
 add-t : tie.Need-add-t Inv-loop μ-loop
 add-t c = search needs
 
 rem-tx : tie.Need-rem-tx Inv-loop μ-loop
-rem-tx c = some (c .before .before .before .before .before .args .cols) (c .before .before .before .before .before .args .rows) (c .before .loop .k) (c .loop-test .taken)
+rem-tx c = some (c .before .before .before .before .before .before .args .cols) (c .before .before .before .before .before .before .args .rows) (c .before .loop .k) (c .loop-test .taken)
 
 div-ty : tie.Need-div-ty Inv-loop μ-loop
-div-ty c = some (c .before .before .before .before .before .args .cols) (c .before .before .before .before .before .args .rows) (c .before .loop .k) (c .loop-test .taken)
+div-ty c = some (c .before .before .before .before .before .before .args .cols) (c .before .before .before .before .before .before .args .rows) (c .before .loop .k) (c .loop-test .taken)
 
 tile-requires : tie.Need-tile-requires Inv-loop μ-loop
 tile-requires c κs =
-    let a = c .before .before .before .before .before .before .args in
-    let p = c .before .before .before .before .before .before .pre in
-    let l = c .before .before .loop in
-    on-band (a .width) (a .cols) (a .rows) (a .base) (l .k) _ (c .before .loop-test .taken) (p .0) (p .1)
-    (subst (λ (n : ℕ). a .width * (tileHeight * a .rows) ≤ n) (sym (l .inv .1)) (p .2))
+    let s = c .before .before .before .before .before .before .before .before in
+    let a = s .args in
+    let l = c .before .before .before .loop in
+    let h = on-band (a .width) (a .cols) (a .rows) (a .base) (l .k) _ (c .before .before .loop-test .taken) (s .pre .0) (s .pre .1)
+    (subst (λ (n : ℕ). a .width * (tileHeight * a .rows) ≤ n) (sym (l .inv .1)) (s .pre .2)) in
+    (h .0, h .1, h .2, h .3, h .4, l .inv .3)
 
 enum-known-v : tie.Need-enum-known-v Inv-loop μ-loop
 enum-known-v c = search needs
@@ -78,15 +83,15 @@ cast-at : tie.Need-cast-at Inv-loop μ-loop
 cast-at c = search needs
 
 same-length : tie.Need-same-length Inv-loop μ-loop
-same-length c = c .before .before .before .before .before .tile .kept .1 .1 .1 .1 .1 .1 .0 ∙ c .before .before .before .before .before .before .before .before .loop .inv .1
+same-length c = c .before .before .before .before .before .tile .kept .1 .1 .1 .1 .1 .1 .1 .0 ∙ c .before .before .before .before .before .before .before .before .before .loop .inv .1
 
 returns : tie.Need-returns Inv-loop μ-loop
 returns c =
-    let a = c .before .before .before .before .before .before .before .before .before .before .before .before .args in
-    let l = c .before .before .before .before .before .before .before .before .loop in
+    let a = c .before .before .before .before .before .before .before .before .before .before .before .before .before .before .args in
+    let l = c .before .before .before .before .before .before .before .before .before .loop in
     let t = c .before .before .before .before .before .tile in
     stop (now (a .words)) (now (a .segments)) (a .width) (a .cols) (a .base) (a .cols * a .rows) (l .k) _ (l .pixels) (l .inv .2)
-    (c .before .before .before .before .before .before .before .loop-test .taken) _ _ (t .ensures .0) (t .ensures .1) _ (c .before .v .given .1)
+    (c .before .before .before .before .before .before .before .before .loop-test .taken) _ _ (t .ensures .0) (t .ensures .1) _ (c .before .v .given .1)
 
 enum-told : tie.Need-enum-told Inv-loop μ-loop
 enum-told c = search needs
@@ -99,13 +104,14 @@ loop-less c = search needs
 
 loop-again : tie.Need-loop-again Inv-loop μ-loop
 loop-again c =
-    let a = c .before .before .before .before .before .before .before .before .before .before .before .args in
-    let l = c .before .before .before .before .before .before .before .loop in
+    let a = c .before .before .before .before .before .before .before .before .before .before .before .before .before .args in
+    let l = c .before .before .before .before .before .before .before .before .loop in
     let t = c .before .before .before .before .tile in (
       search needs,
-      t .kept .1 .1 .1 .1 .1 .1 .0 ∙ l .inv .1,
+      t .kept .1 .1 .1 .1 .1 .1 .1 .0 ∙ l .inv .1,
       go (now (a .words)) (now (a .segments)) (a .width) (a .cols) (a .base) (a .cols * a .rows) (l .k) _ (l .pixels) (l .inv .2)
-          (c .before .before .before .before .before .before .loop-test .taken) _ _ (t .ensures .0) (t .ensures .1) (c .enum-told .given .1),
+          (c .before .before .before .before .before .before .before .loop-test .taken) _ _ (t .ensures .0) (t .ensures .1) (c .enum-told .given .1),
+      t .ensures .2,
     )
 
 same-length-2 : tie.Need-same-length-2 Inv-loop μ-loop
@@ -113,7 +119,7 @@ same-length-2 c = c .before .loop .inv .1
 
 returns-2 : tie.Need-returns-2 Inv-loop μ-loop
 returns-2 c =
-    let a = c .before .before .before .before .before .args in
+    let a = c .before .before .before .before .before .before .args in
     let l = c .before .loop in
     over (now (a .words)) (now (a .segments)) (a .width) (a .cols) (a .base) (a .cols * a .rows) (l .k) _ (l .pixels) (l .inv .2) (c .loop-test .left)
 
@@ -124,6 +130,7 @@ tiles-spec =
     Inv-loop
     μ-loop
     mul-n
+    no-colour-requires
     loop-holds
     add-t
     rem-tx
