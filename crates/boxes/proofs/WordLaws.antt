@@ -236,7 +236,7 @@ least-by e x t s h = omega arith
 far-least : (f : Vec2 → ℕ) (a : ℕ) (ps : List Vec2) → edgeMost - far (λ p. edgeMost - f p) a ps ≡ min (edgeMost - a) (least (map f ps))
 unfolding far
 far-least f a [] = omega arith
-far-least f a (p ∷ ps) = 
+far-least f a (p ∷ ps) =
     far-least f (max a (edgeMost - f p)) ps
     ∙ ap (λ (x : ℕ). min x (least (map f ps))) (less-by edgeMost a (f p))
     ∙ least-by edgeMost (edgeMost - a) (f p) (least (map f ps)) (least-most (map f ps))

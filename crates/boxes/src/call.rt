@@ -45,14 +45,15 @@ pub fn make_boxes(
     if let Answer::Refused(no, item) = a {
         return Boxed::Refused(no, item);
     }
-    clear_words(work, 0, beams.len() * BOX_WORDS);
+    let words = beams.len() * BOX_WORDS;
+    clear_words(work, 0, words);
     gather(path_nos, coords, n, work);
     let tiles = total(work, n, margin);
     if tiles > MOST_TILES as u64 {
-        clear_words(work, 0, beams.len() * BOX_WORDS);
+        clear_words(work, 0, words);
         return Boxed::Refused(TOO_MANY, 0);
     }
     put_records(work, beams, n, margin, paths);
-    clear_words(work, 0, beams.len() * BOX_WORDS);
+    clear_words(work, 0, words);
     Boxed::Done(tiles as u32)
 }

@@ -43,16 +43,42 @@ returns-5 c =
 returns-6 : tie.Need-returns-6
 returns-6 c =
     let a = c .before .before .before .before .before .before .args in
-    sym (fails-at 5 (lentChecks (a .nn) (a .nc) (a .np) (a .nb) (a .nw))
-    (eq-eqb _ _ (c .before .before .before .before .before .if1 .left), (eq-eqb _ _ (c .before .before .before .before .if2 .left), (eq-eqb _ _ (c .before .before .before .if3 .left), (eq-eqb _ _ (c .before .before .if4 .left), (le-leb _ _ (c .before .if5 .left),
-    lt-leb (a .nb * boxWords) (a .nw) (omega (arith, c .if6 .taken))))))))
+    sym (fails-at 5 (lentChecks (a .nn) (a .nc) (a .np) (a .nb) (a .nw)) (
+      eq-eqb _ _ (c .before .before .before .before .before .if1 .left),
+      (
+        eq-eqb _ _ (c .before .before .before .before .if2 .left),
+        (
+          eq-eqb _ _ (c .before .before .before .if3 .left),
+          (
+            eq-eqb _ _ (c .before .before .if4 .left),
+            (
+              le-leb _ _ (c .before .if5 .left),
+              lt-leb (a .nb * boxWords) (a .nw) (omega (arith, c .if6 .taken)),
+            ),
+          ),
+        ),
+      ),
+    ))
 
 returns-7 : tie.Need-returns-7
 returns-7 c =
     let a = c .before .before .before .before .before .before .args in
-    sym (none-fails (lentChecks (a .nn) (a .nc) (a .np) (a .nb) (a .nw))
-    (eq-eqb _ _ (c .before .before .before .before .before .if1 .left), (eq-eqb _ _ (c .before .before .before .before .if2 .left), (eq-eqb _ _ (c .before .before .before .if3 .left), (eq-eqb _ _ (c .before .before .if4 .left), (le-leb _ _ (c .before .if5 .left),
-    (le-leb (a .nb * boxWords) (a .nw) (omega (arith, c .if6 .left)), tt)))))))
+    sym (none-fails (lentChecks (a .nn) (a .nc) (a .np) (a .nb) (a .nw)) (
+      eq-eqb _ _ (c .before .before .before .before .before .if1 .left),
+      (
+        eq-eqb _ _ (c .before .before .before .before .if2 .left),
+        (
+          eq-eqb _ _ (c .before .before .before .if3 .left),
+          (
+            eq-eqb _ _ (c .before .before .if4 .left),
+            (
+              le-leb _ _ (c .before .if5 .left),
+              (le-leb (a .nb * boxWords) (a .nw) (omega (arith, c .if6 .left)), tt),
+            ),
+          ),
+        ),
+      ),
+    ))
 
 pub check-lent-spec : {M : Type 1} → statement M
 check-lent-spec =

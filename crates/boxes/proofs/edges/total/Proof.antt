@@ -16,7 +16,7 @@ use Rattle.boxes.proofs.edges.total.Statement.{statement}
 use Rattle.boxes.proofs.edges.total.Tie as tie
 
 abbrev Inv-loop : tie.InvT-loop
-Inv-loop work n m tiles₀ k₀ tiles k =     (k ≤ n) × (tiles + sum (map (λ j. areaOf (boxIn work m j 0)) (from k (n - k))) ≡ sum (map (λ j. areaOf (boxIn work m j 0)) (from 0 n))) × (tiles ≤ k * 2 ^ 24)
+Inv-loop work n m tiles₀ k₀ tiles k = (k ≤ n) × (tiles + sum (map (λ j. areaOf (boxIn work m j 0)) (from k (n - k))) ≡ sum (map (λ j. areaOf (boxIn work m j 0)) (from 0 n))) × (tiles ≤ k * 2 ^ 24)
 
 abbrev μ-loop : tie.MeasureT-loop
 μ-loop work n m tiles₀ k₀ tiles k = n - k

@@ -55,7 +55,7 @@ same-length c = search needs
 
 returns : tie.Need-returns
 unfolding endReach edgeMost
-returns c =     rw (c .before .before .raise4 .ensures, c .before .before .before .before .before .before .raise3 .ensures, c .before .before .before .before .before .before .before .before .before .before .raise2 .ensures, c .before .before .before .before .before .before .before .before .before .before .before .before .before .before .before .raise .ensures, c .before .before .before .before .before .before .before .before .before .before .before .less2 .ensures, c .before .before .before .before .before .before .before .before .before .before .before .before .before .before .before .before .less .ensures, c .before .before .before .before .before .before .before .before .before .before .before .before .before .before .before .before .before .before .tile-at2 .ensures, c .before .before .before .before .before .before .before .before .before .before .before .before .before .before .before .before .before .before .before .tile-at .ensures)
+returns c = rw (c .before .before .raise4 .ensures, c .before .before .before .before .before .before .raise3 .ensures, c .before .before .before .before .before .before .before .before .before .before .raise2 .ensures, c .before .before .before .before .before .before .before .before .before .before .before .before .before .before .before .raise .ensures, c .before .before .before .before .before .before .before .before .before .before .before .less2 .ensures, c .before .before .before .before .before .before .before .before .before .before .before .before .before .before .before .before .less .ensures, c .before .before .before .before .before .before .before .before .before .before .before .before .before .before .before .before .before .before .tile-at2 .ensures, c .before .before .before .before .before .before .before .before .before .before .before .before .before .before .before .before .before .before .before .tile-at .ensures)
 
 pub reach-end-spec : {M : Type 1} → statement M
 reach-end-spec =
