@@ -2,6 +2,7 @@
 // a thin call of a proved function, named with the prefix gp_, with the promise of that function.
 // A slice is lent as a pointer and a length. A module for each stage.
 pub mod call_backdrop;
+pub mod call_boxes;
 pub mod call_check;
 pub mod call_count;
 pub mod call_fill;
