@@ -13,6 +13,7 @@
 
 mod backdrop;
 mod borders;
+mod boxes;
 mod calls;
 mod check;
 mod count;
@@ -106,7 +107,7 @@ fn run<S: Stage>(stage: &S, args: &Args, linked: bool, seconds: f64) -> bool {
     stage::run(stage, Sides { ours, rust: oracle::AT_HAND }, budget)
 }
 
-const STAGES: [&str; 16] = [
+const STAGES: [&str; 17] = [
     "floats",
     "backdrop",
     "hand_out",
@@ -119,6 +120,7 @@ const STAGES: [&str; 16] = [
     "picture",
     "pixel",
     "recount",
+    "boxes",
     "check",
     "svg_lines",
     "order",
@@ -144,6 +146,7 @@ fn stages(args: &Args) -> bool {
     well &= picture(args);
     well &= run(&pixel::Pixel, args, ours::has::PIXEL && ours::has::FILL && ours::has::FINE, 8.0);
     well &= run(&recount::Recount, args, ours::has::RECOUNT && ours::has::COUNT, 6.0);
+    well &= run(&boxes::Boxes, args, ours::has::BOXES && ours::has::COUNT, 4.0);
     well &= run(&check::Check, args, ours::has::CHECK, 6.0);
     well &= run(&svg_lines::SvgLines, args, ours::has::SVG, 6.0);
     if ours::has::SVG && args.mode != "rules-vs-oracle" && args.cases.is_none() && args.only.as_deref().is_none_or(|o| o == "svg_lines") {

@@ -7,6 +7,7 @@
 
 pub mod answers;
 pub mod backdrop;
+pub mod boxes;
 pub mod check;
 pub mod checks;
 pub mod count;
@@ -28,6 +29,7 @@ pub mod walk;
 
 pub use answers::answers;
 pub use backdrop::backdrop;
+pub use boxes::boxes;
 pub use check::check;
 pub use count::{count, count_seen, Seen};
 pub use fill::fill;
