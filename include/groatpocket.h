@@ -307,6 +307,25 @@ uint32_t gp_recount(uint32_t path,
                     uint32_t *kept_counts, size_t kept_counts_len,
                     uint32_t *made, uint32_t *item);
 
+/* The records of paths, made from their lines: for each path the tiles that its lines' ends lie in, margin
+ * tiles more on every side as far as 0 and GP_MAX_EDGE let it, then first tiles one after another, and its beam
+ * number. A path with no line gets an empty box. beams has one beam number for each path, and paths a whole record
+ * for each: all of its words are written. *tiles is how many tiles the boxes take in all: so many backdrops and counts the
+ * calls over these paths are lent. A coordinate below 0 counts as in tile 0; an end in a tile past the last, a
+ * coordinate of 65,536 alone, is 3.
+ * work is working room: 9 where it is under four words for each path. Refused, in this order: 1, 2 (over GP_MAX_PATHS),
+ * 9, then for each line 5, 6, 7 and 3, then 2 where the tiles are over GP_MAX_TILES. A refusal changes no path and
+ * leaves *tiles 0; work stays, but where the boxes are made or their tiles are too many: its first 4 * beams_len words are
+ * 0 then. *item is the line for 5, 6 and 7, the line's path for 3, else 0.
+ * 1: coords whole; as many path_nos as lines; paths whole; as many paths as beams. */
+uint32_t gp_boxes(const uint32_t *path_nos, size_t path_nos_len,
+                  const float *coords, size_t coords_len,
+                  const uint32_t *beams, size_t beams_len,
+                  uint32_t margin,
+                  uint32_t *paths, size_t paths_len,
+                  uint32_t *work, size_t work_len,
+                  uint32_t *tiles, uint32_t *item);
+
 /* A check of another's tables: a graphics card has counted the lines and handed out slots, and nothing of it
  * is trusted. path_nos, coords and paths are ours; refs, counts (what hand-out keeps in the tally), backdrops
  * (before the sums), stored and room (the slots there are) are the other's. It counts all lines itself, from

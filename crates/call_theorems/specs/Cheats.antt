@@ -16,6 +16,8 @@ use Rattle.ppm_read.specs.declared.Answer as Read
 use Rattle.ppm_read.specs.declared.Answer.the-variants as Reading
 use Rattle.tile_check.specs.declared.kinds.Checked.{Checked}
 use Rattle.tile_check.specs.declared.kinds.Checked.the-variants as Checked
+use Rattle.boxes.specs.declared.kinds.Boxed.{Boxed}
+use Rattle.boxes.specs.declared.kinds.Boxed.the-variants as Boxed
 use Rattle.svg.specs.declared.Answer as Svg
 use Rattle.svg.specs.declared.Answer.the-variants as Drawing
 
@@ -53,6 +55,10 @@ RefusesWrite (Written.Refused n) = Unit {0}
 abbrev pub RefusesRead : Read.Answer → Type 0
 RefusesRead (Reading.Done w h) = ⊥
 RefusesRead (Reading.Refused n) = Unit {0}
+
+abbrev pub RefusesBoxes : Boxed → Type 0
+RefusesBoxes (Boxed.Done t) = ⊥
+RefusesBoxes (Boxed.Refused n item) = Unit {0}
 
 abbrev pub RefusesSvg : Svg.Answer → Type 0
 RefusesSvg (Drawing.Done n) = ⊥

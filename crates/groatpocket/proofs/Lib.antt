@@ -1,5 +1,6 @@
 -- What the exported functions' proofs share.
 pub mod Told
+pub mod ToldBoxes
 pub mod ToldCheck
 pub mod ToldFrame
 pub mod ToldPpm

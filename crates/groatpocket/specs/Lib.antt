@@ -1,6 +1,7 @@
 -- What a caller in C or Rust sees of a call. Definitions only.
 pub mod Seen
 pub mod Calls
+pub mod CallBoxes
 pub mod CallCheck
 pub mod CallFrame
 pub mod CallLists

@@ -3,6 +3,7 @@
 // A slice is lent as a pointer and a length. A module for each stage.
 pub mod call_backdrop;
 pub mod call_bands;
+pub mod call_boxes;
 pub mod call_check;
 pub mod call_count;
 pub mod call_fill;

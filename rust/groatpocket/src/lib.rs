@@ -64,7 +64,7 @@
 //! their words: [`Path`], [`Reference`], [`Segment`], [`Paint`].
 //!
 //! The stages of a frame are calls too, for whoever feeds lines in batches: [`count`], [`backdrop`], [`hand_out`],
-//! [`tile`]. Where one gauge has moved, its path alone is counted again: [`recount`]. What another has counted, a graphics card, is
+//! [`tile`]. The paths' boxes can be made from their lines: [`boxes`]. Where one gauge has moved, its path alone is counted again: [`recount`]. What another has counted, a graphics card, is
 //! held against our own count before it is used: [`check`]. One pixel can be asked for by itself: [`pixel`], [`pixel_area`]. Threads can
 //! draw one screen at once, a band of its rows each: [`fine_rows`]. Lines of an outline can be read from
 //! SVG: [`svg_lines`].
@@ -102,6 +102,8 @@
 
 #[cfg(feature = "bands")]
 mod bands;
+#[cfg(feature = "boxes")]
+mod boxes;
 #[cfg(feature = "check")]
 mod check;
 #[cfg(feature = "frame")]
@@ -124,6 +126,8 @@ mod svg;
 
 #[cfg(feature = "bands")]
 pub use bands::fine_rows;
+#[cfg(feature = "boxes")]
+pub use boxes::{box_work_needed, boxes, Boxes};
 #[cfg(feature = "check")]
 pub use check::{check, work_needed, Check, Found};
 #[cfg(feature = "frame")]

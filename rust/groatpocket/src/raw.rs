@@ -117,6 +117,16 @@ extern "C" {
         made: &mut u32, item: &mut u32,
     ) -> u32;
 
+    pub fn gp_boxes(
+        path_nos: *const u32, path_nos_len: usize,
+        coords: *const f32, coords_len: usize,
+        beams: *const u32, beams_len: usize,
+        margin: u32,
+        paths: *mut u32, paths_len: usize,
+        work: *mut u32, work_len: usize,
+        tiles: &mut u32, item: &mut u32,
+    ) -> u32;
+
     pub fn gp_check(
         path_nos: *const u32, path_nos_len: usize,
         coords: *const f32, coords_len: usize,

@@ -79,6 +79,9 @@ extern uint32_t gp_pixel(const uint32_t *words, size_t words_len, const float *s
 #ifdef HAS_RECOUNT
 extern uint32_t gp_recount(uint32_t path, const uint32_t *line_nos, size_t line_nos_len, const uint32_t *path_nos, size_t path_nos_len, const float *coords, size_t coords_len, const uint32_t *paths, size_t paths_len, int32_t *backdrops, size_t backdrops_len, uint32_t *counts, size_t counts_len, uint32_t *refs, size_t refs_len, int32_t *kept_backdrops, size_t kept_backdrops_len, uint32_t *kept_counts, size_t kept_counts_len, uint32_t *made, uint32_t *item);
 #endif
+#ifdef HAS_BOXES
+extern uint32_t gp_boxes(const uint32_t *path_nos, size_t path_nos_len, const float *coords, size_t coords_len, const uint32_t *beams, size_t beams_len, uint32_t margin, uint32_t *paths, size_t paths_len, uint32_t *work, size_t work_len, uint32_t *tiles, uint32_t *item);
+#endif
 #ifdef HAS_CHECK
 extern uint32_t gp_check(const uint32_t *path_nos, size_t path_nos_len, const float *coords, size_t coords_len, const uint32_t *paths, size_t paths_len, const uint32_t *refs, size_t refs_len, const uint32_t *counts, size_t counts_len, const int32_t *backdrops, size_t backdrops_len, const uint32_t *stored, size_t stored_len, uint32_t room, uint32_t *work, size_t work_len, uint32_t *found, uint32_t *item);
 #endif
@@ -177,14 +180,20 @@ static uint32_t run(uint32_t which) {
         return answer;
     }
 #endif
+#ifdef HAS_BOXES
+    case 14: { /* boxes */
+        uint32_t answer = gp_boxes(SLICE(0, uint32_t), SLICE(1, float), SLICE(2, uint32_t), (uint32_t)n[0], SLICE(3, uint32_t), SLICE(4, uint32_t), &n[1], &n[2]);
+        return answer;
+    }
+#endif
 #ifdef HAS_CHECK
-    case 14: { /* check */
+    case 15: { /* check */
         uint32_t answer = gp_check(SLICE(0, uint32_t), SLICE(1, float), SLICE(2, uint32_t), SLICE(3, uint32_t), SLICE(4, uint32_t), SLICE(5, int32_t), SLICE(6, uint32_t), (uint32_t)n[0], SLICE(7, uint32_t), &n[1], &n[2]);
         return answer;
     }
 #endif
 #ifdef HAS_SVG
-    case 15: { /* svg_lines */
+    case 16: { /* svg_lines */
         size_t lines = n[2];
         size_t place = n[3];
         uint32_t answer = gp_svg_lines(SLICE(0, uint8_t), (uint32_t)n[0], (uint32_t)n[1], SLICE(1, uint32_t), SLICE(2, float), &lines, &place);

@@ -159,6 +159,19 @@ uint32_t __wrap_gp_recount(uint32_t path, const uint32_t *line_nos, size_t line_
     return answer;
 }
 
+uint32_t __real_gp_boxes(const uint32_t *path_nos, size_t path_nos_len, const float *coords, size_t coords_len, const uint32_t *beams, size_t beams_len, uint32_t margin, uint32_t *paths, size_t paths_len, uint32_t *work, size_t work_len, uint32_t *tiles, uint32_t *item);
+uint32_t __wrap_gp_boxes(const uint32_t *path_nos, size_t path_nos_len, const float *coords, size_t coords_len, const uint32_t *beams, size_t beams_len, uint32_t margin, uint32_t *paths, size_t paths_len, uint32_t *work, size_t work_len, uint32_t *tiles, uint32_t *item) {
+    uint32_t answer = __real_gp_boxes(path_nos, path_nos_len, coords, coords_len, beams, beams_len, margin, paths, paths_len, work, work_len, tiles, item);
+    if (strikes("boxes paths", answer == 0 && paths_len > 0)) flip(paths + paths_len / 2);
+    if (strikes("boxes paths refused", answer != 0 && paths_len > 0)) flip(paths + paths_len / 2);
+    if (strikes("boxes work", answer == 0 && work_len > 0)) flip(work + work_len / 2);
+    if (strikes("boxes work refused", answer != 0 && work_len > 0)) flip(work + work_len / 2);
+    if (strikes("boxes tiles", 1)) *tiles += 1;
+    if (strikes("boxes item", answer != 0)) *item += 1;
+    if (strikes("boxes answer", 1)) answer ^= 1;
+    return answer;
+}
+
 uint32_t __real_gp_check(const uint32_t *path_nos, size_t path_nos_len, const float *coords, size_t coords_len, const uint32_t *paths, size_t paths_len, const uint32_t *refs, size_t refs_len, const uint32_t *counts, size_t counts_len, const int32_t *backdrops, size_t backdrops_len, const uint32_t *stored, size_t stored_len, uint32_t room, uint32_t *work, size_t work_len, uint32_t *found, uint32_t *item);
 uint32_t __wrap_gp_check(const uint32_t *path_nos, size_t path_nos_len, const float *coords, size_t coords_len, const uint32_t *paths, size_t paths_len, const uint32_t *refs, size_t refs_len, const uint32_t *counts, size_t counts_len, const int32_t *backdrops, size_t backdrops_len, const uint32_t *stored, size_t stored_len, uint32_t room, uint32_t *work, size_t work_len, uint32_t *found, uint32_t *item) {
     uint32_t answer = __real_gp_check(path_nos, path_nos_len, coords, coords_len, paths, paths_len, refs, refs_len, counts, counts_len, backdrops, backdrops_len, stored, stored_len, room, work, work_len, found, item);

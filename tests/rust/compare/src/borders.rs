@@ -2,7 +2,7 @@
 
 use crate::calls::{Call, NAMES};
 use cases::Rng;
-use rules::limits::{COUNT_MOST, LINE, PAINT, REF, REGION, SEGMENT, SIDE_MOST};
+use rules::limits::{COORD_MOST, COUNT_MOST, LINE, PAINT, PATH, PATHS_MOST, REF, REGION, SEGMENT, SIDE_MOST, TILES_MOST};
 use rules::records::{path, reference, Line};
 
 /// The answers that a call of a kind can give, all of which the hostile runs want to meet.
@@ -155,6 +155,25 @@ fn recount(rng: &mut Rng, kind: u32) -> Call {
     Call { kind, numbers: vec![0], slices }
 }
 
+/// Boxes of as many paths as there may be, or one more; of as many lines; of an end at the coordinate's limit; of boxes that
+/// take about as many tiles as there may be.
+fn boxes(rng: &mut Rng, kind: u32) -> Call {
+    let far = COORD_MOST - 0.0078125;
+    let side = (TILES_MOST as f32).sqrt() / rules::walk::TILE_SCALE - 1.0;
+    let (path_nos, coords, n) = match rng.below(8) {
+        0 => (vec![0], bits([8.0, 8.0, 8.0, 24.0]), PATHS_MOST as usize + rng.range(0, 2) as usize),
+        1 => {
+            let (path_nos, coords, _) = many_lines(rng);
+            (path_nos, coords, 1)
+        }
+        2 | 3 => (vec![1, 0], [bits([8.0, 8.0, 8.0, 24.0]), bits([8.0, rng.pick(&[COORD_MOST, far]), 0.0, 0.0])].concat(), 2),
+        4 => (vec![0], bits([0.0, 0.0, far, far]), 1),
+        _ => (vec![0, 1], [bits([0.0, 0.0, side, side]), bits([0.0, 0.0, 1.0, rng.pick(&[1.0, 0.0])])].concat(), rng.pick(&[1, 2, 2])),
+    };
+    let work = vec![7; rules::boxes::work_words(n)];
+    Call { kind, numbers: vec![rng.pick(&[0, 0, 1, u32::MAX])], slices: vec![path_nos, coords, vec![3; n], vec![9; PATH * n], work] }
+}
+
 /// A check of another's tables over paths or lines at the limit, or over a line whose step leaves its box.
 fn check(rng: &mut Rng, kind: u32) -> Call {
     let wide = bits([80.0, 0.0, 80.0, f32::from_bits(rng.range(1, 2_000) as u32)]);
@@ -187,6 +206,7 @@ pub fn toward(rng: &mut Rng, kind: u32) -> Option<Call> {
         "tile" => tile(rng),
         "frame" => frame(rng),
         "recount" => recount(rng, kind),
+        "boxes" => boxes(rng, kind),
         "check" => check(rng, kind),
         "write_lists" if rng.one_in(4) => write_lists(rng),
         "ppm_read" => {

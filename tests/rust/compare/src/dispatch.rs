@@ -23,6 +23,7 @@ pub const NAMES: &[&str] = &[
     "pixel_area",
     "pixel",
     "recount",
+    "boxes",
     "check",
     "svg_lines",
     "fine_rows",
@@ -44,6 +45,7 @@ pub const CHANGED: &[&[usize]] = &[
     &[],
     &[],
     &[4, 5, 6, 7, 8],
+    &[3, 4],
     &[7],
     &[1, 2],
     &[2],
@@ -62,6 +64,7 @@ pub const BYTES: &[&[usize]] = &[
     &[],
     &[1],
     &[0, 1],
+    &[],
     &[],
     &[],
     &[],
@@ -86,6 +89,7 @@ pub const SHAPES: &[(usize, usize)] = &[
     (1, 9),
     (2, 4),
     (9, 1),
+    (5, 1),
     (8, 1),
     (3, 2),
     (3, 5),
@@ -107,6 +111,7 @@ pub const LINKED: &[bool] = &[
     ours::has::PIXEL,
     ours::has::PIXEL,
     ours::has::RECOUNT,
+    ours::has::BOXES,
     ours::has::CHECK,
     ours::has::SVG,
     ours::has::BANDS,
@@ -310,7 +315,22 @@ macro_rules! answered_by {
                     );
                     vec![no, item, made]
                 }
-                (14, [path_nos, coords, paths, refs, counts, backdrops, stored, work]) => {
+                (14, [path_nos, coords, beams, paths, work]) => {
+                    let mut tiles = UNTOLD;
+                    let mut item = UNTOLD;
+                    let no = $side::boxes(
+                        path_nos.u32s(),
+                        coords.f32s(),
+                        beams.u32s(),
+                        n[0],
+                        paths.u32s_mut(),
+                        work.u32s_mut(),
+                        &mut tiles,
+                        &mut item,
+                    );
+                    vec![no, item, tiles]
+                }
+                (15, [path_nos, coords, paths, refs, counts, backdrops, stored, work]) => {
                     let mut found = UNTOLD;
                     let mut item = UNTOLD;
                     let no = $side::check(
@@ -328,7 +348,7 @@ macro_rules! answered_by {
                     );
                     vec![no, item, found]
                 }
-                (15, [text, path_nos, coords]) => {
+                (16, [text, path_nos, coords]) => {
                     let mut lines = UNTOLD as usize;
                     let mut place = UNTOLD as usize;
                     let text_bytes = LentBytes::of(text.u32s());

@@ -154,6 +154,12 @@ fn good(rng: &mut Rng, kind: u32) -> Call {
             let tables = [words(rng, tiles), words(rng, tiles), words(rng, refs), words(rng, kept), words(rng, kept)];
             (vec![path], [line_nos, of, coords, paths].into_iter().chain(tables).collect())
         }
+        _ if NAMES[kind as usize] == "boxes" => {
+            let any = any_word(rng);
+            let margin = rng.pick(&[0, 0, 1, 1, 2, 5, any]);
+            let work = rules::boxes::work_words(n_paths) + rng.below(3) as usize;
+            (vec![margin], vec![path_nos, coords, words(rng, n_paths), words(rng, PATH * n_paths), words(rng, work)])
+        }
         _ if NAMES[kind as usize] == "check" => {
             let made = rng.below(6) as usize;
             let refs = (0..made).flat_map(|_| reference(rng.below(n.max(1) as u64) as u32, rng.below(2) as u32, rng.below(4) as u32)).collect();

@@ -13,6 +13,7 @@
 
 mod backdrop;
 mod borders;
+mod boxes;
 mod calls;
 mod check;
 mod count;
@@ -121,6 +122,7 @@ const STAGES: [&str; 17] = [
     "picture",
     "pixel",
     "recount",
+    "boxes",
     "check",
     "svg_lines",
     "order",
@@ -147,6 +149,7 @@ fn stages(args: &Args) -> bool {
     well &= picture(args);
     well &= run(&pixel::Pixel, args, ours::has::PIXEL && ours::has::FILL && ours::has::FINE, 8.0);
     well &= run(&recount::Recount, args, ours::has::RECOUNT && ours::has::COUNT, 6.0);
+    well &= run(&boxes::Boxes, args, ours::has::BOXES && ours::has::COUNT, 4.0);
     well &= run(&check::Check, args, ours::has::CHECK, 6.0);
     well &= run(&svg_lines::SvgLines, args, ours::has::SVG, 6.0);
     if ours::has::SVG && args.mode != "rules-vs-oracle" && args.cases.is_none() && args.only.as_deref().is_none_or(|o| o == "svg_lines") {

@@ -45,6 +45,12 @@ pub fn made_item(answer: Result<u32, groatpocket::RecountStopped>, made: &mut u3
     self::item(answer.map(|_| ()).map_err(|stopped| stopped.refused), item)
 }
 
+#[cfg(feature = "boxes")]
+pub fn tiles_item(answer: Result<u32, Refused>, tiles: &mut u32, item: &mut u32) -> u32 {
+    *tiles = answer.unwrap_or(0);
+    self::item(answer.map(|_| ()), item)
+}
+
 /// The crate asserts that a refusal leaves 0 in what is told, in builds with debug assertions.
 #[cfg(feature = "picture")]
 pub fn size(answer: Result<usize, Refused>, size: &mut usize) -> u32 {

@@ -327,6 +327,34 @@ unsafe extern "C" fn gp_recount(
     answer
 }
 
+#[cfg(feature = "boxes")]
+#[no_mangle]
+unsafe extern "C" fn gp_boxes(
+    path_nos: *const u32, path_nos_len: usize,
+    coords: *const f32, coords_len: usize,
+    beams: *const u32, beams_len: usize,
+    margin: u32,
+    paths: *mut u32, paths_len: usize,
+    work: *mut u32, work_len: usize,
+    tiles: &mut u32, item: &mut u32,
+) -> u32 {
+    let mut n = [margin, *tiles, *item];
+    let answer = call(
+        14,
+        &mut n,
+        vec![
+            read_only(path_nos, path_nos_len),
+            read_only(coords, coords_len),
+            read_only(beams, beams_len),
+            changed(paths, paths_len),
+            changed(work, work_len),
+        ],
+    );
+    *tiles = n[1];
+    *item = n[2];
+    answer
+}
+
 #[cfg(feature = "check")]
 #[no_mangle]
 unsafe extern "C" fn gp_check(
@@ -343,7 +371,7 @@ unsafe extern "C" fn gp_check(
 ) -> u32 {
     let mut n = [room, *found, *item];
     let answer = call(
-        14,
+        15,
         &mut n,
         vec![
             read_only(path_nos, path_nos_len),
@@ -372,7 +400,7 @@ unsafe extern "C" fn gp_svg_lines(
 ) -> u32 {
     let mut n = [depth, path, *lines as u32, *place as u32];
     let answer = call(
-        15,
+        16,
         &mut n,
         vec![
             read_only(text, text_len),

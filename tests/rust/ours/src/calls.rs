@@ -329,6 +329,29 @@ pub fn recount(
     not_linked(("recount", path, line_nos, path_nos, coords, paths, backdrops, counts, refs, kept_backdrops, kept_counts, made, item))
 }
 
+pub fn boxes(
+    path_nos: &[u32],
+    coords: &[f32],
+    beams: &[u32],
+    margin: u32,
+    paths: &mut [u32],
+    work: &mut [u32],
+    tiles: &mut u32,
+    item: &mut u32,
+) -> u32 {
+    #[cfg(all(feature = "boxes", not(bridge)))]
+    if crate::null::is_lent(&[path_nos.len(), coords.len(), beams.len(), paths.len(), work.len()]) {
+        // SAFETY: every pointer and length is a slice's, lent for the call alone, or NULL and 0.
+        return unsafe { groatpocket::raw::gp_boxes(crate::null::at(path_nos), path_nos.len(), crate::null::at(coords), coords.len(), crate::null::at(beams), beams.len(), margin, crate::null::at_mut(paths), paths.len(), crate::null::at_mut(work), work.len(), tiles, item) };
+    }
+    #[cfg(feature = "boxes")]
+    let answer = groatpocket::boxes(groatpocket::Boxes { path_nos, coords, beams, margin, paths, work });
+    #[cfg(feature = "boxes")]
+    return crate::answers::tiles_item(answer, tiles, item);
+    #[cfg(not(feature = "boxes"))]
+    not_linked(("boxes", path_nos, coords, beams, margin, paths, work, tiles, item))
+}
+
 pub fn check(
     path_nos: &[u32],
     coords: &[f32],

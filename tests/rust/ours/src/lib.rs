@@ -37,6 +37,7 @@ pub mod has {
     pub const PICTURE: bool = cfg!(feature = "picture");
     pub const PIXEL: bool = cfg!(feature = "pixel");
     pub const RECOUNT: bool = cfg!(feature = "recount");
+    pub const BOXES: bool = cfg!(feature = "boxes");
     pub const CHECK: bool = cfg!(feature = "check");
     pub const SVG: bool = cfg!(feature = "svg");
     pub const BANDS: bool = cfg!(feature = "bands");

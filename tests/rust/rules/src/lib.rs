@@ -8,6 +8,7 @@
 pub mod answers;
 pub mod backdrop;
 pub mod bands;
+pub mod boxes;
 pub mod check;
 pub mod checks;
 pub mod count;
@@ -30,6 +31,7 @@ pub mod walk;
 pub use answers::answers;
 pub use backdrop::backdrop;
 pub use bands::fine_rows;
+pub use boxes::boxes;
 pub use check::check;
 pub use count::{count, count_seen, Seen};
 pub use fill::fill;
