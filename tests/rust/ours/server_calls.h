@@ -203,7 +203,7 @@ static uint32_t run(uint32_t which) {
     }
 #endif
 #ifdef HAS_BANDS
-    case 16: { /* fine_rows */
+    case 17: { /* fine_rows */
         uint32_t answer = gp_fine_rows(SLICE(0, uint32_t), SLICE(1, float), (uint32_t)n[0], (uint32_t)n[1], (uint32_t)n[2], (uint32_t)n[3], (uint32_t)n[4], SLICE(2, uint32_t), &n[5]);
         return answer;
     }

@@ -364,7 +364,7 @@ macro_rules! answered_by {
                     text_bytes.give_back(text.u32s_mut());
                     vec![no, 0, lines as u32, place as u32]
                 }
-                (16, [words, segments, pixels]) => {
+                (17, [words, segments, pixels]) => {
                     let mut item = UNTOLD;
                     let no = $side::fine_rows(
                         words.u32s(),

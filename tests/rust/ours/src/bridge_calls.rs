@@ -424,7 +424,7 @@ unsafe extern "C" fn gp_fine_rows(
 ) -> u32 {
     let mut n = [width, cols, rows, first, end, *item];
     let answer = call(
-        16,
+        17,
         &mut n,
         vec![
             read_only(words, words_len),
