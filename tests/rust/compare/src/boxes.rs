@@ -154,8 +154,7 @@ fn counted(case: &Case, made: &Memory, sides: Sides, table: &mut Table) -> Resul
     let (mut lines, mut references, mut item) = (0, 0, 0);
     let call = if sides.ours { ours::count } else { rules::count };
     let paths = made.paths.u32s();
-    let got =
-        call(&case.path_nos, coords.f32s(), paths, &mut backdrops, &mut counts, &mut refs, end, &mut lines, &mut references, &mut item);
+    let got = call(&case.path_nos, coords.f32s(), paths, &mut backdrops, &mut counts, &mut refs, end, &mut lines, &mut references, &mut item);
     same("a count over boxes with a margin is done, or has no room", got == 0 || got == NO_ROOM, true)?;
     table.add(MARGIN, 1);
     Ok(())
