@@ -66,6 +66,7 @@ uint32_t gp_version(void);
 #define GP_BAD_SEGMENT 20u /* a fill's segment with an end outside 0..16, or a y_edge not finite */
 #define GP_BAD_TEXT 21u   /* a text that is no path data of SVG */
 #define GP_TOO_DEEP 22u   /* a curve halved more than 6 times */
+#define GP_LEFT_OPEN 23u  /* an outline that doesn't end where it began */
 
 /* The limits: at most so many, or so large. */
 #define GP_MAX_PATHS 4096u
@@ -392,6 +393,7 @@ static inline const char *gp_refusal_text(uint32_t refusal) {
     case GP_BAD_SEGMENT: return "a fill's segment with an end outside 0..16, or a y_edge not finite";
     case GP_BAD_TEXT: return "a text that is no path data of SVG";
     case GP_TOO_DEEP: return "a curve halved more than 6 times";
+    case GP_LEFT_OPEN: return "an outline that doesn't end where it began";
     default: return "no refusal of this version";
     }
 }
