@@ -4,3 +4,4 @@ pub mod Turns
 pub mod Least
 pub mod Opens
 pub mod Steps
+pub mod CallLaws

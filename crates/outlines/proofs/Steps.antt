@@ -55,15 +55,19 @@ module _ (nos : List ℕ) (fs : List Float) (ws₀ ws : List ℕ) (r : Ready nos
     head-is = k .heads (getD nos l 0) (has-words l h) (omega (arith, last-seen nos (getD nos l 0) (length nos) l h refl))
 
     pub ends-asks : (l < mostLines) × (getD ws (getD nos l 0 * roomWords + 1) 0 ≡ l + 1 → Lent fs l × Lent fs (getD ws (getD nos l 0 * roomWords) 0))
-    ends-asks =
-        (omega (arith, r .few), λ q. (lent l h,
+    ends-asks = (
+      omega (arith, r .few),
+      λ q. (
+        lent l h,
         lent _ (omega (
           arith,
           head-is,
           head-most nos fs (lastOf nos (getD nos l 0) (length nos) - 1),
           last-most nos (getD nos l 0) (length nos),
           last-seen nos (getD nos l 0) (length nos) l h refl,
-        ))))
+        )),
+      ),
+    )
 
     -- the test of a last line, as the code makes it
     abbrev test : Bool

@@ -1,3 +1,11 @@
+-- `outlines::outlines` meets its contract. Assumes nothing.
+use mathlib.Core.Path.{_≡_, refl, sym, ap, _∙_}
+use native.Mathlib.Omega.{arith}
+use Prim.Native.Nat.{ℕ, _*_, _≤_}
+use lib.ListN.{length, drop, length-append, length-drop}
+use lib.Seq.{length-take-le}
+use Rattle.outlines.specs.Call.{roomWords}
+use Rattle.outlines.proofs.CallLaws.{bad-most, has-room, ready, cleared-is, met-refused, met-bad, met-open}
 use borrow.Author.Needs.{needs}
 use Rattle.outlines.proofs.outlines.Statement.{statement}
 use Rattle.outlines.proofs.outlines.Tie as tie
@@ -10,64 +18,89 @@ use Rattle.outlines.proofs.first_open.Reads as first-open-reads
 use Rattle.outlines.proofs.open_answer.Reads as open-answer-reads
 use Rattle.ranges.proofs.clear_words.Reads as clear-words-reads
 
--- src/lib.rt:217:9
 check-lent-requires : tie.Need-check-lent-requires
 check-lent-requires c κs = search needs
 
--- src/lib.rt:218:29
 enum-known-v : tie.Need-enum-known-v
 enum-known-v c = search needs
 
--- src/lib.rt:219:9
 returns : tie.Need-returns
-returns c = ?
+returns c = met-refused (c .before .before .before .before .before .before .before .args .path-nos .now) (c .before .before .before .before .before .before .before .args .coords .now) (c .before .before .before .before .before .before .before .args .paths) (c .before .before .before .before .before .before .before .args .work .now) (c .before .before .before .check-lent .result) (c .before .before .before .check-lent .ensures) _ (c .before .v .given .1)
 
 enum-told : tie.Need-enum-told
 enum-told c = search needs
 
--- src/lib.rt:221:9
 first-bad-requires : tie.Need-first-bad-requires
 first-bad-requires c κs = search needs
 
--- src/lib.rt:223:9
 bad-answer-requires : tie.Need-bad-answer-requires
-bad-answer-requires c κs = ?
+bad-answer-requires c κs = let s = c .before .before .before .before .before .before .before .before .args in omega (arith, c .before .first-bad .ensures, bad-most (s .path-nos .now) (s .paths))
 
--- src/lib.rt:223:9
 returns-2 : tie.Need-returns-2
-returns-2 c = ?
+returns-2 c =
+    let s = c .before .before .before .before .before .before .before .before .before .args in
+    let v = c .before .before .before .before .before .check-lent in
+    let fine = c .before .before .before .enum-told .given .1 in
+    let b = c .before .before .first-bad .ensures in
+    rw (c .bad-answer .ensures, b) (met-bad (s .path-nos .now) (s .coords .now) (s .paths) (s .work .now) (v .result) (v .ensures) fine (omega (arith, b, c .before .if1 .taken)))
 
--- src/lib.rt:225:13
 mul-n : tie.Need-mul-n
 mul-n c = search needs
 
--- src/lib.rt:226:42
 slice-relend-prefix-first-open : tie.Need-slice-relend-prefix-first-open
-slice-relend-prefix-first-open c = ?
+slice-relend-prefix-first-open c =
+    let s = c .before .before .before .before .before .before .before .before .args in
+    let v = c .before .before .before .before .check-lent in
+    let fine = c .before .before .enum-told .given .1 in
+    has-room (s .path-nos .now) (s .paths) (s .coords .now) (s .work .now) (sym (v .ensures) ∙ fine)
 
--- src/lib.rt:226:42
 slice-aggregate-first-open : tie.Need-slice-aggregate-first-open
-slice-aggregate-first-open c = ?
+slice-aggregate-first-open c =
+    let s = c .before .before .before .before .before .before .before .before .before .args in
+    let v = c .before .before .before .before .before .check-lent in
+    let fine = c .before .before .before .enum-told .given .1 in
+    sym (length-take-le (s .paths * roomWords) (s .work .now) (has-room (s .path-nos .now) (s .paths) (s .coords .now) (s .work .now) (sym (v .ensures) ∙ fine)))
 
--- src/lib.rt:226:9
 first-open-requires : tie.Need-first-open-requires
-first-open-requires c κs = ?
+first-open-requires c κs =
+    let s = c .before .before .before .before .before .before .before .before .before .args in
+    let v = c .before .before .before .before .before .check-lent in
+    let fine = c .before .before .before .enum-told .given .1 in
+    ready (s .path-nos .now) (s .paths) (s .coords .now) (s .work .now) (sym (v .ensures) ∙ fine) (omega (arith, c .before .before .first-bad .ensures, c .before .if1 .left))
 
--- src/lib.rt:227:5
 clear-words-requires : tie.Need-clear-words-requires
-clear-words-requires c κs = ?
+clear-words-requires c κs =
+    let s = c .before .before .before .before .before .before .before .before .before .before .before .before .before .args in
+    let v = c .before .before .before .before .before .before .before .before .before .check-lent in
+    let fine = c .before .before .before .before .before .before .before .enum-told .given .1 in
+    let o = c .before .before .before .first-open in
+    let room = has-room (s .path-nos .now) (s .paths) (s .coords .now) (s .work .now) (sym (v .ensures) ∙ fine) in
+    omega (
+      arith,
+      room,
+      o .kept .1 .1 .0,
+      length-append (o .last .1 .1 .0) (drop (s .paths * roomWords) (s .work .now)),
+      length-drop (s .paths * roomWords) (s .work .now),
+      length-take-le (s .paths * roomWords) (s .work .now) room,
+    )
 
--- src/lib.rt:228:5
 open-answer-requires : tie.Need-open-answer-requires
 open-answer-requires c κs = search needs
 
--- src/lib.rt:214:1
 same-length : tie.Need-same-length
 same-length c = search needs
 
--- src/lib.rt:214:1
 returns-3 : tie.Need-returns-3
-returns-3 c = ?
+returns-3 c =
+    let s = c .before .before .before .before .before .before .before .before .before .before .before .before .before .before .before .before .before .args in
+    let v = c .before .before .before .before .before .before .before .before .before .before .before .before .before .check-lent in
+    let fine = c .before .before .before .before .before .before .before .before .before .before .before .enum-told .given .1 in
+    let b = c .before .before .before .before .before .before .before .before .before .before .first-bad .ensures in
+    let o = c .before .before .before .before .before .before .before .first-open in
+    let room = has-room (s .path-nos .now) (s .paths) (s .coords .now) (s .work .now) (sym (v .ensures) ∙ fine) in
+    let part : length (o .last .1 .1 .0) ≡ s .paths * roomWords = o .kept .1 .1 .0 ∙ length-take-le (s .paths * roomWords) (s .work .now) room in
+    rw (c .open-answer .ensures, o .ensures, c .before .before .before .clear-words .ensures, cleared-is (s .paths * roomWords) (o .last .1 .1 .0) (s .work .now) room part)
+    (met-open (s .path-nos .now) (s .coords .now) (s .paths) (s .work .now) (v .result) (v .ensures) fine (omega (arith, b, c .before .before .before .before .before .before .before .before .before .if1 .left)))
 
 pub outlines-spec : {M : Type 1} → statement M
 outlines-spec =

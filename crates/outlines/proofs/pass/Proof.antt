@@ -64,8 +64,7 @@ loop-again c =
     let t = c .before .before .turn in
     let h : l .i < length nos = omega arith in
     let w = has-words nos fs (s .args .work .now) (l .work) (s .pre .0) (l .inv .1) (l .i) h in
-    let k = l .inv .2 in
-    (
+    let k = l .inv .2 in (
       omega arith,
       ap length (t .ensures .0) ∙ turned-length nos fs (l .i) (l .work) k w ∙ l .inv .1,
       rw (t .ensures .0) (noted-turn nos fs (l .i) (l .work) k w),

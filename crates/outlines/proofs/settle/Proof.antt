@@ -105,9 +105,11 @@ loop-again : tie.Need-loop-again Inv-loop μ-loop
 loop-again c =
     let s = c .before .before .before .before .before .before .before .before .before .before in
     let l = c .before .before .before .before .before .before .loop in
-    let h : l .l < length (s .args .path-nos .now) = omega (arith, s .pre .2 .most) in
-    (omega arith, below-next (leftOpen (s .args .path-nos .now) (s .args .coords .now)) (l .l) (l .inv .1)
-    (settle-past (s .args .path-nos .now) (s .args .coords .now) (s .args .work .now) (s .args .work .now) (s .pre .0) refl (s .pre .1) (l .l) h (length (s .args .path-nos .now)) (s .args .best) (s .pre .2) (omega arith) (sym (c .before .ends-open .ensures) ∙ c .if1 .left)))
+    let h : l .l < length (s .args .path-nos .now) = omega (arith, s .pre .2 .most) in (
+      omega arith,
+      below-next (leftOpen (s .args .path-nos .now) (s .args .coords .now)) (l .l) (l .inv .1)
+          (settle-past (s .args .path-nos .now) (s .args .coords .now) (s .args .work .now) (s .args .work .now) (s .pre .0) refl (s .pre .1) (l .l) h (length (s .args .path-nos .now)) (s .args .best) (s .pre .2) (omega arith) (sym (c .before .ends-open .ensures) ∙ c .if1 .left)),
+    )
 
 returns-2 : tie.Need-returns-2 Inv-loop μ-loop
 returns-2 c =
