@@ -4,6 +4,7 @@ pub mod Calls
 pub mod CallCheck
 pub mod CallFrame
 pub mod CallLists
+pub mod CallOutlines
 pub mod CallPpm
 pub mod CallPixel
 pub mod CallRecount

@@ -4,7 +4,7 @@ use native.Mathlib.Omega.{arith}
 use Prim.Native.Nat.{ℕ, _*_, _≤_}
 use lib.ListN.{length, drop, length-append, length-drop}
 use lib.Seq.{length-take-le}
-use Rattle.outlines.specs.Call.{roomWords}
+use Rattle.outlines.specs.Call.{roomWords, firstBad}
 use Rattle.outlines.proofs.CallLaws.{bad-most, has-room, ready, cleared-is, met-refused, met-bad, met-open}
 use borrow.Author.Needs.{needs}
 use Rattle.outlines.proofs.outlines.Statement.{statement}
@@ -25,7 +25,10 @@ enum-known-v : tie.Need-enum-known-v
 enum-known-v c = search needs
 
 returns : tie.Need-returns
-returns c = met-refused (c .before .before .before .before .before .before .before .args .path-nos .now) (c .before .before .before .before .before .before .before .args .coords .now) (c .before .before .before .before .before .before .before .args .paths) (c .before .before .before .before .before .before .before .args .work .now) (c .before .before .before .check-lent .result) (c .before .before .before .check-lent .ensures) _ (c .before .v .given .1)
+returns c =
+    let s = c .before .before .before .before .before .before .before .args in
+    let v = c .before .before .before .check-lent in
+    met-refused (s .path-nos .now) (s .coords .now) (s .paths) (s .work .now) (v .result) (v .ensures) _ (c .before .v .given .1)
 
 enum-told : tie.Need-enum-told
 enum-told c = search needs
@@ -34,7 +37,9 @@ first-bad-requires : tie.Need-first-bad-requires
 first-bad-requires c κs = search needs
 
 bad-answer-requires : tie.Need-bad-answer-requires
-bad-answer-requires c κs = let s = c .before .before .before .before .before .before .before .before .args in omega (arith, c .before .first-bad .ensures, bad-most (s .path-nos .now) (s .paths))
+bad-answer-requires c κs =
+    let s = c .before .before .before .before .before .before .before .before .args in
+    omega (arith, c .before .first-bad .ensures, bad-most (s .path-nos .now) (s .paths))
 
 returns-2 : tie.Need-returns-2
 returns-2 c =
@@ -96,11 +101,12 @@ returns-3 c =
     let v = c .before .before .before .before .before .before .before .before .before .before .before .before .before .check-lent in
     let fine = c .before .before .before .before .before .before .before .before .before .before .before .enum-told .given .1 in
     let b = c .before .before .before .before .before .before .before .before .before .before .first-bad .ensures in
+    let all : length (s .path-nos .now) ≤ firstBad (s .path-nos .now) (s .paths) = omega (arith, b, c .before .before .before .before .before .before .before .before .before .if1 .left) in
     let o = c .before .before .before .before .before .before .before .first-open in
     let room = has-room (s .path-nos .now) (s .paths) (s .coords .now) (s .work .now) (sym (v .ensures) ∙ fine) in
     let part : length (o .last .1 .1 .0) ≡ s .paths * roomWords = o .kept .1 .1 .0 ∙ length-take-le (s .paths * roomWords) (s .work .now) room in
     rw (c .open-answer .ensures, o .ensures, c .before .before .before .clear-words .ensures, cleared-is (s .paths * roomWords) (o .last .1 .1 .0) (s .work .now) room part)
-    (met-open (s .path-nos .now) (s .coords .now) (s .paths) (s .work .now) (v .result) (v .ensures) fine (omega (arith, b, c .before .before .before .before .before .before .before .before .before .if1 .left)))
+    (met-open (s .path-nos .now) (s .coords .now) (s .paths) (s .work .now) (v .result) (v .ensures) fine all)
 
 pub outlines-spec : {M : Type 1} → statement M
 outlines-spec =

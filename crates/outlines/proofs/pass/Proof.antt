@@ -32,7 +32,8 @@ cast-n c = omega (arith, c .before .before .before .pre .0 .few)
 loop-holds : tie.Need-loop-holds Inv-loop μ-loop
 loop-holds c =
     let a = c .before .before .before .args in
-    (omega arith, refl, noted-none (a .path-nos .now) (a .coords .now) (a .work .now) (c .before .before .before .pre .1), least-none (a .path-nos .now) (a .coords .now) (length (a .path-nos .now)))
+    let nos = a .path-nos .now in
+    (omega arith, refl, noted-none nos (a .coords .now) (a .work .now) (c .before .before .before .pre .1), least-none nos (a .coords .now) (length nos))
 
 cast-turn : tie.Need-cast-turn Inv-loop μ-loop
 cast-turn c = search needs

@@ -93,7 +93,9 @@ returns c =
     let s = c .before .before .before .before .before .before .before .before .before .before in
     let l = c .before .before .before .before .before .before .loop in
     let h : l .l < length (s .args .path-nos .now) = omega (arith, s .pre .2 .most) in
-    open-first (s .args .path-nos .now) (s .args .coords .now) (l .l) (omega arith) (λ g. settle-found (s .args .path-nos .now) (s .args .coords .now) (s .args .work .now) (s .args .work .now) (s .pre .0) refl (s .pre .1) (l .l) h (sym (c .before .ends-open .ensures) ∙ c .if1 .taken)) (l .inv .1)
+    let found = sym (c .before .ends-open .ensures) ∙ c .if1 .taken in
+    let is = settle-found (s .args .path-nos .now) (s .args .coords .now) (s .args .work .now) (s .args .work .now) (s .pre .0) refl (s .pre .1) (l .l) h found in
+    open-first (s .args .path-nos .now) (s .args .coords .now) (l .l) (omega arith) (λ g. is) (l .inv .1)
 
 add-l : tie.Need-add-l Inv-loop μ-loop
 add-l c = search needs
@@ -105,11 +107,12 @@ loop-again : tie.Need-loop-again Inv-loop μ-loop
 loop-again c =
     let s = c .before .before .before .before .before .before .before .before .before .before in
     let l = c .before .before .before .before .before .before .loop in
-    let h : l .l < length (s .args .path-nos .now) = omega (arith, s .pre .2 .most) in (
-      omega arith,
-      below-next (leftOpen (s .args .path-nos .now) (s .args .coords .now)) (l .l) (l .inv .1)
-          (settle-past (s .args .path-nos .now) (s .args .coords .now) (s .args .work .now) (s .args .work .now) (s .pre .0) refl (s .pre .1) (l .l) h (length (s .args .path-nos .now)) (s .args .best) (s .pre .2) (omega arith) (sym (c .before .ends-open .ensures) ∙ c .if1 .left)),
-    )
+    let nos = s .args .path-nos .now in
+    let fs = s .args .coords .now in
+    let h : l .l < length nos = omega (arith, s .pre .2 .most) in
+    let not-so = sym (c .before .ends-open .ensures) ∙ c .if1 .left in
+    let is = settle-past nos fs (s .args .work .now) (s .args .work .now) (s .pre .0) refl (s .pre .1) (l .l) h (length nos) (s .args .best) (s .pre .2) (omega arith) not-so in
+    (omega arith, below-next (leftOpen nos fs) (l .l) (l .inv .1) is)
 
 returns-2 : tie.Need-returns-2 Inv-loop μ-loop
 returns-2 c =

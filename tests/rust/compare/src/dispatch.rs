@@ -24,6 +24,7 @@ pub const NAMES: &[&str] = &[
     "pixel",
     "recount",
     "check",
+    "outlines",
     "svg_lines",
 ];
 
@@ -44,6 +45,7 @@ pub const CHANGED: &[&[usize]] = &[
     &[],
     &[4, 5, 6, 7, 8],
     &[7],
+    &[2],
     &[1, 2],
 ];
 
@@ -60,6 +62,7 @@ pub const BYTES: &[&[usize]] = &[
     &[],
     &[1],
     &[0, 1],
+    &[],
     &[],
     &[],
     &[],
@@ -84,6 +87,7 @@ pub const SHAPES: &[(usize, usize)] = &[
     (2, 4),
     (9, 1),
     (8, 1),
+    (3, 1),
     (3, 2),
 ];
 
@@ -104,6 +108,7 @@ pub const LINKED: &[bool] = &[
     ours::has::PIXEL,
     ours::has::RECOUNT,
     ours::has::CHECK,
+    ours::has::OUTLINES,
     ours::has::SVG,
 ];
 
@@ -323,7 +328,18 @@ macro_rules! answered_by {
                     );
                     vec![no, item, found]
                 }
-                (15, [text, path_nos, coords]) => {
+                (15, [path_nos, coords, work]) => {
+                    let mut item = UNTOLD;
+                    let no = $side::outlines(
+                        path_nos.u32s(),
+                        coords.f32s(),
+                        n[0],
+                        work.u32s_mut(),
+                        &mut item,
+                    );
+                    vec![no, item]
+                }
+                (16, [text, path_nos, coords]) => {
                     let mut lines = UNTOLD as usize;
                     let mut place = UNTOLD as usize;
                     let text_bytes = LentBytes::of(text.u32s());

@@ -361,6 +361,29 @@ unsafe extern "C" fn gp_check(
     answer
 }
 
+#[cfg(feature = "outlines")]
+#[no_mangle]
+unsafe extern "C" fn gp_outlines(
+    path_nos: *const u32, path_nos_len: usize,
+    coords: *const f32, coords_len: usize,
+    path_count: u32,
+    work: *mut u32, work_len: usize,
+    item: &mut u32,
+) -> u32 {
+    let mut n = [path_count, *item];
+    let answer = call(
+        15,
+        &mut n,
+        vec![
+            read_only(path_nos, path_nos_len),
+            read_only(coords, coords_len),
+            changed(work, work_len),
+        ],
+    );
+    *item = n[1];
+    answer
+}
+
 #[cfg(feature = "svg")]
 #[no_mangle]
 unsafe extern "C" fn gp_svg_lines(
@@ -372,7 +395,7 @@ unsafe extern "C" fn gp_svg_lines(
 ) -> u32 {
     let mut n = [depth, path, *lines as u32, *place as u32];
     let answer = call(
-        15,
+        16,
         &mut n,
         vec![
             read_only(text, text_len),
