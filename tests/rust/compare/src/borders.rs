@@ -173,7 +173,7 @@ fn check(rng: &mut Rng, kind: u32) -> Call {
 
 /// Lines about as many as have numbers, each an outline of its own, or paths about as many as are allowed.
 fn outlines(rng: &mut Rng, kind: u32) -> Call {
-    let paths = rules::limits::PATHS_MOST as u32 + rng.range(-1, 2) as u32;
+    let paths = (rules::limits::PATHS_MOST + rng.range(-1, 2)) as u32;
     let (path_nos, coords) = if rng.one_in(4) {
         let (path_nos, coords, _) = many_lines(rng);
         (path_nos, coords)

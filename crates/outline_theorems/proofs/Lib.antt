@@ -1,0 +1,5 @@
+pub mod Same
+pub mod Sums
+pub mod AsMany
+pub mod Exact
+pub mod Cheats

@@ -1,0 +1,7 @@
+-- What closed outlines are worth.
+--     Closed     lines that the call passes
+--     Crossings  lines of a path that start or end on a side
+--     Ways       how the call can end
+pub mod Closed
+pub mod Crossings
+pub mod Ways
