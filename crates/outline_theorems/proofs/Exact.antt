@@ -62,18 +62,18 @@ module _ (nos : List ℕ) (fs : List Float) (paths : ℕ) (work : List ℕ) wher
   many-met : length fs ≡ length nos * lineFloats → mostPaths < paths → OutlinesMet nos fs paths work (Refused tooMany 0) work
   many-met e h =
       let n = no-remainder e in
-      met-refused nos fs paths work _ refl tooMany (fails-at 2 (lentChecks (length nos) (length fs) paths (length work)) (n .0, n .1, lt-leb paths mostPaths h))
+      met-refused nos fs paths work _ refl tooMany (fails-at 2 (lentChecks (length nos) (length fs) paths (length work)) (n .0, (n .1, lt-leb paths mostPaths h)))
 
   roomless-met : length fs ≡ length nos * lineFloats → paths ≤ mostPaths → length work < paths * roomWords → OutlinesMet nos fs paths work (Refused noRoom 0) work
   roomless-met e h g =
       let n = no-remainder e in
       met-refused nos fs paths work _ refl noRoom
-      (fails-at 3 (lentChecks (length nos) (length fs) paths (length work)) (n .0, n .1, le-leb paths mostPaths h, lt-leb (paths * roomWords) (length work) g))
+      (fails-at 3 (lentChecks (length nos) (length fs) paths (length work)) (n .0, (n .1, (le-leb paths mostPaths h, lt-leb (paths * roomWords) (length work) g))))
 
   fine : Lent nos fs paths work → firstNo (lentChecks (length nos) (length fs) paths (length work)) ≡ Fine
   fine l =
       let n = no-remainder (l .whole) in
-      none-fails (lentChecks (length nos) (length fs) paths (length work)) (n .0, n .1, le-leb paths mostPaths (l .few), le-leb (paths * roomWords) (length work) (l .room), tt)
+      none-fails (lentChecks (length nos) (length fs) paths (length work)) (n .0, (n .1, (le-leb paths mostPaths (l .few), (le-leb (paths * roomWords) (length work) (l .room), tt))))
 
   -- a line that has a number, and a path that is there, isn't bad
   not-bad : (k : ℕ) → k < mostLines → getD nos k 0 < paths → badLine nos paths k ≡ false
@@ -155,23 +155,23 @@ module _ (nos : List ℕ) (fs : List Float) (paths : ℕ) (work : List ℕ) wher
       go (yes a) (no b) (yes c) d e f = let l : paths ≤ mostPaths = omega arith in went _ _ (roomless-met a l c) (roomless refl a l c refl)
       go (yes a) (no b) (no c) (yes d) (yes e) f =
           let k : Lent nos fs paths work = record { whole = a; few = omega arith; room = omega arith } in
-          let before = λ (j : ℕ) (h : j < firstBad nos paths). there j h .1 in
+          let before : (j : ℕ) → j < firstBad nos paths → getD nos j 0 < paths = λ j h. there j h .1 in
           went _ _ (nowhere-met (firstBad nos paths) k d e (bad-path d e) before) (nowhere (firstBad nos paths) refl k d e (bad-path d e) before refl)
       go (yes a) (no b) (no c) (yes d) (no e) f =
           let k : Lent nos fs paths work = record { whole = a; few = omega arith; room = omega arith } in
           let over : mostLines < length nos = omega (arith, bad-most nos paths) in
-          let before = λ (j : ℕ) (h : j < mostLines). there j (omega arith) .1 in
+          let before : (j : ℕ) → j < mostLines → getD nos j 0 < paths = λ j h. there j (omega arith) .1 in
           went _ _ (numberless-met k over before) (numberless refl k over before refl)
       go (yes a) (no b) (no c) (no d) e (yes f) =
           let k : Lent nos fs paths work = record { whole = a; few = omega arith; room = omega arith } in
           let g : Good nos paths = record { few = omega (arith, bad-most nos paths); there = λ l h. there l (omega arith) .1 } in
           let is = first-hit (Outlines.leftOpen nos fs) (length nos) f in
-          let before = λ (j : ℕ) (h : j < firstOpen nos fs). first-missed (Outlines.leftOpen nos fs) (length nos) j h in
+          let before : NoneOpen nos fs (firstOpen nos fs) = λ j h. first-missed (Outlines.leftOpen nos fs) (length nos) j h in
           went _ _ (ajar-met (firstOpen nos fs) k g f is before) (ajar (firstOpen nos fs) refl k g f is before refl)
       go (yes a) (no b) (no c) (no d) e (no f) =
           let k : Lent nos fs paths work = record { whole = a; few = omega arith; room = omega arith } in
           let g : Good nos paths = record { few = omega (arith, bad-most nos paths); there = λ l h. there l (omega arith) .1 } in
-          let before = λ (j : ℕ) (h : j < length nos). first-missed (Outlines.leftOpen nos fs) (length nos) j (omega arith) in
+          let before : NoneOpen nos fs (length nos) = λ j h. first-missed (Outlines.leftOpen nos fs) (length nos) j (omega arith) in
           went _ _ (closed-met k g before) (closed refl k g before refl)
 
   pub outlines-exact : (a : Answer) (w : List ℕ) → OutlinesMet nos fs paths work a w ↔ OutlinesWay nos fs paths work a w

@@ -32,7 +32,8 @@ pub data OutlinesWay (nos : List ℕ) (fs : List Float) (paths : ℕ) (work : Li
   -- 1, 2 and 9, in this order; nothing changes
   unwhole : a ≡ Refused notWhole 0 → (length fs ≡ length nos * lineFloats → ⊥) → work′ ≡ work → OutlinesWay nos fs paths work a work′
   many : a ≡ Refused tooMany 0 → length fs ≡ length nos * lineFloats → mostPaths < paths → work′ ≡ work → OutlinesWay nos fs paths work a work′
-  roomless : a ≡ Refused noRoom 0 → length fs ≡ length nos * lineFloats → paths ≤ mostPaths → length work < paths * roomWords → work′ ≡ work → OutlinesWay nos fs paths work a work′
+  roomless : a ≡ Refused noRoom 0 → length fs ≡ length nos * lineFloats → paths ≤ mostPaths → length work < paths * roomWords → work′ ≡ work
+      → OutlinesWay nos fs paths work a work′
   -- 5: one line more than have numbers, all before it of paths that are there
   numberless : a ≡ Refused lineNumber mostLines → Lent nos fs paths work → mostLines < length nos → ((l : ℕ) → l < mostLines → getD nos l 0 < paths) → work′ ≡ work
       → OutlinesWay nos fs paths work a work′

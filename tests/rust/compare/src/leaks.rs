@@ -18,7 +18,8 @@ struct Outline {
 enum Told {
     Refused,
     Tight,
-    Leaks(i64),
+    /// In this row, by this much.
+    Leaks(i64, i32),
 }
 
 impl Outline {
@@ -47,12 +48,13 @@ impl Outline {
         if number != DONE {
             return Told::Refused;
         }
-        let leak = backs.chunks_exact(width).position(|row| row.iter().sum::<i32>() != 0);
-        leak.map_or(Told::Tight, |row| Told::Leaks(self.b[1] + row as i64))
+        let mut sums = backs.chunks_exact(width).map(|row| row.iter().sum::<i32>());
+        let row = sums.clone().position(|sum| sum != 0);
+        row.map_or(Told::Tight, |row| Told::Leaks(self.b[1] + row as i64, sums.nth(row).unwrap()))
     }
 
     fn leaks(&self) -> bool {
-        self.b[0] >= 0 && self.b[1] >= 0 && matches!(self.told(), Told::Leaks(_))
+        self.b[0] >= 0 && self.b[1] >= 0 && matches!(self.told(), Told::Leaks(..))
     }
 
     /// Few corners first, then small boxes near the origin, then few bits.
@@ -99,9 +101,9 @@ impl Outline {
     fn show(&self) -> String {
         let b = self.b;
         let corner = |p: &[f32; 2]| format!("({:?}, {:?}) bits {:08x} {:08x}", p[0], p[1], p[0].to_bits(), p[1].to_bits());
-        let row = if let Told::Leaks(row) = self.told() { row } else { -1 };
+        let (row, sum) = if let Told::Leaks(row, sum) = self.told() { (row, sum) } else { (-1, 0) };
         let corners: Vec<String> = self.corners.iter().map(corner).collect();
-        format!("box {},{},{},{}, row {row}: {}", b[0], b[1], b[2], b[3], corners.join(", "))
+        format!("box {},{},{},{}, row {row} sums to {sum}: {}", b[0], b[1], b[2], b[3], corners.join(", "))
     }
 }
 
@@ -140,7 +142,7 @@ fn family(what: &str, n: u64, seed: u64, pen: Pen, tiles: i64) -> u64 {
         match outline.told() {
             Told::Refused => refused += 1,
             Told::Tight => (),
-            Told::Leaks(_) => {
+            Told::Leaks(..) => {
                 met += 1;
                 if least.as_ref().is_none_or(|l| outline.size() < l.size()) {
                     least = Some(outline.smallest());
@@ -160,7 +162,7 @@ pub fn run(n: u64, seed: u64) -> bool {
     assert!(WALK_MOST > 4_096);
     println!("closed outlines of three or four lines, in boxes with a margin, counted by the rules:");
     let mut drawn_leak = 0;
-    for tiles in [4, 20, 64] {
+    for tiles in [4, 8, 20, 64] {
         drawn_leak += family("sixteenths of a pixel", n, seed, drawn, tiles);
         family("any floats", n, seed, any, tiles);
         family("near tiles' edges", n, seed, edge, tiles);
