@@ -3,7 +3,7 @@ use mathlib.Core.Path.{_≡_, refl, sym, ap, subst, _∙_}
 use mathlib.Core.Bool.{Bool, true, false, cond}
 use mathlib.Core.List.{List, map}
 use Prim.Native.Nat.{ℕ, zero, suc, _+_, _≤_, _<_}
-use native.Mathlib.Nat.{add-zero}
+use native.Mathlib.Nat.{add-zero, zero-add}
 use native.Mathlib.Omega.{arith}
 use lib.Dec.{eqb}
 use lib.ListN.{length, getD}
@@ -77,10 +77,13 @@ module _ (nos : List ℕ) (fs : List Float) (paths : List ℕ) (p x y : ℕ) (h 
           let other : getD nos a 0 ≡ p → ⊥ = eqb-false (getD nos a 0) p q in
           ih w (ap (λ (m : ℕ). w +ℤ pos m) (sum-other nos (goesDown fs h) p a other) ∙ e ∙ ap pos (sym (sum-other nos (goesUp fs h) p a other)))
 
+  abbrev winding : ℤ
+  winding = actAll add (ofPath p (map (drawnAt nos fs) (from 0 (length nos)))) (pos 0)
+
   -- so nothing is left right of them
   pub no-leak : Closed nos fs → windingOf paths p x y (drawn nos fs (length nos)) ≡ pos 0
   unfolding windingOf
   no-leak c =
-      none-left _ (down (length nos))
-      (rows (length nos) 0 (pos 0) (omega arith) (ap (λ (m : ℕ). pos 0 +ℤ pos m) (sum-none nos (goesDown fs h) p) ∙ ap pos (sym (sum-none nos (goesUp fs h) p)))
-      ∙ ap pos (sym (as-many-down nos fs c h p)))
+      let all = rows (length nos) 0 (pos 0) (omega arith) (ap (λ (m : ℕ). pos 0 +ℤ pos m) (sum-none nos (goesDown fs h) p) ∙ ap pos (sym (sum-none nos (goesUp fs h) p))) in
+      none-left winding (down (length nos))
+      (subst (λ (m : ℕ). winding +ℤ pos (down m) ≡ pos (up m)) (zero-add (length nos)) all ∙ ap pos (sym (as-many-down nos fs c h p)))
