@@ -66,6 +66,7 @@ uint32_t gp_version(void);
 #define GP_BAD_SEGMENT 20u /* a fill's segment with an end outside 0..16, or a y_edge not finite */
 #define GP_BAD_TEXT 21u   /* a text that is no path data of SVG */
 #define GP_TOO_DEEP 22u   /* a curve halved more than 6 times */
+#define GP_LEFT_OPEN 23u  /* an outline that doesn't end where it began */
 
 /* The limits: at most so many, or so large. */
 #define GP_MAX_PATHS 4096u
@@ -124,6 +125,7 @@ uint32_t gp_version(void);
 #define GP_REF_WORDS 2u      /* line number; slice number * GP_STEP_RANGE + step number */
 #define GP_SEGMENT_FLOATS 5u /* point0.x, point0.y, point1.x, point1.y, y_edge */
 #define GP_PAINT_WORDS 2u    /* colour, red in the high byte; rule, its lowest bit set for even-odd */
+#define GP_OUTLINE_WORDS 2u  /* working room of gp_outlines, for each path */
 #define GP_PATH_X0 0u        /* where a path's words stand */
 #define GP_PATH_Y0 1u
 #define GP_PATH_X1 2u
@@ -350,6 +352,22 @@ uint32_t gp_check(const uint32_t *path_nos, size_t path_nos_len,
                   uint32_t *work, size_t work_len,
                   uint32_t *found, uint32_t *item);
 
+/* Whether lines make closed outlines: run it over one's own lines before they are drawn, since a forgotten closing
+ * line leaks a fill across the box, and no other call refuses it. Lines of different paths may be mixed. A line that
+ * starts where its path's line before it ended goes on with that line's outline; any other begins a new one. An outline
+ * must end where it began. Points are compared bit for bit: +0 is not -0, and a NaN is the same as nothing. work is
+ * working room, GP_OUTLINE_WORDS for each path: 9 where it is less. Then 5 for line number 65,536, and 7 for a path
+ * number not below path_count, with the first such line; then 23 with the first line after which an outline stands
+ * open. *item is that line; 0 for 0, 1, 2 and 9. Where 1, 2, 9, 5 or 7 is answered work stays; else its first
+ * GP_OUTLINE_WORDS * path_count words are 0 afterwards, and the rest as they were. Nothing is said of boxes, nor of
+ * whether a coordinate is one that counting takes (6).
+ * 1: coords whole; as many path_nos as lines. */
+uint32_t gp_outlines(const uint32_t *path_nos, size_t path_nos_len,
+                     const float *coords, size_t coords_len,
+                     uint32_t path_count,
+                     uint32_t *work, size_t work_len,
+                     uint32_t *item);
+
 /* The lines of an outline, from the path data of SVG 1.1: M, L, H, V, Z and Q, large or small, with
  * numbers of up to six digits before the point and three after. They stand at the front of path_nos
  * and coords as gp_count and gp_frame take them, each with the number path; *lines says how many. A Q
@@ -423,6 +441,7 @@ static inline const char *gp_refusal_text(uint32_t refusal) {
     case GP_BAD_SEGMENT: return "a fill's segment with an end outside 0..16, or a y_edge not finite";
     case GP_BAD_TEXT: return "a text that is no path data of SVG";
     case GP_TOO_DEEP: return "a curve halved more than 6 times";
+    case GP_LEFT_OPEN: return "an outline that doesn't end where it began";
     default: return "no refusal of this version";
     }
 }

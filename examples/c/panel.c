@@ -40,7 +40,7 @@ static const uint32_t paints[PATHS * GP_PAINT_WORDS] = {0xff0000ff, 0, 0x0000fff
 static int32_t backdrops[TILES];
 static uint32_t stored[TILES], tally[TILES], refs[MOST * GP_REF_WORDS], words[WORDS], pixels[256 * SCREEN];
 static float segments[MOST * GP_SEGMENT_FLOATS];
-static uint32_t tags[MOST];
+static uint32_t tags[MOST], ends[PATHS * GP_OUTLINE_WORDS];
 
 /* Moves a line from its place in a channel's strip to that on the screen. */
 static void placed(float *line, uint32_t channel) {
@@ -104,6 +104,12 @@ static int framed(size_t room, size_t most, uint32_t *made) {
             fprintf(stderr, "the panel itself is at fault: %s (refusal %u in part %u)\n", gp_refusal_text(no), no, stage);
             return 0;
         }
+    }
+    /* A forgotten closing line would leak a fill across its strip, and a frame doesn't refuse it. */
+    uint32_t no = gp_outlines(path_nos, n, coords, n * GP_LINE_FLOATS, PATHS, ends, PATHS * GP_OUTLINE_WORDS, &item);
+    if (no != GP_DONE) {
+        fprintf(stderr, "the panel itself is at fault: %s (refusal %u at line %u)\n", gp_refusal_text(no), no, item);
+        return 0;
     }
     printf("frame: 0, lines %u, references %u\n", lines, *made);
     return 1;

@@ -3,6 +3,7 @@ pub mod Told
 pub mod ToldBoxes
 pub mod ToldCheck
 pub mod ToldFrame
+pub mod ToldOutlines
 pub mod ToldPpm
 pub mod ToldPixel
 pub mod ToldRecount

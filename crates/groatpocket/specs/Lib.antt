@@ -5,6 +5,7 @@ pub mod CallBoxes
 pub mod CallCheck
 pub mod CallFrame
 pub mod CallLists
+pub mod CallOutlines
 pub mod CallPpm
 pub mod CallPixel
 pub mod CallRecount

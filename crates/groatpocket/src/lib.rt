@@ -11,6 +11,7 @@ pub mod call_fine;
 pub mod call_frame;
 pub mod call_hand_out;
 pub mod call_lists;
+pub mod call_outlines;
 pub mod call_pixel;
 pub mod call_ppm;
 pub mod call_recount;

@@ -3,8 +3,8 @@
 //! `rt staticlib groatpocket` has written the archive: `cargo run`. Two numbers may follow: the references that there is
 //! room for at first, and the most that may be lent.
 use groatpocket::{
-    fine, frame, words_needed, write_lists, Frame, FrameStopped, Paint, Path, Refusal, Running, Screen,
-    WriteLists, LINE_FLOATS, REF_WORDS, SEGMENT_FLOATS, TILE_PIXELS,
+    fine, frame, outlines, words_needed, write_lists, Frame, FrameStopped, Outlines, Paint, Path, Refusal,
+    Refused, Running, Screen, WriteLists, LINE_FLOATS, OUTLINE_WORDS, REF_WORDS, SEGMENT_FLOATS, TILE_PIXELS,
 };
 use std::error::Error;
 
@@ -53,6 +53,18 @@ impl Lines {
             let corners = [[x, 15.0], [x + 5.0, 1.0], [x + 10.0, 1.0], [x + 5.0, 15.0], [x, 15.0]];
             corners.windows(2).for_each(|side| self.add(CHANNELS + channel, &side.concat()));
         }
+    }
+
+    /// Whether every outline comes back to where it began. A forgotten closing line would leak a fill across its strip, and a
+    /// frame doesn't refuse it.
+    fn closed(&self) -> Result<(), Refused> {
+        let mut work = [0; 2 * CHANNELS as usize * OUTLINE_WORDS];
+        outlines(Outlines {
+            path_nos: &self.path_nos,
+            coords: &self.coords,
+            path_count: 2 * CHANNELS,
+            work: &mut work,
+        })
     }
 
     /// The channel that a frame's refusal is the fault of, and its line. Too little room, too many lines, wrong boxes and a
@@ -184,6 +196,7 @@ fn main() -> Result<(), Box<dyn Error>> {
 
     let (memory, done) = framed(&mut lines, &paths, room, most)
         .map_err(|stopped| format!("the panel itself is at fault: {stopped}"))?;
+    lines.closed().map_err(|refused| format!("the panel itself is at fault: {refused}"))?;
     println!("frame: 0, lines {}, references {}", done.lines, done.references);
 
     // Before anything is shown: every segment in a channel's slots has that channel's beam on it.

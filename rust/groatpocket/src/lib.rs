@@ -67,7 +67,7 @@
 //! [`tile`]. The paths' boxes can be made from their lines: [`boxes`]. Where one gauge has moved, its path alone is counted again: [`recount`]. What another has counted, a graphics card, is
 //! held against our own count before it is used: [`check`]. One pixel can be asked for by itself: [`pixel`], [`pixel_area`]. Threads can
 //! draw one screen at once, a band of its rows each: [`fine_rows`]. Lines of an outline can be read from
-//! SVG: [`svg_lines`].
+//! SVG: [`svg_lines`]. Whether one's own lines make closed outlines, [`outlines`] says.
 //!
 //! Nothing is allocated and the crate is `no_std`. It links `libgroatpocket.a`: see its README. Colours are multiplied by
 //! their alpha, and nothing refuses one that isn't; a paint has red in its highest byte and a pixel in its lowest.
@@ -110,6 +110,8 @@ mod check;
 mod frame;
 #[cfg(feature = "lists")]
 mod lists;
+#[cfg(feature = "outlines")]
+mod outlines;
 #[cfg(feature = "picture")]
 mod picture;
 #[cfg(feature = "pixel")]
@@ -134,6 +136,8 @@ pub use check::{check, work_needed, Check, Found};
 pub use frame::{frame, Frame, FrameStopped, Stage};
 #[cfg(feature = "lists")]
 pub use lists::{words_needed, write_lists, WriteLists};
+#[cfg(feature = "outlines")]
+pub use outlines::{outlines, Outlines, OUTLINE_WORDS};
 #[cfg(feature = "picture")]
 pub use picture::{ppm_read, ppm_write};
 #[cfg(feature = "pixel")]

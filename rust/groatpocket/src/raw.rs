@@ -140,6 +140,14 @@ extern "C" {
         found: &mut u32, item: &mut u32,
     ) -> u32;
 
+    pub fn gp_outlines(
+        path_nos: *const u32, path_nos_len: usize,
+        coords: *const f32, coords_len: usize,
+        path_count: u32,
+        work: *mut u32, work_len: usize,
+        item: &mut u32,
+    ) -> u32;
+
     pub fn gp_svg_lines(
         text: *const u8, text_len: usize,
         depth: u32, path: u32,

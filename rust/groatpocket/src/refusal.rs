@@ -49,17 +49,19 @@ pub enum Refusal {
     BadText = 21,
     /// 22: a curve halved more than 6 times.
     TooDeep = 22,
+    /// 23: an outline that doesn't end where it began.
+    LeftOpen = 23,
 }
 
 impl Refusal {
     /// All of them, by their numbers.
     #[rustfmt::skip]
-    pub const ALL: [Refusal; 22] = {
+    pub const ALL: [Refusal; 23] = {
         use Refusal::*;
         [
             NotWhole, TooMany, BadBox, BadRange, LineNumber, Coordinate, NoSuch, CountOver, NoRoom,
             Outside, SumOver, Crooked, PastEnd, Unknown, TooLong, BadScreen, BadSize, BadFile,
-            OffTile, BadSegment, BadText, TooDeep,
+            OffTile, BadSegment, BadText, TooDeep, LeftOpen,
         ]
     };
 
@@ -95,6 +97,7 @@ impl Refusal {
             BadSegment => "a fill's segment with an end outside 0..16, or a y_edge not finite",
             BadText => "a text that is no path data of SVG",
             TooDeep => "a curve halved more than 6 times",
+            LeftOpen => "an outline that doesn't end where it began",
         }
     }
 

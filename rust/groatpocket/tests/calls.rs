@@ -53,6 +53,27 @@ fn an_outline_is_read_or_refused_at_its_place() {
     assert_eq!(no.to_string(), "refusal 21: a text that is no path data of SVG; byte 0");
 }
 
+#[cfg(feature = "outlines")]
+#[test]
+fn outlines_are_closed_or_named() {
+    let square = [4.0, 4.0, 20.0, 4.0, 20.0, 4.0, 20.0, 20.0, 20.0, 20.0, 4.0, 20.0, 4.0, 20.0, 4.0, 4.0];
+    let mut work = [7; 2 * OUTLINE_WORDS + 1];
+    let mut told = |path_nos: &[u32], coords: &[f32], path_count, room: usize| {
+        let answer = outlines(Outlines { path_nos, coords, path_count, work: &mut work[..room] });
+        let left = work;
+        work = [7; 2 * OUTLINE_WORDS + 1];
+        (answer.map_err(|no| (no.refusal.number(), no.item)), left)
+    };
+    let all = 2 * OUTLINE_WORDS;
+    assert_eq!(told(&[1; 4], &square, 2, all), (Ok(()), [0, 0, 0, 0, 7]));
+    // the closing line is forgotten
+    assert_eq!(told(&[1; 3], &square[..12], 2, all), (Err((23, 2)), [0, 0, 0, 0, 7]));
+    assert_eq!(told(&[1, 1, 2, 1], &square, 2, all), (Err((7, 2)), [7; 5]));
+    assert_eq!(told(&[0; 4], &square, 2, all - 1), (Err((9, 0)), [7; 5]));
+    assert_eq!(told(&[0; 3], &square, 2, all), (Err((1, 0)), [7; 5]));
+    assert_eq!(told(&[], &[], 4_097, all), (Err((2, 0)), [7; 5]));
+}
+
 #[test]
 fn batches_make_what_one_batch_makes() {
     let path_nos = [0, 0, 0];

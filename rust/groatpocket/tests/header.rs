@@ -119,6 +119,9 @@ fn widths_and_commands() {
         assert_eq!(header[name] as usize, width, "{name}");
         assert!(code.get(name).is_none_or(|&w| w as usize == width), "{name}");
     }
+    let room = numbers(&text("crates/outlines/src/lib.rt"), "const ", ": usize = ");
+    let each = OUTLINE_WORDS as u32;
+    assert_eq!((header["OUTLINE_WORDS"], room["ROOM_WORDS"]), (each, each));
     let range = numbers(&text("crates/panel/src/widths.rt"), "pub const ", ": u32 = ");
     assert_eq!((header["STEP_RANGE"], range["STEP_RANGE"]), (STEP_RANGE, STEP_RANGE));
     let commands = numbers(&commands, "pub const ", ": u32 = ");

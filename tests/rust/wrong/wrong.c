@@ -183,6 +183,16 @@ uint32_t __wrap_gp_check(const uint32_t *path_nos, size_t path_nos_len, const fl
     return answer;
 }
 
+uint32_t __real_gp_outlines(const uint32_t *path_nos, size_t path_nos_len, const float *coords, size_t coords_len, uint32_t path_count, uint32_t *work, size_t work_len, uint32_t *item);
+uint32_t __wrap_gp_outlines(const uint32_t *path_nos, size_t path_nos_len, const float *coords, size_t coords_len, uint32_t path_count, uint32_t *work, size_t work_len, uint32_t *item) {
+    uint32_t answer = __real_gp_outlines(path_nos, path_nos_len, coords, coords_len, path_count, work, work_len, item);
+    if (strikes("outlines work", answer == 0 && work_len > 0)) flip(work + work_len / 2);
+    if (strikes("outlines work refused", answer != 0 && work_len > 0)) flip(work + work_len / 2);
+    if (strikes("outlines item", answer != 0)) *item += 1;
+    if (strikes("outlines answer", 1)) answer ^= 1;
+    return answer;
+}
+
 uint32_t __real_gp_svg_lines(const uint8_t *text, size_t text_len, uint32_t depth, uint32_t path, uint32_t *path_nos, size_t path_nos_len, float *coords, size_t coords_len, size_t *lines, size_t *place);
 uint32_t __wrap_gp_svg_lines(const uint8_t *text, size_t text_len, uint32_t depth, uint32_t path, uint32_t *path_nos, size_t path_nos_len, float *coords, size_t coords_len, size_t *lines, size_t *place) {
     uint32_t answer = __real_gp_svg_lines(text, text_len, depth, path, path_nos, path_nos_len, coords, coords_len, lines, place);

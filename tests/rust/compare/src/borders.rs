@@ -190,6 +190,19 @@ fn check(rng: &mut Rng, kind: u32) -> Call {
     Call { kind, numbers: vec![u32::MAX], slices }
 }
 
+/// Lines about as many as have numbers, each an outline of its own, or paths about as many as are allowed.
+fn outlines(rng: &mut Rng, kind: u32) -> Call {
+    let paths = (rules::limits::PATHS_MOST + rng.range(-1, 2)) as u32;
+    let (path_nos, coords) = if rng.one_in(4) {
+        let (path_nos, coords, _) = many_lines(rng);
+        (path_nos, coords)
+    } else {
+        (vec![rng.pick(&[0, paths - 1, paths])], vec![0; LINE])
+    };
+    let room = rules::outlines::ROOM_EACH * paths as usize + rng.below(2) as usize - rng.below(2) as usize;
+    Call { kind, numbers: vec![paths], slices: vec![path_nos, coords, vec![7; room]] }
+}
+
 /// A call that leads to a rare answer of the kind, where it has one.
 pub fn toward(rng: &mut Rng, kind: u32) -> Option<Call> {
     Some(match NAMES[kind as usize] {
@@ -208,6 +221,7 @@ pub fn toward(rng: &mut Rng, kind: u32) -> Option<Call> {
         "recount" => recount(rng, kind),
         "boxes" => boxes(rng, kind),
         "check" => check(rng, kind),
+        "outlines" => outlines(rng, kind),
         "write_lists" if rng.one_in(4) => write_lists(rng),
         "ppm_read" => {
             let (width, height) = (rng.pick(&[0, 1, SIDE_MOST, SIDE_MOST + 1, u32::MAX]), rng.pick(&[0, 1, SIDE_MOST + 1]));

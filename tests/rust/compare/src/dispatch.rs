@@ -25,6 +25,7 @@ pub const NAMES: &[&str] = &[
     "recount",
     "boxes",
     "check",
+    "outlines",
     "svg_lines",
     "fine_rows",
 ];
@@ -47,6 +48,7 @@ pub const CHANGED: &[&[usize]] = &[
     &[4, 5, 6, 7, 8],
     &[3, 4],
     &[7],
+    &[2],
     &[1, 2],
     &[2],
 ];
@@ -64,6 +66,7 @@ pub const BYTES: &[&[usize]] = &[
     &[],
     &[1],
     &[0, 1],
+    &[],
     &[],
     &[],
     &[],
@@ -91,6 +94,7 @@ pub const SHAPES: &[(usize, usize)] = &[
     (9, 1),
     (5, 1),
     (8, 1),
+    (3, 1),
     (3, 2),
     (3, 5),
 ];
@@ -113,6 +117,7 @@ pub const LINKED: &[bool] = &[
     ours::has::RECOUNT,
     ours::has::BOXES,
     ours::has::CHECK,
+    ours::has::OUTLINES,
     ours::has::SVG,
     ours::has::BANDS,
 ];
@@ -348,7 +353,18 @@ macro_rules! answered_by {
                     );
                     vec![no, item, found]
                 }
-                (16, [text, path_nos, coords]) => {
+                (16, [path_nos, coords, work]) => {
+                    let mut item = UNTOLD;
+                    let no = $side::outlines(
+                        path_nos.u32s(),
+                        coords.f32s(),
+                        n[0],
+                        work.u32s_mut(),
+                        &mut item,
+                    );
+                    vec![no, item]
+                }
+                (17, [text, path_nos, coords]) => {
                     let mut lines = UNTOLD as usize;
                     let mut place = UNTOLD as usize;
                     let text_bytes = LentBytes::of(text.u32s());
@@ -364,7 +380,7 @@ macro_rules! answered_by {
                     text_bytes.give_back(text.u32s_mut());
                     vec![no, 0, lines as u32, place as u32]
                 }
-                (17, [words, segments, pixels]) => {
+                (18, [words, segments, pixels]) => {
                     let mut item = UNTOLD;
                     let no = $side::fine_rows(
                         words.u32s(),

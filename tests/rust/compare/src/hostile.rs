@@ -80,6 +80,42 @@ fn any_word(rng: &mut Rng) -> u32 {
     }
 }
 
+/// Closed outlines of some paths, their lines mixed, and now and then a line left out or a point moved by a bit.
+fn outlines(rng: &mut Rng, path_count: u32) -> (Vec<u32>, Vec<u32>) {
+    let mut rows: Vec<(u32, Vec<[u32; LINE]>)> = vec![];
+    for _ in 0..rng.range(0, 4) {
+        let corners: Vec<[u32; 2]> = (0..rng.range(1, 4)).map(|_| [0, 0].map(|_: u32| rng.pick(&[0, 1 << 31, 0x4100_0000, 0x4180_0000]))).collect();
+        let next = |k: usize| corners[(k + 1) % corners.len()];
+        let lines = corners.iter().enumerate().map(|(k, p)| [p[0], p[1], next(k)[0], next(k)[1]]).collect();
+        rows.push((rng.below(u64::from(path_count)) as u32, lines));
+    }
+    // an outline's lines in a row of their own path; outlines of one path one after another
+    rows.sort_by_key(|row| row.0);
+    let mut queues: Vec<(u32, Vec<[u32; LINE]>)> = vec![];
+    for (path, lines) in rows {
+        match queues.last_mut().filter(|q| q.0 == path) {
+            Some(queue) => queue.1.extend(lines),
+            None => queues.push((path, lines)),
+        }
+    }
+    let (mut path_nos, mut coords) = (vec![], vec![]);
+    while !queues.is_empty() {
+        let k = rng.below(queues.len() as u64) as usize;
+        let mut line = queues[k].1.remove(0);
+        if rng.one_in(24) {
+            line[rng.below(LINE as u64) as usize] ^= rng.pick(&[1, 1 << 31, 0x7fc0_0000]);
+        }
+        if !rng.one_in(24) {
+            path_nos.push(queues[k].0);
+            coords.extend(line);
+        }
+        if queues[k].1.is_empty() {
+            queues.swap_remove(k);
+        }
+    }
+    (path_nos, coords)
+}
+
 /// A good call of the kind, as far as it goes.
 fn good(rng: &mut Rng, kind: u32) -> Call {
     let n_paths = rng.range(0, 3) as usize;
@@ -166,6 +202,12 @@ fn good(rng: &mut Rng, kind: u32) -> Call {
             let (zeros, stored) = (vec![0; tiles], (0..tiles).map(|_| !(rng.below(20) as u32)).collect());
             let work = rules::check::work_words(tiles, n, made) + rng.below(3) as usize;
             (vec![rng.below(60) as u32], vec![path_nos, coords, paths, refs, zeros.clone(), zeros, stored, words(rng, work)])
+        }
+        _ if NAMES[kind as usize] == "outlines" => {
+            let path_count = rng.range(1, 3) as u32;
+            let (path_nos, coords) = outlines(rng, path_count);
+            let work = rules::outlines::ROOM_EACH * path_count as usize + rng.below(3) as usize;
+            (vec![path_count], vec![path_nos, coords, words(rng, work)])
         }
         FINE => {
             let (cols, rows) = (rng.below(3) as u32, rng.below(2) as u32);

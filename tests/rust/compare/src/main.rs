@@ -5,7 +5,7 @@
 //! Modes: `all` (the default: the archive beside the rules and the unchanged Rust, about two minutes in all),
 //! `rules-vs-oracle` (no archive needed: build with --no-default-features), `findings` (what was found in the Rust,
 //! with the smallest inputs), `lists` (the gate's lists replayed),
-//! `limits` (those that need long slices, some hundreds of megabytes), `all-floats` (every bit pattern of the
+//! `leaks` (closed outlines whose marks in a row don't add up to 0; `--cases N`: of each family), `limits` (those that need long slices, some hundreds of megabytes), `all-floats` (every bit pattern of the
 //! one-argument helpers), `all-numbers` (every number of six digits and three in a text of SVG; `--cases N`: one in N).
 //! `--as-found` leaves a difference as it was found, and doesn't make it smaller.
 //! Ends with a status other than 0 where anything differed or an answer was met too seldom: 1; 3 where nothing differed, but
@@ -27,6 +27,7 @@ mod floats;
 mod frame;
 mod hand_out;
 mod hostile;
+mod leaks;
 mod limits;
 mod lists;
 mod order;
@@ -208,6 +209,7 @@ fn main() {
         "lists" => lists::run(),
         "limits" => limits::run(true, true),
         "margins" => findings::margins_alone(args.cases.unwrap_or(2_000_000), args.seed),
+        "leaks" => leaks::run(args.cases.unwrap_or(200_000), args.seed),
         "findings" => findings::run(args.cases.unwrap_or(2_000_000), args.seed, args.threads),
         other => fail(&format!("no mode is named {other}")),
     };

@@ -389,6 +389,29 @@ unsafe extern "C" fn gp_check(
     answer
 }
 
+#[cfg(feature = "outlines")]
+#[no_mangle]
+unsafe extern "C" fn gp_outlines(
+    path_nos: *const u32, path_nos_len: usize,
+    coords: *const f32, coords_len: usize,
+    path_count: u32,
+    work: *mut u32, work_len: usize,
+    item: &mut u32,
+) -> u32 {
+    let mut n = [path_count, *item];
+    let answer = call(
+        16,
+        &mut n,
+        vec![
+            read_only(path_nos, path_nos_len),
+            read_only(coords, coords_len),
+            changed(work, work_len),
+        ],
+    );
+    *item = n[1];
+    answer
+}
+
 #[cfg(feature = "svg")]
 #[no_mangle]
 unsafe extern "C" fn gp_svg_lines(
@@ -400,7 +423,7 @@ unsafe extern "C" fn gp_svg_lines(
 ) -> u32 {
     let mut n = [depth, path, *lines as u32, *place as u32];
     let answer = call(
-        16,
+        17,
         &mut n,
         vec![
             read_only(text, text_len),
@@ -424,7 +447,7 @@ unsafe extern "C" fn gp_fine_rows(
 ) -> u32 {
     let mut n = [width, cols, rows, first, end, *item];
     let answer = call(
-        17,
+        18,
         &mut n,
         vec![
             read_only(words, words_len),

@@ -378,6 +378,26 @@ pub fn check(
     not_linked(("check", path_nos, coords, paths, refs, counts, backdrops, stored, room, work, found, item))
 }
 
+pub fn outlines(
+    path_nos: &[u32],
+    coords: &[f32],
+    path_count: u32,
+    work: &mut [u32],
+    item: &mut u32,
+) -> u32 {
+    #[cfg(all(feature = "outlines", not(bridge)))]
+    if crate::null::is_lent(&[path_nos.len(), coords.len(), work.len()]) {
+        // SAFETY: every pointer and length is a slice's, lent for the call alone, or NULL and 0.
+        return unsafe { groatpocket::raw::gp_outlines(crate::null::at(path_nos), path_nos.len(), crate::null::at(coords), coords.len(), path_count, crate::null::at_mut(work), work.len(), item) };
+    }
+    #[cfg(feature = "outlines")]
+    let answer = groatpocket::outlines(groatpocket::Outlines { path_nos, coords, path_count, work });
+    #[cfg(feature = "outlines")]
+    return crate::answers::item(answer, item);
+    #[cfg(not(feature = "outlines"))]
+    not_linked(("outlines", path_nos, coords, path_count, work, item))
+}
+
 pub fn svg_lines(
     text: &[u8],
     depth: u32,

@@ -36,6 +36,7 @@ pub mod has {
     pub const LISTS: bool = cfg!(feature = "lists");
     pub const PICTURE: bool = cfg!(feature = "picture");
     pub const PIXEL: bool = cfg!(feature = "pixel");
+    pub const OUTLINES: bool = cfg!(feature = "outlines");
     pub const RECOUNT: bool = cfg!(feature = "recount");
     pub const BOXES: bool = cfg!(feature = "boxes");
     pub const CHECK: bool = cfg!(feature = "check");

@@ -47,3 +47,4 @@ pub const OFF_PIXEL: u32 = 19;
 pub const BAD_SEGMENT: u32 = 20;
 pub const BAD_TEXT: u32 = 21;
 pub const TOO_DEEP: u32 = 22;
+pub const LEFT_OPEN: u32 = 23;
