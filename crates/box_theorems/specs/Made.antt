@@ -1,4 +1,4 @@
--- Boxes made from lines: what the theorems are about. docs/THEOREMS.md, 18. Definitions only.
+-- Boxes made from lines: what the theorems are about. docs/THEOREMS.md, 19. Definitions only.
 use mathlib.Core.Path.{_≡_}
 use mathlib.Core.Bool.{true}
 use mathlib.Core.List.{List}
