@@ -102,7 +102,7 @@ in-box p x y = go (leb (p .x0) x && ltb x (p .x1)) (leb (p .y0) y) (ltb y (p .y1
     go true true true = refl
     go true true false = refl
     go true false c = refl
-    go false b c = refl
+    go false b c = omega arith
 
 -- the tiles of a screen that a box has
 pub box-tiles : (p : Path) (cols rows : ℕ) → sumTo (λ t. bit (inBox p (t % cols) (t / cols))) (cols * rows) ≡ screenPairs p cols rows

@@ -14,4 +14,3 @@ pub mod Room
 pub mod Jumps
 pub mod Grid
 pub mod Lists
-pub mod Tiles

@@ -17,16 +17,21 @@ enum-known-a c = search needs
 
 returns : tie.Need-returns
 returns c =
-    sizes-refused (c .before .before .before .before .before .before .before .args .path-nos .now) (c .before .before .before .before .before .before .before .args .coords .now) (c .before .before .before .before .before .before .before .args .paths .now) (c .before .before .before .before .before .before .before .args .cols) (c .before .before .before .before .before .before .before .args .rows) (c .before .before .before .check-call .result) (c .before .before .before .check-call .ensures) _ _
+    let a = c .before .before .before .before .before .before .before .args in
+    let k = c .before .before .before .check-call in
+    sizes-refused (a .path-nos .now) (a .coords .now) (a .paths .now) (a .cols) (a .rows) (k .result) (k .ensures) _ _
     (c .before .a .given .1)
 
 enum-told : tie.Need-enum-told
 enum-told c = search needs
 
 -- the checks are passed
-fine : (c : tie.After-enum-told) → Passed (length (c .before .before .before .before .before .before .args .path-nos .now)) (length (c .before .before .before .before .before .before .args .coords .now)) (c .before .before .before .before .before .before .args .paths .now) (c .before .before .before .before .before .before .args .cols) (c .before .before .before .before .before .before .args .rows)
+fine : (c : tie.After-enum-told) → Passed (length (c .before .before .before .before .before .before .args .path-nos .now)) (length
+    (c .before .before .before .before .before .before .args .coords .now)) (c .before .before .before .before .before .before .args .paths .now)
+    (c .before .before .before .before .before .before .args .cols) (c .before .before .before .before .before .before .args .rows)
 fine c =
-    passed (length (c .before .before .before .before .before .before .args .path-nos .now)) (length (c .before .before .before .before .before .before .args .coords .now)) (c .before .before .before .before .before .before .args .paths .now) (c .before .before .before .before .before .before .args .cols) (c .before .before .before .before .before .before .args .rows)
+    let a = c .before .before .before .before .before .before .args in
+    passed (length (a .path-nos .now)) (length (a .coords .now)) (a .paths .now) (a .cols) (a .rows)
     (sym (c .before .before .check-call .ensures) ∙ c .enum-told .given .1)
 
 size-lines-requires : tie.Need-size-lines-requires
@@ -46,13 +51,23 @@ enum-known-refs-2 c = search needs
 
 returns-2 : tie.Need-returns-2
 returns-2 c =
-    sizes-measured (c .before .before .before .before .before .before .before .before .before .before .before .before .args .path-nos .now) (c .before .before .before .before .before .before .before .before .before .before .before .before .args .coords .now) (c .before .before .before .before .before .before .before .before .before .before .before .before .args .paths .now) (c .before .before .before .before .before .before .before .before .before .before .before .before .args .cols) (c .before .before .before .before .before .before .before .before .before .before .before .before .args .rows) (c .before .before .before .before .before .before .before .before .check-call .result) (c .before .before .before .before .before .before .before .before .check-call .ensures)
-    (c .before .before .before .before .before .before .enum-told .given .1) _ (c .before .before .before .before .tiles-of .result) (c .before .before .before .words-of .result) (sym (c .before .refs .given .1) ∙ c .before .before .before .before .before .size-lines .ensures) (c .before .before .before .before .tiles-of .ensures) (c .before .before .before .words-of .ensures) _ refl
+    let a = c .before .before .before .before .before .before .before .before .before .before .before .before .args in
+    let k = c .before .before .before .before .before .before .before .before .check-call in
+    let t = c .before .before .before .before .tiles-of in
+    let w = c .before .before .before .words-of in
+    sizes-measured (a .path-nos .now) (a .coords .now) (a .paths .now) (a .cols) (a .rows) (k .result) (k .ensures)
+    (c .before .before .before .before .before .before .enum-told .given .1) _ (t .result) (w .result) (sym (c .before .refs .given .1)
+    ∙ c .before .before .before .before .before .size-lines .ensures) (t .ensures) (w .ensures) _ refl
 
 returns-3 : tie.Need-returns-3
 returns-3 c =
-    sizes-measured (c .before .before .before .before .before .before .before .before .before .before .before .before .args .path-nos .now) (c .before .before .before .before .before .before .before .before .before .before .before .before .args .coords .now) (c .before .before .before .before .before .before .before .before .before .before .before .before .args .paths .now) (c .before .before .before .before .before .before .before .before .before .before .before .before .args .cols) (c .before .before .before .before .before .before .before .before .before .before .before .before .args .rows) (c .before .before .before .before .before .before .before .before .check-call .result) (c .before .before .before .before .before .before .before .before .check-call .ensures)
-    (c .before .before .before .before .before .before .enum-told .given .1) _ (c .before .before .before .before .tiles-of .result) (c .before .before .before .words-of .result) (sym (c .before .refs2 .given .1) ∙ c .before .before .before .before .before .size-lines .ensures) (c .before .before .before .before .tiles-of .ensures) (c .before .before .before .words-of .ensures) _ refl
+    let a = c .before .before .before .before .before .before .before .before .before .before .before .before .args in
+    let k = c .before .before .before .before .before .before .before .before .check-call in
+    let t = c .before .before .before .before .tiles-of in
+    let w = c .before .before .before .words-of in
+    sizes-measured (a .path-nos .now) (a .coords .now) (a .paths .now) (a .cols) (a .rows) (k .result) (k .ensures)
+    (c .before .before .before .before .before .before .enum-told .given .1) _ (t .result) (w .result) (sym (c .before .refs2 .given .1)
+    ∙ c .before .before .before .before .before .size-lines .ensures) (t .ensures) (w .ensures) _ refl
 
 pub sizes-spec : {M : Type 1} → statement M
 sizes-spec =

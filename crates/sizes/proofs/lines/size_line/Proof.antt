@@ -22,15 +22,23 @@ size-walk-requires : tie.Need-size-walk-requires
 size-walk-requires c κs = search needs
 
 returns : tie.Need-returns
-returns c = line-walked (c .before .before .before .before .before .before .before .args .path-nos .now) (c .before .before .before .before .before .before .before .args .coords .now) (c .before .before .before .before .before .before .before .args .paths .now) (c .before .before .before .before .before .before .before .args .line) (c .before .before .before .before .before .before .before .args .made) _ (c .before .before .before .before .before .before .before .pre .2) (sym (c .before .before .before .walk-at .ensures) ∙ c .before .walked .given .1)
+returns c =
+    let a = c .before .before .before .before .before .before .before .args in
+    line-walked (a .path-nos .now) (a .coords .now) (a .paths .now) (a .line) (a .made) _ (c .before .before .before .before .before .before .before .pre .2) (sym
+    (c .before .before .before .walk-at .ensures) ∙ c .before .walked .given .1)
 
 returns-2 : tie.Need-returns-2
-returns-2 c = line-skipped (c .before .before .before .before .before .before .args .path-nos .now) (c .before .before .before .before .before .before .args .coords .now) (c .before .before .before .before .before .before .args .paths .now) (c .before .before .before .before .before .before .args .line) (c .before .before .before .before .before .before .args .made) (c .before .before .before .before .before .before .pre .2) (sym (c .before .before .walk-at .ensures) ∙ c .enum-told .given .1)
+returns-2 c =
+    let a = c .before .before .before .before .before .before .args in
+    line-skipped (a .path-nos .now) (a .coords .now) (a .paths .now) (a .line) (a .made) (c .before .before .before .before .before .before .pre .2) (sym
+    (c .before .before .walk-at .ensures) ∙ c .enum-told .given .1)
 
 returns-3 : tie.Need-returns-3
 returns-3 c =
+    let a = c .before .before .before .before .before .before .before .before .args in
     c .size-walk .ensures
-    ∙ line-walked (c .before .before .before .before .before .before .before .before .args .path-nos .now) (c .before .before .before .before .before .before .before .before .args .coords .now) (c .before .before .before .before .before .before .before .before .args .paths .now) (c .before .before .before .before .before .before .before .before .args .line) (c .before .before .before .before .before .before .before .before .args .made) _ (c .before .before .before .before .before .before .before .before .pre .2) (sym (c .before .before .before .before .walk-at .ensures) ∙ c .before .before .walked2 .given .1)
+    ∙ line-walked (a .path-nos .now) (a .coords .now) (a .paths .now) (a .line) (a .made) _ (c .before .before .before .before .before .before .before .before .pre .2)
+    (sym (c .before .before .before .before .walk-at .ensures) ∙ c .before .before .walked2 .given .1)
 
 pub size-line-spec : {M : Type 1} → statement M
 size-line-spec =

@@ -30,8 +30,10 @@ cast-t11 c = omega (arith, c .before .before .loop .inv .1)
 
 returns : tie.Need-returns Inv-loop μ-loop
 returns c =
-    refs-stops (c .before .before .before .before .before .before .args .path-nos .now) (c .before .before .before .before .before .before .args .coords .now) (c .before .before .before .before .before .before .args .paths .now) (c .before .before .loop .l) (c .before .before .loop .made) (c .before .before .loop .inv .3) (c .before .loop-test .taken) _
-    (line-over (c .before .before .before .before .before .before .args .path-nos .now) (c .before .before .before .before .before .before .args .coords .now) (c .before .before .before .before .before .before .args .paths .now) (c .before .before .loop .l) (c .before .before .loop .made) (c .if1 .taken))
+    let a = c .before .before .before .before .before .before .args in
+    let l = c .before .before .loop in
+    refs-stops (a .path-nos .now) (a .coords .now) (a .paths .now) (l .l) (l .made) (l .inv .3) (c .before .loop-test .taken) _
+    (line-over (a .path-nos .now) (a .coords .now) (a .paths .now) (l .l) (l .made) (c .if1 .taken))
 
 cast-size-line : tie.Need-cast-size-line Inv-loop μ-loop
 cast-size-line c = omega (arith, c .if1 .left)
@@ -47,19 +49,27 @@ cast-t13 c = omega (arith, c .before .before .before .before .if1 .left)
 
 returns-2 : tie.Need-returns-2 Inv-loop μ-loop
 returns-2 c =
-    refs-stops (c .before .before .before .before .before .before .before .before .before .before .args .path-nos .now) (c .before .before .before .before .before .before .before .before .before .before .args .coords .now) (c .before .before .before .before .before .before .before .before .before .before .args .paths .now) (c .before .before .before .before .before .before .loop .l) (c .before .before .before .before .before .before .loop .made) (c .before .before .before .before .before .before .loop .inv .3) (c .before .before .before .before .before .loop-test .taken) _
-    (sym (c .before .before .before .size-line .ensures) ∙ ap (talliedSize (c .before .before .before .before .before .before .loop .made)) (c .before .t .given .1))
+    let a = c .before .before .before .before .before .before .before .before .before .before .args in
+    let l = c .before .before .before .before .before .before .loop in
+    refs-stops (a .path-nos .now) (a .coords .now) (a .paths .now) (l .l) (l .made) (l .inv .3) (c .before .before .before .before .before .loop-test .taken) _
+    (sym (c .before .before .before .size-line .ensures) ∙ ap (talliedSize (l .made)) (c .before .t .given .1))
 
 enum-known-t-2 : tie.Need-enum-known-t-2 Inv-loop μ-loop
 enum-known-t-2 c = search needs
 
 -- the line is taken
 took : (c : tie.After-t2 Inv-loop μ-loop)
-    → lineSize (c .before .before .before .before .before .before .before .before .before .args .path-nos .now) (c .before .before .before .before .before .before .before .before .before .args .coords .now) (c .before .before .before .before .before .before .before .before .before .args .paths .now) (c .before .before .before .before .before .loop .l) (c .before .before .before .before .before .loop .made) ≡ taken (c .before .before .before .before .before .loop .made + c .t2 .given .0 .0)
+    → lineSize (c .before .before .before .before .before .before .before .before .before .args .path-nos .now)
+    (c .before .before .before .before .before .before .before .before .before .args .coords .now)
+    (c .before .before .before .before .before .before .before .before .before .args .paths .now) (c .before .before .before .before .before .loop .l)
+    (c .before .before .before .before .before .loop .made) ≡ taken (c .before .before .before .before .before .loop .made + c .t2 .given .0 .0)
 took c = sym (c .before .before .size-line .ensures) ∙ ap (talliedSize (c .before .before .before .before .before .loop .made)) (c .t2 .given .1)
 
 small : (c : tie.After-t2 Inv-loop μ-loop) → c .before .before .before .before .before .loop .made + c .t2 .given .0 .0 ≤ mostSlots
-small c = line-few (c .before .before .before .before .before .before .before .before .before .args .path-nos .now) (c .before .before .before .before .before .before .before .before .before .args .coords .now) (c .before .before .before .before .before .before .before .before .before .args .paths .now) (c .before .before .before .before .before .loop .l) (c .before .before .before .before .before .loop .made) _ (c .before .before .before .before .before .loop .inv .2) (took c)
+small c =
+    let a = c .before .before .before .before .before .before .before .before .before .args in
+    let l = c .before .before .before .before .before .loop in
+    line-few (a .path-nos .now) (a .coords .now) (a .paths .now) (l .l) (l .made) _ (l .inv .2) (took c)
 
 add-made : tie.Need-add-made Inv-loop μ-loop
 add-made c = record { fits = omega (arith, small (c .before)) }
@@ -71,15 +81,21 @@ loop-less : tie.Need-loop-less Inv-loop μ-loop
 loop-less c = omega (arith, c .before .before .before .before .before .loop-test .taken)
 
 loop-again : tie.Need-loop-again Inv-loop μ-loop
-loop-again c = (
-  omega (arith, c .before .before .before .before .before .loop-test .taken),
-  omega (arith, c .before .before .before .before .if1 .left),
-  small (c .before),
-  lines-goes (c .before .before .before .before .before .before .before .before .before .before .args .path-nos .now) (c .before .before .before .before .before .before .before .before .before .before .args .coords .now) (c .before .before .before .before .before .before .before .before .before .before .args .paths .now) (c .before .before .before .before .before .before .loop .l) (length (c .before .before .before .before .before .before .before .before .before .before .args .path-nos .now)) (c .before .before .before .before .before .before .loop .made) _ (c .before .before .before .before .before .before .loop .inv .3) (c .before .before .before .before .before .loop-test .taken) _ (took (c .before)),
-)
+loop-again c =
+    let a = c .before .before .before .before .before .before .before .before .before .before .args in
+    let l = c .before .before .before .before .before .before .loop in
+    let h = c .before .before .before .before .before .loop-test .taken in (
+      omega (arith, h),
+      omega (arith, c .before .before .before .before .if1 .left),
+      small (c .before),
+      lines-goes (a .path-nos .now) (a .coords .now) (a .paths .now) (l .l) (length (a .path-nos .now)) (l .made) _ (l .inv .3) h _ (took (c .before)),
+    )
 
 returns-3 : tie.Need-returns-3 Inv-loop μ-loop
-returns-3 c = refs-made (c .before .before .before .before .before .args .path-nos .now) (c .before .before .before .before .before .args .coords .now) (c .before .before .before .before .before .args .paths .now) (c .before .loop .l) (c .before .loop .made) (c .before .loop .inv .3) (omega (arith, c .loop-test .left))
+returns-3 c =
+    let a = c .before .before .before .before .before .args in
+    let l = c .before .loop in
+    refs-made (a .path-nos .now) (a .coords .now) (a .paths .now) (l .l) (l .made) (l .inv .3) (omega (arith, c .loop-test .left))
 
 pub size-lines-spec : {M : Type 1} → statement M
 size-lines-spec =

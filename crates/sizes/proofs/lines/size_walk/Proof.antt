@@ -12,7 +12,8 @@ clip-to-requires c κs = search needs
 
 returns : tie.Need-returns
 unfolding mostSteps
-returns c = size-far (c .before .before .args .walk) (c .before .before .args .path) (c .before .clip-to .result) (c .before .clip-to .ensures) (c .before .before .args .made) (c .if1 .taken)
+returns c = size-far (c .before .before .args .walk) (c .before .before .args .path) (c .before .clip-to .result) (c .before .clip-to .ensures)
+    (c .before .before .args .made) (c .if1 .taken)
 
 sub-n : tie.Need-sub-n
 sub-n c = left (c .before .before .args .walk) (c .before .before .args .path) (c .before .clip-to .result) (c .before .clip-to .ensures) .onward
@@ -28,11 +29,17 @@ cast-if2-2 c = search needs
 
 returns-2 : tie.Need-returns-2
 unfolding mostSteps
-returns-2 c = size-full (c .before .before .before .args .walk) (c .before .before .before .args .path) (c .before .before .clip-to .result) (c .before .before .clip-to .ensures) (c .before .before .before .args .made) (c .before .if1 .left) (c .if2 .taken)
+returns-2 c =
+    let a = c .before .before .before .args in
+    let k = c .before .before .clip-to in
+    size-full (a .walk) (a .path) (k .result) (k .ensures) (a .made) (c .before .if1 .left) (c .if2 .taken)
 
 returns-3 : tie.Need-returns-3
 unfolding mostSteps
-returns-3 c = size-fits (c .before .before .before .args .walk) (c .before .before .before .args .path) (c .before .before .clip-to .result) (c .before .before .clip-to .ensures) (c .before .before .before .args .made) (c .before .if1 .left) (c .if2 .left)
+returns-3 c =
+    let a = c .before .before .before .args in
+    let k = c .before .before .clip-to in
+    size-fits (a .walk) (a .path) (k .result) (k .ensures) (a .made) (c .before .if1 .left) (c .if2 .left)
 
 pub size-walk-spec : {M : Type 1} → statement M
 size-walk-spec =

@@ -31,15 +31,21 @@ screen-pairs-requires c κs = search needs
 
 -- with one path more
 sum : (c : tie.After-screen-pairs Inv-loop μ-loop)
-    → c .before .before .before .loop .pairs + c .screen-pairs .result ≡ pairsTo (c .before .before .before .before .before .args .paths .now) (c .before .before .before .before .before .args .cols) (c .before .before .before .before .before .args .rows) (suc (c .before .before .before .loop .k))
+    → c .before .before .before .loop .pairs + c .screen-pairs .result ≡ pairsTo (c .before .before .before .before .before .args .paths .now)
+    (c .before .before .before .before .before .args .cols) (c .before .before .before .before .before .args .rows) (suc (c .before .before .before .loop .k))
 sum c =
-    ap₂ (λ (a b : ℕ). a + b) (c .before .before .before .loop .inv .1)
-    (c .screen-pairs .ensures ∙ ap (λ (p : Path). screenPairs p (c .before .before .before .before .before .args .cols) (c .before .before .before .before .before .args .rows)) (c .before .path-at .ensures))
-    ∙ sym (pairs-suc (c .before .before .before .before .before .args .paths .now) (c .before .before .before .before .before .args .cols) (c .before .before .before .before .before .args .rows) (c .before .before .before .loop .k))
+    let a = c .before .before .before .before .before .args in
+    let l = c .before .before .before .loop in
+    ap₂ (λ (a b : ℕ). a + b) (l .inv .1)
+    (c .screen-pairs .ensures ∙ ap (λ (p : Path). screenPairs p (a .cols) (a .rows)) (c .before .path-at .ensures))
+    ∙ sym (pairs-suc (a .paths .now) (a .cols) (a .rows) (l .k))
 
-few : (c : tie.After-screen-pairs Inv-loop μ-loop) → pairsTo (c .before .before .before .before .before .args .paths .now) (c .before .before .before .before .before .args .cols) (c .before .before .before .before .before .args .rows) (suc (c .before .before .before .loop .k)) ≤ mostTiles
+few : (c : tie.After-screen-pairs Inv-loop μ-loop) → pairsTo (c .before .before .before .before .before .args .paths .now)
+    (c .before .before .before .before .before .args .cols) (c .before .before .before .before .before .args .rows) (suc (c .before .before .before .loop .k)) ≤ mostTiles
 few c =
-    pairs-most (c .before .before .before .before .before .args .paths .now) (c .before .before .before .before .before .args .cols) (c .before .before .before .before .before .args .rows) mostTiles (checked (c .before .before .before .before .before .args .paths .now) mostTiles (c .before .before .before .before .before .pre .0)) (suc (c .before .before .before .loop .k))
+    let a = c .before .before .before .before .before .args in
+    pairs-most (a .paths .now) (a .cols) (a .rows) mostTiles (checked (a .paths .now) mostTiles (c .before .before .before .before .before .pre .0)) (suc
+    (c .before .before .before .loop .k))
     (omega (arith, c .before .before .loop-test .taken, c .before .before .before .before .before .pre .1))
 
 add-pairs : tie.Need-add-pairs Inv-loop μ-loop
@@ -52,7 +58,9 @@ loop-less : tie.Need-loop-less Inv-loop μ-loop
 loop-less c = search needs
 
 loop-again : tie.Need-loop-again Inv-loop μ-loop
-loop-again c = (omega (arith, c .before .before .loop-test .taken), sum c ∙ ap (pairsTo (c .before .before .before .before .before .args .paths .now) (c .before .before .before .before .before .args .cols) (c .before .before .before .before .before .args .rows)) (sym (add-one (c .before .before .before .loop .k))))
+loop-again c =
+    let a = c .before .before .before .before .before .args in
+    (omega (arith, c .before .before .loop-test .taken), sum c ∙ ap (pairsTo (a .paths .now) (a .cols) (a .rows)) (sym (add-one (c .before .before .before .loop .k))))
 
 returns : tie.Need-returns Inv-loop μ-loop
 returns c =

@@ -28,7 +28,9 @@ path-at-requires c κs = search needs
 
 -- the last path fits
 last : (c : tie.After-path-at) → Fits (pathAt (c .before .before .before .args .paths .now) (pathCount (c .before .before .before .args .paths .now) - 1)) mostTiles
-last c = checked (c .before .before .before .args .paths .now) mostTiles (c .before .before .before .pre) .fits (pathCount (c .before .before .before .args .paths .now) - 1) (omega (arith, c .before .if1 .left))
+last c =
+    let a = c .before .before .before .args in
+    checked (a .paths .now) mostTiles (c .before .before .before .pre) .fits (pathCount (a .paths .now) - 1) (omega (arith, c .before .if1 .left))
 
 end-of-requires : tie.Need-end-of-requires
 end-of-requires c κs = (rw (c .path-at .ensures) (last c .across), rw (c .path-at .ensures) (last c .down))

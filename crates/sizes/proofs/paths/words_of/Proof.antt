@@ -28,9 +28,11 @@ mul-tiles : tie.Need-mul-tiles
 mul-tiles c = search needs
 
 few : (c : tie.After-region-pairs)
-    → pairsTo (c .before .before .before .args .paths .now) (c .before .before .before .args .cols) (c .before .before .before .args .rows) (pathCount (c .before .before .before .args .paths .now)) ≤ mostTiles
+    → pairsTo (c .before .before .before .args .paths .now) (c .before .before .before .args .cols) (c .before .before .before .args .rows) (pathCount
+    (c .before .before .before .args .paths .now)) ≤ mostTiles
 few c =
-    pairs-most (c .before .before .before .args .paths .now) (c .before .before .before .args .cols) (c .before .before .before .args .rows) mostTiles (checked (c .before .before .before .args .paths .now) mostTiles (c .before .before .before .pre .0)) (pathCount (c .before .before .before .args .paths .now)) (omega arith)
+    let a = c .before .before .before .args in
+    pairs-most (a .paths .now) (a .cols) (a .rows) mostTiles (checked (a .paths .now) mostTiles (c .before .before .before .pre .0)) (pathCount (a .paths .now)) (omega arith)
 
 add-result : tie.Need-add-result
 add-result c = record { fits = rw (c .region-pairs .ensures, c .before .pairs-to .ensures) (omega (arith, few c, c .before .before .before .pre .1)) }
