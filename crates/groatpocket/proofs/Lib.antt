@@ -5,4 +5,5 @@ pub mod ToldFrame
 pub mod ToldPpm
 pub mod ToldPixel
 pub mod ToldRecount
+pub mod ToldSizes
 pub mod ToldSvg

@@ -7,5 +7,6 @@ pub mod CallLists
 pub mod CallPpm
 pub mod CallPixel
 pub mod CallRecount
+pub mod CallSizes
 pub mod CallSvg
 pub mod Version

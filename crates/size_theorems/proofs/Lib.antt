@@ -1,4 +1,5 @@
 -- What the numbers that `sizes` tells are worth. docs/THEOREMS.md, "Sizes".
+--     Checks  the checks of what is lent answer 1 to 4
 --     Steps   a line that is taken makes a reference for each of its steps
 --     Told    what an answer says
 --     Same    the references told are those that counting makes
@@ -7,6 +8,7 @@
 --     Grid    how many tiles of a box lie on a screen
 --     Lists   lists over such words are never refused with 9
 --     Tiles   the tiles told suffice for the paths
+pub mod Checks
 pub mod Steps
 pub mod Told
 pub mod Same
@@ -14,3 +16,4 @@ pub mod Room
 pub mod Jumps
 pub mod Grid
 pub mod Lists
+pub mod Tiles

@@ -5,26 +5,32 @@ use mathlib.Core.Bool.{Bool, true, false, cond}
 use mathlib.Core.List.{List, [], _∷_, _++_}
 use Prim.Native.Nat.{ℕ, zero, suc, _+_, _-_, _*_, _/_, _%_, _≤_, _<_}
 use native.Mathlib.Omega.{arith}
-use lib.Dec.{ltb}
+use lib.Dec.{leb, ltb}
 use lib.ListN.{length, length-append}
 use lib.IntN.{ℤ}
+use borrow.Author.Tests.{le-leb}
 use Rattle.lists.specs.Sums.{from, from-add}
-use Rattle.panel.specs.Refusals.{noRoom}
+use Rattle.panel.specs.Limits.{mostCommands}
+use Rattle.panel.specs.Refusals.{noRoom, tooLong}
+use Rattle.panel.specs.Checks.{Check, firstNo, unless}
 use Rattle.panel.specs.Paths.{pathAt, pathCount, tileOf}
 use Rattle.panel.specs.Slots.{not32}
+use Rattle.panel.specs.declared.kinds.Verdict.{Verdict}
+use Rattle.panel.specs.declared.kinds.Verdict.the-variants.{Fine, Against}
+use Rattle.panel.specs.declared.kinds.Answer.{Answer}
 use Rattle.panel.specs.declared.kinds.Answer.the-variants as Answer
+use Rattle.panel.proofs.CheckLaws.{none-fails}
 use Rattle.commands.specs.Numbers.{tileWords}
 use Rattle.commands.specs.Pixel.{evenOddOf}
 use Rattle.write_lists.specs.Pairs.{Tables, tables, inBox, covers, bitsOf, onTile, byPath, onPath, pairsOf, tilePairs}
-use Rattle.write_lists.specs.Layout.{jumpsOf, ownWords}
-use Rattle.write_lists.specs.Lists.{callAnswer, freshOf, fillsFit, screenTiles, regionsOf, writeListsOf}
+use Rattle.write_lists.specs.Layout.{jumpsOf, ownWords, commandsOf, written}
+use Rattle.write_lists.specs.Lists.{callAnswer, longFrom, freshOf, fillsFit, roomChecks, screenTiles, regionsOf, thenCheck, answerOf, listsOf, onDone, writeListsOf}
 use Rattle.write_lists.specs.declared.pairs.Pair.{Pair}
 use Rattle.write_lists.specs.declared.pairs.Pair.the-variants.{Fill, Solid}
-use Rattle.list_theorems.specs.Refusing.{AllShort, NoRoom}
-use Rattle.list_theorems.proofs.Exact.{lists-exact}
-use Rattle.list_theorems.proofs.Handed.{Handed, handed-done}
+use Rattle.list_theorems.proofs.Handed.{Handed, handed-fits}
 use Rattle.sizes.specs.Words.{screenPairs, pairsTo, regionPairs, wordsOf}
 use Rattle.sizes.proofs.WordLaws.{pairs-suc, pairs-none}
+use Rattle.size_theorems.proofs.Checks.{lists-early}
 use Rattle.size_theorems.proofs.Jumps.{jumps-most}
 use Rattle.size_theorems.proofs.Grid.{sumTo, sum-zero, sum-suc, sum-le, sum-same, sum-add, sum-none, bit, box-tiles}
 
@@ -118,3 +124,41 @@ module _ (s : Tables) where
     pub words-enough : (rows : ℕ) → tileWords * regionsOf s cols rows ≤ wordsOf (s .paths) cols rows
     unfolding regionsOf wordsOf
     words-enough rows = omega (arith, fresh-few (cols * rows), boxes-pairs rows (pathCount (s .paths)))
+
+-- ---- the call
+
+-- 15 is the only number of the tiles' lengths
+long-is : (s : Tables) (cols : ℕ) (ts : List ℕ) (n item : ℕ) → longFrom s cols ts ≡ Answer.Refused n item → n ≡ tooLong
+long-is s cols [] n item e = let z : _≡_ {A = ℕ} 0 1 = cc in absurd (omega arith)
+long-is s cols (t ∷ ts) n item e = go (leb (commandsOf (tilePairs s cols t)) mostCommands) e (long-is s cols ts n item)
+  where
+    go : (b : Bool) → cond b (longFrom s cols ts) (Answer.Refused tooLong t) ≡ Answer.Refused n item → (longFrom s cols ts ≡ Answer.Refused n item → n ≡ tooLong) → n ≡ tooLong
+    go true q ih = ih q
+    go false q ih = cc
+
+-- Tables as a hand-out with that room left them: lists over the words told are never refused with 9
+pub lists-room : (paths paints : List ℕ) (backdrops : List ℤ) (stored tally : List ℕ) (room : ℕ) → Handed room stored tally → (cols rows : ℕ) (ws : List ℕ)
+    → wordsOf paths cols rows ≤ length ws → (item : ℕ) → writeListsOf (tables paths paints backdrops stored tally) cols rows room ws .paper ≢ noRoom ∷ item ∷ []
+unfolding writeListsOf answerOf
+lists-room paths paints backdrops stored tally room h cols rows ws enough item e =
+    go (callAnswer s cols rows) refl (longFrom s cols (screenTiles cols rows)) refl (firstNo row) fine e
+  where
+    s : Tables
+    s = tables paths paints backdrops stored tally
+
+    row : List Check
+    row = roomChecks (regionsOf s cols rows) (length ws) (fillsFit s cols room (screenTiles cols rows))
+
+    fine : firstNo row ≡ Fine
+    fine =
+        none-fails row (
+          le-leb (tileWords * regionsOf s cols rows) (length ws) (omega (arith, words-enough s cols rows, enough)),
+          (handed-fits paths paints backdrops stored tally room h cols (screenTiles cols rows), tt),
+        )
+
+    go : (a : Answer) → callAnswer s cols rows ≡ a → (l : Answer) → longFrom s cols (screenTiles cols rows) ≡ l → (v : Verdict) → v ≡ Fine
+        → onDone (thenCheck a (thenCheck l (unless v 0 Answer.Done))) ws (written (listsOf s cols rows) ws) .paper ≡ noRoom ∷ item ∷ [] → ⊥
+    go (Answer.Refused n i) f l g v k q = let z : n ≡ noRoom = cc in omega (arith, lists-early s cols rows n i f)
+    go Answer.Done f (Answer.Refused n i) g v k q = let z : n ≡ noRoom = cc in omega (arith, long-is s cols (screenTiles cols rows) n i g)
+    go Answer.Done f Answer.Done g Fine k q = let z : _≡_ {A = ℕ} 0 1 = cc in omega arith
+    go Answer.Done f Answer.Done g (Against n) k q = let z : _≡_ {A = ℕ} 0 1 = cc in omega arith

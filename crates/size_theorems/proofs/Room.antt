@@ -2,38 +2,29 @@
 -- many. docs/THEOREMS.md, "Sizes". Assumes nothing.
 use mathlib.Core.Path.{_≡_, refl, sym, ap, _∙_}
 use mathlib.Core.Logic.{_⊎_, inl, inr, _≢_}
-use mathlib.Core.Bool.{Bool, true, false, cond}
 use mathlib.Core.List.{List, [], _∷_}
 use Prim.Native.Nat.{ℕ, zero, suc, _+_, _-_, _/_, _≤_, _<_, min}
 use native.Mathlib.Omega.{arith}
 use lib.ListN.{length}
 use lib.IntN.{ℤ}
 use lib.Ieee.{Float}
-use Rattle.lists.specs.Run.{Ran, done, refused, All}
-use Rattle.panel.specs.Limits.{mostLines, mostTiles, mostSlots}
-use Rattle.panel.specs.Refusals.{notWhole, noRoom}
+use Rattle.lists.specs.Run.{done}
+use Rattle.panel.specs.Limits.{mostSlots}
+use Rattle.panel.specs.Refusals.{noRoom}
 use Rattle.panel.specs.Widths.{refWords, segmentFloats}
-use Rattle.panel.specs.Checks.{Check, firstNo, unless}
-use Rattle.panel.specs.Paths.{pathAt, pathCount, endOf, pathChecks, pathsFrom, lentChecks, pathsAnswer}
 use Rattle.panel.specs.Pieces.{Pieces}
 use Rattle.panel.specs.declared.kinds.Running.{Running}
-use Rattle.panel.specs.declared.kinds.Verdict.{Verdict}
-use Rattle.panel.specs.declared.kinds.Verdict.the-variants.{Fine, Against}
-use Rattle.panel.specs.declared.kinds.Answer.{Answer}
-use Rattle.panel.specs.declared.kinds.Answer.the-variants as Answer
 use Rattle.acts.specs.Acts.{St, stOf, Act, mark, visit, stop, deltaOf}
 use Rattle.acts.specs.Line.{planActs, Refusal}
 use Rattle.path_count.specs.Count.{planOf, lineStep, batch}
 use Rattle.path_tiling.specs.Tiling.{slotsOf}
-use Rattle.frame.specs.Frame as Frame
-use Rattle.frame.specs.Frame.{Out, outOf, checksOf, frameOf}
+use Rattle.frame.specs.Frame.{outOf, frameOf}
 use Rattle.frame.specs.declared.kinds.Stage.{Stage}
 use Rattle.frame.specs.declared.kinds.Stage.the-variants as Stage
 use Rattle.frame.specs.declared.kinds.Framed.the-variants.{Done, Refused}
-use Rattle.theorems.specs.Refusing.{StopsAt, ActWhy, LineWhy, five, six, seven, eight, nine, ten, stops, BatchWhy, PathsWhy, one, two, three, four}
+use Rattle.theorems.specs.Refusing.{StopsAt, ActWhy, LineWhy, five, six, seven, eight, nine, ten, stops, BatchWhy}
 use Rattle.theorems.specs.Framing.{Counts}
 use Rattle.theorems.proofs.Exact.{line-exact}
-use Rattle.theorems.proofs.ExactPaths.{paths-exact}
 use Rattle.theorems.proofs.SumLaws.{went}
 use Rattle.theorems.proofs.Framing.{frame-lent, frame-line, frame-slots, frame-no-sums, frame-done}
 use Rattle.theorems.proofs.FrameNumbers.{frame-crooked}
@@ -41,6 +32,7 @@ use Rattle.sizes.specs.Sizes.{sizesOf}
 use Rattle.sizes.specs.declared.Room.{Room}
 use Rattle.sizes.specs.declared.Measured.the-variants as Measured
 use Rattle.sizes.specs.Refs.{lineSize, linesSize}
+use Rattle.size_theorems.proofs.Checks.{frame-early}
 use Rattle.size_theorems.proofs.Same.{batch-same}
 use Rattle.size_theorems.proofs.Told.{SizesTold, sizes-told, walk-adds, lines-few, line-within}
 
@@ -84,36 +76,6 @@ module _ (nos : List ℕ) (coords : List Float) (paths : List ℕ) (cols rows : 
 
 -- ---- a frame
 
-first-is : (k : ℕ) (cs : List Check) → All (λ c. c .no ≡ k) cs → (m : ℕ) → firstNo cs ≡ Against m → m ≡ k
-first-is k [] h m q = let z : _≡_ {A = ℕ} 0 1 = cc in absurd (omega arith)
-first-is k (c ∷ more) h m q = go (c .ok) q (first-is k more (h .1) m)
-  where
-    go : (b : Bool) → cond b (firstNo more) (Against (c .no)) ≡ Against m → (firstNo more ≡ Against m → m ≡ k) → m ≡ k
-    go true f ih = ih f
-    go false f ih = let z : c .no ≡ m = cc in sym z ∙ h .0
-
-paths-few : (ws : List ℕ) (tiles n k : ℕ) → PathsWhy ws tiles n k → n < 5
-paths-few ws tiles n k (one q a b) = omega arith
-paths-few ws tiles n k (two q a b c) = omega arith
-paths-few ws tiles n k (three q a b c d) = omega arith
-paths-few ws tiles n k (four q a b c d f) = omega arith
-
--- the checks answer 1 to 4
-checks-few : (nos : List ℕ) (coords : List Float) (paths : List ℕ) (backs : List ℤ) (stored tally refs : List ℕ) (p : Pieces) (n item : ℕ)
-    → checksOf nos coords paths backs stored tally refs p ≡ Answer.Refused n item → n < 5
-unfolding checksOf
-checks-few nos coords paths backs stored tally refs p n item e = go (firstNo row) refl e
-  where
-    row : List Check
-    row = Frame.lentChecks (length nos) (length coords) (length backs) (length stored) (length tally) (length refs) (length (p .segments)) (length (p .tags))
-
-    go : (v : Verdict) → firstNo row ≡ v → unless v 0 (pathsAnswer paths (length stored)) ≡ Answer.Refused n item → n < 5
-    go Fine f q = paths-few paths (length stored) n item (paths-exact paths (length stored) n item .0 q)
-    go (Against m) f q =
-        let z : m ≡ n = cc in
-        let a : m ≡ notWhole = first-is notWhole row (refl, (refl, (refl, (refl, (refl, (refl, (refl, tt))))))) m f in
-        omega (arith, z, a)
-
 module _ (nos : List ℕ) (coords : List Float) (paths : List ℕ) (cols rows : ℕ) (r : Room) (e : sizesOf nos coords paths cols rows ≡ Measured.Done r)
     (backs : List ℤ) (stored tally refs : List ℕ) (p : Pieces) (bs : List ℤ) (ts ks rs : List ℕ) (sg : Pieces) (s : Running) where
   -- counted into cleared tiles
@@ -125,7 +87,7 @@ module _ (nos : List ℕ) (coords : List Float) (paths : List ℕ) (cols rows : 
   pub frame-room : r .refs ≤ length refs / refWords → r .refs ≤ length (p .segments) / segmentFloats → (at : Stage) (why item : ℕ)
       → frameOf nos coords paths backs stored tally refs p ≡ outOf (Refused at why item s) bs ts ks rs sg → why ≢ noRoom
   frame-room h k Stage.Lent why item f q =
-      omega (arith, q, checks-few nos coords paths backs stored tally refs p why item (frame-lent nos coords paths backs stored tally refs p bs ts ks rs sg s why item f .0))
+      omega (arith, q, frame-early nos coords paths backs stored tally refs p why item (frame-lent nos coords paths backs stored tally refs p bs ts ks rs sg s why item f .0))
   frame-room h k Stage.Count why item f q =
       let b = frame-line nos coords paths backs stored tally refs p bs ts ks rs sg s why item f .1 in
       count-room nos coords paths cols rows r e (length refs / refWords) _ _ _ h refl b q

@@ -1,8 +1,10 @@
 // How much lines and paths need, before anything is lent for them: tiles, references, and command words
 // for a screen. docs/RULES.md, "Sizes". Added: it is in none of the files ported.
-pub mod call;
-pub mod lines;
-pub mod paths;
+mod call;
+mod lines;
+mod paths;
+
+pub use call::sizes;
 
 // The references of all lines; or the number of a refusal and the line.
 pub enum Refs {

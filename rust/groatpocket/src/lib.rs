@@ -65,7 +65,7 @@
 //!
 //! The stages of a frame are calls too, for whoever feeds lines in batches: [`count`], [`backdrop`], [`hand_out`],
 //! [`tile`]. Where one gauge has moved, its path alone is counted again: [`recount`]. What another has counted, a graphics card, is
-//! held against our own count before it is used: [`check`]. One pixel can be asked for by itself: [`pixel`], [`pixel_area`]. Lines of an outline can be read from
+//! held against our own count before it is used: [`check`]. How much room lines and paths need is told before any is lent: [`sizes`]. One pixel can be asked for by itself: [`pixel`], [`pixel_area`]. Lines of an outline can be read from
 //! SVG: [`svg_lines`].
 //!
 //! Nothing is allocated and the crate is `no_std`. It links `libgroatpocket.a`: see its README. Colours are multiplied by
@@ -116,6 +116,8 @@ mod recount;
 mod refusal;
 mod screen;
 mod stages;
+#[cfg(feature = "sizes")]
+mod sizes;
 #[cfg(feature = "svg")]
 mod svg;
 
@@ -135,6 +137,8 @@ pub use recount::{recount, Recount, RecountStopped};
 pub use refusal::{Refusal, Refused};
 pub use screen::{fill, fine, Fill, Screen};
 pub use stages::{backdrop, count, hand_out, tile, Count, HandOut, Running, Stopped, Tile};
+#[cfg(feature = "sizes")]
+pub use sizes::{sizes, Sizes};
 #[cfg(feature = "svg")]
 pub use svg::{svg_lines, TextRefused};
 

@@ -160,6 +160,7 @@ fn good(rng: &mut Rng, kind: u32) -> Call {
             let work = rules::check::work_words(tiles, n, made) + rng.below(3) as usize;
             (vec![rng.below(60) as u32], vec![path_nos, coords, paths, refs, zeros.clone(), zeros, stored, words(rng, work)])
         }
+        _ if NAMES[kind as usize] == "sizes" => (vec![rng.below(9) as u32, rng.below(9) as u32], vec![path_nos, coords, paths]),
         FINE => {
             let (cols, rows) = (rng.below(3) as u32, rng.below(2) as u32);
             let list_words = (0..REGION as u32 * cols * rows).map(|k| if k % REGION as u32 == 0 { 0 } else { rng.below(6) as u32 }).collect();

@@ -32,6 +32,7 @@ mod origin;
 mod picture;
 mod pixel;
 mod recount;
+mod sizes;
 mod stage;
 mod svg_lines;
 mod table;
@@ -106,7 +107,7 @@ fn run<S: Stage>(stage: &S, args: &Args, linked: bool, seconds: f64) -> bool {
     stage::run(stage, Sides { ours, rust: oracle::AT_HAND }, budget)
 }
 
-const STAGES: [&str; 16] = [
+const STAGES: [&str; 17] = [
     "floats",
     "backdrop",
     "hand_out",
@@ -120,6 +121,7 @@ const STAGES: [&str; 16] = [
     "pixel",
     "recount",
     "check",
+    "sizes",
     "svg_lines",
     "order",
     hostile::Hostile::NAME,
@@ -145,6 +147,7 @@ fn stages(args: &Args) -> bool {
     well &= run(&pixel::Pixel, args, ours::has::PIXEL && ours::has::FILL && ours::has::FINE, 8.0);
     well &= run(&recount::Recount, args, ours::has::RECOUNT && ours::has::COUNT, 6.0);
     well &= run(&check::Check, args, ours::has::CHECK, 6.0);
+    well &= run(&sizes::Sizes, args, ours::has::SIZES && ours::has::FRAME && ours::has::LISTS, 6.0);
     well &= run(&svg_lines::SvgLines, args, ours::has::SVG, 6.0);
     if ours::has::SVG && args.mode != "rules-vs-oracle" && args.cases.is_none() && args.only.as_deref().is_none_or(|o| o == "svg_lines") {
         well &= svg_lines::fixed();

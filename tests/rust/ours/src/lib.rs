@@ -38,6 +38,7 @@ pub mod has {
     pub const PIXEL: bool = cfg!(feature = "pixel");
     pub const RECOUNT: bool = cfg!(feature = "recount");
     pub const CHECK: bool = cfg!(feature = "check");
+    pub const SIZES: bool = cfg!(feature = "sizes");
     pub const SVG: bool = cfg!(feature = "svg");
 }
 

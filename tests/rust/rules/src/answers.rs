@@ -18,6 +18,7 @@ pub fn answers(call: &str) -> &'static [u32] {
         "pixel" => &[0, 1, 13, 14, 15, 19, 20],
         "recount" => &[0, 1, 2, 3, 4, 5, 6, 7, 8, 9, 10],
         "check" => &[0, 1, 2, 3, 4, 5, 6, 7, 9, 10],
+        "sizes" => &[0, 1, 2, 3, 4, 5, 6, 7, 9],
         "svg_lines" => &[0, 1, 9, 21, 22],
         name => panic!("which answers can {name} give?"),
     }
