@@ -5,6 +5,7 @@
 --     FillTags     every slot of a written FILL carries the beam number of the path that it was written for
 --     ExactCount, ExactStages, ExactTile, ExactLists, ExactFrame, ExactPpm, ExactPixel   exact at the call: a promise is met where one of the call's ways holds, and nowhere else
 --     CheckAnswers   the same of a check of another's tables
+--     SizesAnswers   of what lines and paths need: one answer, and no cheat
 pub mod OneAnswer
 pub mod Cheats
 pub mod ExactCount
@@ -17,3 +18,4 @@ pub mod ExactPixel
 pub mod Drawn
 pub mod FillTags
 pub mod CheckAnswers
+pub mod SizesAnswers

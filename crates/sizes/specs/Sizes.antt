@@ -1,4 +1,5 @@
 -- The call: tiles, references and command words, or a refusal. It writes nothing. docs/RULES.md, "Sizes". Definitions only.
+use mathlib.Core.Path.{_≡_}
 use mathlib.Core.List.{List, [], _∷_}
 use Prim.Native.Nat.{ℕ, _*_, _/_, _%_}
 use lib.Dec.{eqb, leb}
@@ -55,3 +56,7 @@ asked (Answer.Refused n item) next = Refused n item
 unfoldable pub sizesOf : (nos : List ℕ) (coords : List Float) (paths : List ℕ) (cols rows : ℕ) → Measured
 sizesOf nos coords paths cols rows =
     asked (callAnswer (length nos) (length coords) paths cols rows) (measured (refsOf nos coords paths) (tilesOf paths) (wordsOf paths cols rows))
+
+-- the call's promise: its answer is this
+abbrev pub SizesMet : (nos : List ℕ) (coords : List Float) (paths : List ℕ) (cols rows : ℕ) → Measured → Type 0
+SizesMet nos coords paths cols rows r = r ≡ sizesOf nos coords paths cols rows

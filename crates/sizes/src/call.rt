@@ -2,7 +2,7 @@
 ghost use mathlib.Core.Path.{_≡_};
 ghost use lib.ListN.{length};
 ghost use Rattle.panel.specs.Checks.{firstNo};
-ghost use Rattle.sizes.specs.Sizes.{lentChecks, callAnswer, sizesOf};
+ghost use Rattle.sizes.specs.Sizes.{lentChecks, callAnswer, SizesMet};
 use crate::Measured;
 use crate::Refs;
 use crate::Room;
@@ -50,7 +50,7 @@ fn check_call(paths: &[u32], nn: usize, nc: usize, cols: u32, rows: u32) -> Answ
 
 // Tiles, references and command words for a screen of cols times rows.
 pub fn sizes(path_nos: &[u32], coords: &[f32], paths: &[u32], cols: u32, rows: u32) -> Measured
-    ensures { λ r. ⌜ r ≡ sizesOf (now («path_nos» .entry)) (now (coords .entry)) (now (paths .entry)) cols rows ⌝ }
+    ensures { λ r. ⌜ SizesMet (now («path_nos» .entry)) (now (coords .entry)) (now (paths .entry)) cols rows r ⌝ }
 {
     let a = check_call(paths, path_nos.len(), coords.len(), cols, rows);
     if let Answer::Refused(why, item) = a {

@@ -82,6 +82,9 @@ extern uint32_t gp_recount(uint32_t path, const uint32_t *line_nos, size_t line_
 #ifdef HAS_CHECK
 extern uint32_t gp_check(const uint32_t *path_nos, size_t path_nos_len, const float *coords, size_t coords_len, const uint32_t *paths, size_t paths_len, const uint32_t *refs, size_t refs_len, const uint32_t *counts, size_t counts_len, const int32_t *backdrops, size_t backdrops_len, const uint32_t *stored, size_t stored_len, uint32_t room, uint32_t *work, size_t work_len, uint32_t *found, uint32_t *item);
 #endif
+#ifdef HAS_SIZES
+extern uint32_t gp_sizes(const uint32_t *path_nos, size_t path_nos_len, const float *coords, size_t coords_len, const uint32_t *paths, size_t paths_len, uint32_t cols, uint32_t rows, uint32_t *tiles, uint32_t *made, uint32_t *words, uint32_t *item);
+#endif
 #ifdef HAS_SVG
 extern uint32_t gp_svg_lines(const uint8_t *text, size_t text_len, uint32_t depth, uint32_t path, uint32_t *path_nos, size_t path_nos_len, float *coords, size_t coords_len, size_t *lines, size_t *place);
 #endif
@@ -180,8 +183,14 @@ static uint32_t run(uint32_t which) {
         return answer;
     }
 #endif
+#ifdef HAS_SIZES
+    case 15: { /* sizes */
+        uint32_t answer = gp_sizes(SLICE(0, uint32_t), SLICE(1, float), SLICE(2, uint32_t), (uint32_t)n[0], (uint32_t)n[1], &n[2], &n[3], &n[4], &n[5]);
+        return answer;
+    }
+#endif
 #ifdef HAS_SVG
-    case 15: { /* svg_lines */
+    case 16: { /* svg_lines */
         size_t lines = n[2];
         size_t place = n[3];
         uint32_t answer = gp_svg_lines(SLICE(0, uint8_t), (uint32_t)n[0], (uint32_t)n[1], SLICE(1, uint32_t), SLICE(2, float), &lines, &place);

@@ -24,6 +24,7 @@ pub const NAMES: &[&str] = &[
     "pixel",
     "recount",
     "check",
+    "sizes",
     "svg_lines",
 ];
 
@@ -44,6 +45,7 @@ pub const CHANGED: &[&[usize]] = &[
     &[],
     &[4, 5, 6, 7, 8],
     &[7],
+    &[],
     &[1, 2],
 ];
 
@@ -60,6 +62,7 @@ pub const BYTES: &[&[usize]] = &[
     &[],
     &[1],
     &[0, 1],
+    &[],
     &[],
     &[],
     &[],
@@ -85,6 +88,7 @@ pub const SHAPES: &[(usize, usize)] = &[
     (9, 1),
     (8, 1),
     (3, 2),
+    (3, 2),
 ];
 
 /// Whether a call of a kind is linked.
@@ -104,6 +108,7 @@ pub const LINKED: &[bool] = &[
     ours::has::PIXEL,
     ours::has::RECOUNT,
     ours::has::CHECK,
+    ours::has::SIZES,
     ours::has::SVG,
 ];
 
@@ -323,7 +328,25 @@ macro_rules! answered_by {
                     );
                     vec![no, item, found]
                 }
-                (15, [text, path_nos, coords]) => {
+                (15, [path_nos, coords, paths]) => {
+                    let mut tiles = UNTOLD;
+                    let mut made = UNTOLD;
+                    let mut words = UNTOLD;
+                    let mut item = UNTOLD;
+                    let no = $side::sizes(
+                        path_nos.u32s(),
+                        coords.f32s(),
+                        paths.u32s(),
+                        n[0],
+                        n[1],
+                        &mut tiles,
+                        &mut made,
+                        &mut words,
+                        &mut item,
+                    );
+                    vec![no, item, tiles, made, words]
+                }
+                (16, [text, path_nos, coords]) => {
                     let mut lines = UNTOLD as usize;
                     let mut place = UNTOLD as usize;
                     let text_bytes = LentBytes::of(text.u32s());
