@@ -156,8 +156,9 @@ uint32_t gp_version(void);
 /* What a 1 was for: each call says in which order it looks. "Whole" is a length that is so many times the
  * record's width. After 1 comes 2, then 16, then each path's 3 and 4 in order; after that what the call says.
  *
- * What a 9 would have needed: gp_sizes tells it for references, segments, tags and lists. Without it: for references, *made and as many as the refused line has steps (GP_MAX_STEPS
- * always suffice for one line); for slots, the sum of the counts, which is *made where the tiles were clear: a segment and a tag for each;
+ * What a 9 would have needed: for references, segments, tags and lists gp_sizes tells it, before anything is lent. Or
+ * by hand: for references, *made and as many as the refused line has steps (GP_MAX_STEPS always suffice for one line);
+ * for slots, the sum of the counts, which is *made where the tiles were clear: a segment and a tag for each;
  * for a file, 3 bytes a pixel and at most 19 for its head; for lists see gp_write_lists. A 16 needs
  * a width of GP_TILE * cols, and width * GP_TILE * rows pixels. */
 

@@ -7,7 +7,8 @@
 --     Jumps   how many fresh regions a tile's list takes at most
 --     Grid    how many tiles of a box lie on a screen
 --     Lists   lists over such words are never refused with 9
---     Tiles   the tiles told suffice for the paths
+--     Tiles   the tiles told suffice for the paths, and no fewer do
+--     Exact   exact at the call: each way in which it ends, with its ground; one answer only
 pub mod Checks
 pub mod Steps
 pub mod Told
@@ -17,3 +18,4 @@ pub mod Jumps
 pub mod Grid
 pub mod Lists
 pub mod Tiles
+pub mod Exact

@@ -115,9 +115,9 @@ mod records;
 mod recount;
 mod refusal;
 mod screen;
-mod stages;
 #[cfg(feature = "sizes")]
 mod sizes;
+mod stages;
 #[cfg(feature = "svg")]
 mod svg;
 
@@ -136,9 +136,9 @@ pub use records::{Paint, Path, Reference, Segment, STEP_RANGE};
 pub use recount::{recount, Recount, RecountStopped};
 pub use refusal::{Refusal, Refused};
 pub use screen::{fill, fine, Fill, Screen};
-pub use stages::{backdrop, count, hand_out, tile, Count, HandOut, Running, Stopped, Tile};
 #[cfg(feature = "sizes")]
 pub use sizes::{sizes, Sizes};
+pub use stages::{backdrop, count, hand_out, tile, Count, HandOut, Running, Stopped, Tile};
 #[cfg(feature = "svg")]
 pub use svg::{svg_lines, TextRefused};
 

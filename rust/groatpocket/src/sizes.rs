@@ -25,7 +25,13 @@ pub struct Sizes {
 /// let told = sizes(&[0], &[8.0, 8.0, 8.0, 24.0], &paths, 2, 2).unwrap();
 /// assert_eq!(told, Sizes { tiles: 4, references: 2, words: 4 * 64 });
 /// ```
-pub fn sizes(path_nos: &[u32], coords: &[f32], paths: &[u32], cols: u32, rows: u32) -> Result<Sizes, Refused> {
+pub fn sizes(
+    path_nos: &[u32],
+    coords: &[f32],
+    paths: &[u32],
+    cols: u32,
+    rows: u32,
+) -> Result<Sizes, Refused> {
     let (mut tiles, mut references, mut words, mut item) = (UNTOLD, UNTOLD, UNTOLD, UNTOLD);
     // SAFETY: as for `count`.
     #[rustfmt::skip]
@@ -38,5 +44,6 @@ pub fn sizes(path_nos: &[u32], coords: &[f32], paths: &[u32], cols: u32, rows: u
             &mut tiles, &mut references, &mut words, &mut item,
         )
     };
+    debug_assert!(number == 0 || (tiles, references, words) == (0, 0, 0), "sizes where it is refused");
     answered(number, item).map(|()| Sizes { tiles, references, words })
 }
