@@ -3,7 +3,7 @@
  * Everything is lent: a slice is a pointer and the number of its elements. Each pointer must be
  * valid and aligned for that many elements (for none it may be NULL), and slices that a call writes
  * must not overlap any other slice of the call. A pointer to one number (item, stage, lines, made,
- * size, width, height, area, pixel, place, found) must not be NULL, and the number must lie apart from the others and from
+ * size, width, height, area, pixel, place, found, tiles, words) must not be NULL, and the number must lie apart from the others and from
  * every slice. Floats are IEEE 754 with the default environment:
  * round to nearest, subnormals kept (a program linked with -ffast-math turns them off). Nothing else
  * is asked: any words and floats may be lent. A call touches nothing outside the slices, always ends,
@@ -158,8 +158,9 @@ uint32_t gp_version(void);
 /* What a 1 was for: each call says in which order it looks. "Whole" is a length that is so many times the
  * record's width. After 1 comes 2, then 16, then each path's 3 and 4 in order; after that what the call says.
  *
- * What a 9 would have needed: for references, *made and as many as the refused line has steps (GP_MAX_STEPS
- * always suffice for one line); for slots, the sum of the counts, which is *made where the tiles were clear: a segment and a tag for each;
+ * What a 9 would have needed: for references, segments, tags and lists gp_sizes tells it, before anything is lent. Or
+ * by hand: for references, *made and as many as the refused line has steps (GP_MAX_STEPS always suffice for one line);
+ * for slots, the sum of the counts, which is *made where the tiles were clear: a segment and a tag for each;
  * for a file, 3 bytes a pixel and at most 19 for its head; for lists see gp_write_lists. A 16 needs
  * a width of GP_TILE * cols, and width * GP_TILE * rows pixels. */
 
@@ -367,6 +368,22 @@ uint32_t gp_outlines(const uint32_t *path_nos, size_t path_nos_len,
                      uint32_t path_count,
                      uint32_t *work, size_t work_len,
                      uint32_t *item);
+
+/* How much lines and paths need, asked before anything is lent for them: *tiles tiles (backdrops, stored, tally), *made
+ * references (as many segments and tags), and *words words for the lists of a screen of cols by rows tiles. Nothing
+ * is written, and no step is walked. With so much room, and it may be more, gp_count from no lines and no references
+ * on, gp_frame, and gp_write_lists after it, are never refused with 9. *tiles and *made are exact: gp_frame, where it is done,
+ * makes as many references, and fewer tiles are refused with 4. *words is enough for any paints: a list may leave some
+ * of them. A line that counting refuses at one of its steps (10, or a tile's 8 or 11) is counted in here, since its
+ * steps aren't walked. Lines are refused as counting has them: 5, 6, 7, 8 for the largest step number, and 9 where the references
+ * pass GP_MAX_SLOTS, with the line in *item. The three numbers are 0 where it refuses.
+ * 1: coords whole; as many path_nos as lines; paths whole. 2 for the screen's tiles too. 4 holds the paths against
+ * GP_MAX_TILES tiles. */
+uint32_t gp_sizes(const uint32_t *path_nos, size_t path_nos_len,
+                  const float *coords, size_t coords_len,
+                  const uint32_t *paths, size_t paths_len,
+                  uint32_t cols, uint32_t rows,
+                  uint32_t *tiles, uint32_t *made, uint32_t *words, uint32_t *item);
 
 /* The lines of an outline, from the path data of SVG 1.1: M, L, H, V, Z and Q, large or small, with
  * numbers of up to six digits before the point and three after. They stand at the front of path_nos

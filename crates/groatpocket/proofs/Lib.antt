@@ -7,4 +7,5 @@ pub mod ToldOutlines
 pub mod ToldPpm
 pub mod ToldPixel
 pub mod ToldRecount
+pub mod ToldSizes
 pub mod ToldSvg

@@ -9,5 +9,6 @@ pub mod CallOutlines
 pub mod CallPpm
 pub mod CallPixel
 pub mod CallRecount
+pub mod CallSizes
 pub mod CallSvg
 pub mod Version

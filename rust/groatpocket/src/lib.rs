@@ -65,7 +65,7 @@
 //!
 //! The stages of a frame are calls too, for whoever feeds lines in batches: [`count`], [`backdrop`], [`hand_out`],
 //! [`tile`]. The paths' boxes can be made from their lines: [`boxes`]. Where one gauge has moved, its path alone is counted again: [`recount`]. What another has counted, a graphics card, is
-//! held against our own count before it is used: [`check`]. One pixel can be asked for by itself: [`pixel`], [`pixel_area`]. Threads can
+//! held against our own count before it is used: [`check`]. How much room lines and paths need is told before any is lent: [`sizes`]. One pixel can be asked for by itself: [`pixel`], [`pixel_area`]. Threads can
 //! draw one screen at once, a band of its rows each: [`fine_rows`]. Lines of an outline can be read from
 //! SVG: [`svg_lines`]. Whether one's own lines make closed outlines, [`outlines`] says.
 //!
@@ -122,6 +122,8 @@ mod records;
 mod recount;
 mod refusal;
 mod screen;
+#[cfg(feature = "sizes")]
+mod sizes;
 mod stages;
 #[cfg(feature = "svg")]
 mod svg;
@@ -147,6 +149,8 @@ pub use records::{Paint, Path, Reference, Segment, STEP_RANGE};
 pub use recount::{recount, Recount, RecountStopped};
 pub use refusal::{Refusal, Refused};
 pub use screen::{fill, fine, Fill, Screen};
+#[cfg(feature = "sizes")]
+pub use sizes::{sizes, Sizes};
 pub use stages::{backdrop, count, hand_out, tile, Count, HandOut, Running, Stopped, Tile};
 #[cfg(feature = "svg")]
 pub use svg::{svg_lines, TextRefused};

@@ -148,6 +148,13 @@ extern "C" {
         item: &mut u32,
     ) -> u32;
 
+    pub fn gp_sizes(
+        path_nos: *const u32, path_nos_len: usize,
+        coords: *const f32, coords_len: usize,
+        paths: *const u32, paths_len: usize,
+        cols: u32, rows: u32, tiles: &mut u32, made: &mut u32, words: &mut u32, item: &mut u32,
+    ) -> u32;
+
     pub fn gp_svg_lines(
         text: *const u8, text_len: usize,
         depth: u32, path: u32,

@@ -443,3 +443,49 @@ fn another_s_tables_are_checked() {
     other[1] = 5; // a step that the line doesn't make
     assert_eq!(said(&other, &backdrops, 4, 40), (Ok(Found::Reference(0)), 40));
 }
+
+#[cfg(all(feature = "sizes", feature = "frame", feature = "lists"))]
+#[test]
+fn just_so_much_room_is_enough() {
+    let (path_nos, coords) = ([0, 0], [8.0, 8.0, 8.0, 24.0, 8.0, 8.0, 24.0, 8.0]);
+    let told = sizes(&path_nos, &coords, &PATHS, 2, 2).unwrap();
+    assert_eq!(told, Sizes { tiles: 4, references: 4, words: 4 * 64 });
+    let drawn = |refs: u32, slots: u32| {
+        let (mut backdrops, mut stored, mut tally) = ([0; 4], [0; 4], [0; 4]);
+        let (mut refs, mut segments) =
+            (vec![0; REF_WORDS * refs as usize], vec![0.0; SEGMENT_FLOATS * slots as usize]);
+        let mut tags = vec![0; slots as usize];
+        let done = frame(Frame {
+            path_nos: &path_nos,
+            coords: &coords,
+            paths: &PATHS,
+            backdrops: &mut backdrops,
+            stored: &mut stored,
+            tally: &mut tally,
+            refs: &mut refs,
+            segments: &mut segments,
+            tags: &mut tags,
+        });
+        let mut words = vec![0; told.words as usize];
+        let paints = Paint { colour: 0x204060ff, even_odd: false }.words();
+        let listed = write_lists(WriteLists {
+            paths: &PATHS,
+            paints: &paints,
+            backdrops: &backdrops,
+            stored: &stored,
+            tally: &tally,
+            cols: 2,
+            rows: 2,
+            room: slots,
+            words: &mut words,
+        });
+        (done.map(|r| r.references).map_err(|s| s.refused.refusal), listed)
+    };
+    assert_eq!(drawn(told.references, told.references), (Ok(told.references), Ok(())));
+    assert_eq!(drawn(told.references - 1, told.references).0, Err(Refusal::NoRoom));
+    assert_eq!(drawn(told.references, told.references - 1).0, Err(Refusal::NoRoom));
+    // refused as counting refuses, and told of no size
+    let refused = sizes(&[0, 5], &coords, &PATHS, 2, 2).unwrap_err();
+    assert_eq!((refused.refusal, refused.item), (Refusal::NoSuch, 1));
+    assert_eq!(sizes(&path_nos, &coords, &PATHS, 1 << 20, 2).unwrap_err().refusal, Refusal::TooMany);
+}

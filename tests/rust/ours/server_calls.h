@@ -88,6 +88,9 @@ extern uint32_t gp_check(const uint32_t *path_nos, size_t path_nos_len, const fl
 #ifdef HAS_OUTLINES
 extern uint32_t gp_outlines(const uint32_t *path_nos, size_t path_nos_len, const float *coords, size_t coords_len, uint32_t path_count, uint32_t *work, size_t work_len, uint32_t *item);
 #endif
+#ifdef HAS_SIZES
+extern uint32_t gp_sizes(const uint32_t *path_nos, size_t path_nos_len, const float *coords, size_t coords_len, const uint32_t *paths, size_t paths_len, uint32_t cols, uint32_t rows, uint32_t *tiles, uint32_t *made, uint32_t *words, uint32_t *item);
+#endif
 #ifdef HAS_SVG
 extern uint32_t gp_svg_lines(const uint8_t *text, size_t text_len, uint32_t depth, uint32_t path, uint32_t *path_nos, size_t path_nos_len, float *coords, size_t coords_len, size_t *lines, size_t *place);
 #endif
@@ -201,8 +204,14 @@ static uint32_t run(uint32_t which) {
         return answer;
     }
 #endif
+#ifdef HAS_SIZES
+    case 17: { /* sizes */
+        uint32_t answer = gp_sizes(SLICE(0, uint32_t), SLICE(1, float), SLICE(2, uint32_t), (uint32_t)n[0], (uint32_t)n[1], &n[2], &n[3], &n[4], &n[5]);
+        return answer;
+    }
+#endif
 #ifdef HAS_SVG
-    case 17: { /* svg_lines */
+    case 18: { /* svg_lines */
         size_t lines = n[2];
         size_t place = n[3];
         uint32_t answer = gp_svg_lines(SLICE(0, uint8_t), (uint32_t)n[0], (uint32_t)n[1], SLICE(1, uint32_t), SLICE(2, float), &lines, &place);
@@ -212,7 +221,7 @@ static uint32_t run(uint32_t which) {
     }
 #endif
 #ifdef HAS_BANDS
-    case 18: { /* fine_rows */
+    case 19: { /* fine_rows */
         uint32_t answer = gp_fine_rows(SLICE(0, uint32_t), SLICE(1, float), (uint32_t)n[0], (uint32_t)n[1], (uint32_t)n[2], (uint32_t)n[3], (uint32_t)n[4], SLICE(2, uint32_t), &n[5]);
         return answer;
     }

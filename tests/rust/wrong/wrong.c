@@ -193,6 +193,17 @@ uint32_t __wrap_gp_outlines(const uint32_t *path_nos, size_t path_nos_len, const
     return answer;
 }
 
+uint32_t __real_gp_sizes(const uint32_t *path_nos, size_t path_nos_len, const float *coords, size_t coords_len, const uint32_t *paths, size_t paths_len, uint32_t cols, uint32_t rows, uint32_t *tiles, uint32_t *made, uint32_t *words, uint32_t *item);
+uint32_t __wrap_gp_sizes(const uint32_t *path_nos, size_t path_nos_len, const float *coords, size_t coords_len, const uint32_t *paths, size_t paths_len, uint32_t cols, uint32_t rows, uint32_t *tiles, uint32_t *made, uint32_t *words, uint32_t *item) {
+    uint32_t answer = __real_gp_sizes(path_nos, path_nos_len, coords, coords_len, paths, paths_len, cols, rows, tiles, made, words, item);
+    if (strikes("sizes tiles", 1)) *tiles += 1;
+    if (strikes("sizes made", 1)) *made += 1;
+    if (strikes("sizes words", 1)) *words += 1;
+    if (strikes("sizes item", answer != 0)) *item += 1;
+    if (strikes("sizes answer", 1)) answer ^= 1;
+    return answer;
+}
+
 uint32_t __real_gp_svg_lines(const uint8_t *text, size_t text_len, uint32_t depth, uint32_t path, uint32_t *path_nos, size_t path_nos_len, float *coords, size_t coords_len, size_t *lines, size_t *place);
 uint32_t __wrap_gp_svg_lines(const uint8_t *text, size_t text_len, uint32_t depth, uint32_t path, uint32_t *path_nos, size_t path_nos_len, float *coords, size_t coords_len, size_t *lines, size_t *place) {
     uint32_t answer = __real_gp_svg_lines(text, text_len, depth, path, path_nos, path_nos_len, coords, coords_len, lines, place);

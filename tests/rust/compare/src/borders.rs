@@ -203,6 +203,20 @@ fn outlines(rng: &mut Rng, kind: u32) -> Call {
     Call { kind, numbers: vec![paths], slices: vec![path_nos, coords, vec![7; room]] }
 }
 
+/// Sizes over paths or lines at the limit, or of lines so long that the references of all are about as many as there can be.
+fn sizes(rng: &mut Rng, kind: u32) -> Call {
+    let (path_nos, coords, _) = many_lines(rng);
+    let lines = rules::limits::LINES_MOST as usize - rng.below(2) as usize;
+    let columns = (rules::limits::ROOM_MOST / rules::limits::LINES_MOST) as u32 + rng.below(2) as u32;
+    let long = bits([0.0, 8.0, 16.0 * columns as f32, 8.0]);
+    let slices = match rng.below(4) {
+        0 => vec![vec![0], bits([8.0, 8.0, 8.0, 24.0]), many_paths(rng)],
+        1 => vec![path_nos, coords, path([0, 0, 2, 2], 0).to_vec()],
+        _ => vec![vec![0; lines], long.repeat(lines), path([0, 0, columns, 1], 0).to_vec()],
+    };
+    Call { kind, numbers: vec![1, 1], slices }
+}
+
 /// A call that leads to a rare answer of the kind, where it has one.
 pub fn toward(rng: &mut Rng, kind: u32) -> Option<Call> {
     Some(match NAMES[kind as usize] {
@@ -222,6 +236,7 @@ pub fn toward(rng: &mut Rng, kind: u32) -> Option<Call> {
         "boxes" => boxes(rng, kind),
         "check" => check(rng, kind),
         "outlines" => outlines(rng, kind),
+        "sizes" if rng.coin() => sizes(rng, kind),
         "write_lists" if rng.one_in(4) => write_lists(rng),
         "ppm_read" => {
             let (width, height) = (rng.pick(&[0, 1, SIDE_MOST, SIDE_MOST + 1, u32::MAX]), rng.pick(&[0, 1, SIDE_MOST + 1]));

@@ -26,6 +26,7 @@ pub const NAMES: &[&str] = &[
     "boxes",
     "check",
     "outlines",
+    "sizes",
     "svg_lines",
     "fine_rows",
 ];
@@ -49,6 +50,7 @@ pub const CHANGED: &[&[usize]] = &[
     &[3, 4],
     &[7],
     &[2],
+    &[],
     &[1, 2],
     &[2],
 ];
@@ -66,6 +68,7 @@ pub const BYTES: &[&[usize]] = &[
     &[],
     &[1],
     &[0, 1],
+    &[],
     &[],
     &[],
     &[],
@@ -96,6 +99,7 @@ pub const SHAPES: &[(usize, usize)] = &[
     (8, 1),
     (3, 1),
     (3, 2),
+    (3, 2),
     (3, 5),
 ];
 
@@ -118,6 +122,7 @@ pub const LINKED: &[bool] = &[
     ours::has::BOXES,
     ours::has::CHECK,
     ours::has::OUTLINES,
+    ours::has::SIZES,
     ours::has::SVG,
     ours::has::BANDS,
 ];
@@ -364,7 +369,25 @@ macro_rules! answered_by {
                     );
                     vec![no, item]
                 }
-                (17, [text, path_nos, coords]) => {
+                (17, [path_nos, coords, paths]) => {
+                    let mut tiles = UNTOLD;
+                    let mut made = UNTOLD;
+                    let mut words = UNTOLD;
+                    let mut item = UNTOLD;
+                    let no = $side::sizes(
+                        path_nos.u32s(),
+                        coords.f32s(),
+                        paths.u32s(),
+                        n[0],
+                        n[1],
+                        &mut tiles,
+                        &mut made,
+                        &mut words,
+                        &mut item,
+                    );
+                    vec![no, item, tiles, made, words]
+                }
+                (18, [text, path_nos, coords]) => {
                     let mut lines = UNTOLD as usize;
                     let mut place = UNTOLD as usize;
                     let text_bytes = LentBytes::of(text.u32s());
@@ -380,7 +403,7 @@ macro_rules! answered_by {
                     text_bytes.give_back(text.u32s_mut());
                     vec![no, 0, lines as u32, place as u32]
                 }
-                (18, [words, segments, pixels]) => {
+                (19, [words, segments, pixels]) => {
                     let mut item = UNTOLD;
                     let no = $side::fine_rows(
                         words.u32s(),

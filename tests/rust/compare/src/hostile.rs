@@ -209,6 +209,7 @@ fn good(rng: &mut Rng, kind: u32) -> Call {
             let work = rules::outlines::ROOM_EACH * path_count as usize + rng.below(3) as usize;
             (vec![path_count], vec![path_nos, coords, words(rng, work)])
         }
+        _ if NAMES[kind as usize] == "sizes" => (vec![rng.below(9) as u32, rng.below(9) as u32], vec![path_nos, coords, paths]),
         FINE => {
             let (cols, rows) = (rng.below(3) as u32, rng.below(2) as u32);
             let list_words = (0..REGION as u32 * cols * rows).map(|k| if k % REGION as u32 == 0 { 0 } else { rng.below(6) as u32 }).collect();

@@ -35,6 +35,7 @@ mod origin;
 mod picture;
 mod pixel;
 mod recount;
+mod sizes;
 mod stage;
 mod svg_lines;
 mod table;
@@ -125,6 +126,7 @@ const STAGES: [&str; 17] = [
     "recount",
     "boxes",
     "check",
+    "sizes",
     "svg_lines",
     "order",
     hostile::Hostile::NAME,
@@ -152,6 +154,7 @@ fn stages(args: &Args) -> bool {
     well &= run(&recount::Recount, args, ours::has::RECOUNT && ours::has::COUNT, 6.0);
     well &= run(&boxes::Boxes, args, ours::has::BOXES && ours::has::COUNT, 4.0);
     well &= run(&check::Check, args, ours::has::CHECK, 6.0);
+    well &= run(&sizes::Sizes, args, ours::has::SIZES && ours::has::FRAME && ours::has::LISTS, 6.0);
     well &= run(&svg_lines::SvgLines, args, ours::has::SVG, 6.0);
     if ours::has::SVG && args.mode != "rules-vs-oracle" && args.cases.is_none() && args.only.as_deref().is_none_or(|o| o == "svg_lines") {
         well &= svg_lines::fixed();

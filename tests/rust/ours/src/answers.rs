@@ -90,3 +90,10 @@ pub fn found_item(answer: Result<groatpocket::Found, Refused>, found: &mut u32, 
     (*found, *item) = answer.map_or_else(|r| (0, r.item), groatpocket::Found::numbers);
     nothing(answer.map(|_| ()))
 }
+
+/// The crate asserts, as for `size`, that a refusal leaves 0 in the three sizes.
+#[cfg(feature = "sizes")]
+pub fn tiles_made_words_item(answer: Result<groatpocket::Sizes, Refused>, tiles: &mut u32, made: &mut u32, words: &mut u32, item: &mut u32) -> u32 {
+    (*tiles, *made, *words) = answer.map_or((0, 0, 0), |s| (s.tiles, s.references, s.words));
+    self::item(answer.map(|_| ()), item)
+}

@@ -412,6 +412,31 @@ unsafe extern "C" fn gp_outlines(
     answer
 }
 
+#[cfg(feature = "sizes")]
+#[no_mangle]
+unsafe extern "C" fn gp_sizes(
+    path_nos: *const u32, path_nos_len: usize,
+    coords: *const f32, coords_len: usize,
+    paths: *const u32, paths_len: usize,
+    cols: u32, rows: u32, tiles: &mut u32, made: &mut u32, words: &mut u32, item: &mut u32,
+) -> u32 {
+    let mut n = [cols, rows, *tiles, *made, *words, *item];
+    let answer = call(
+        17,
+        &mut n,
+        vec![
+            read_only(path_nos, path_nos_len),
+            read_only(coords, coords_len),
+            read_only(paths, paths_len),
+        ],
+    );
+    *tiles = n[2];
+    *made = n[3];
+    *words = n[4];
+    *item = n[5];
+    answer
+}
+
 #[cfg(feature = "svg")]
 #[no_mangle]
 unsafe extern "C" fn gp_svg_lines(
@@ -423,7 +448,7 @@ unsafe extern "C" fn gp_svg_lines(
 ) -> u32 {
     let mut n = [depth, path, *lines as u32, *place as u32];
     let answer = call(
-        17,
+        18,
         &mut n,
         vec![
             read_only(text, text_len),
@@ -447,7 +472,7 @@ unsafe extern "C" fn gp_fine_rows(
 ) -> u32 {
     let mut n = [width, cols, rows, first, end, *item];
     let answer = call(
-        18,
+        19,
         &mut n,
         vec![
             read_only(words, words_len),

@@ -398,6 +398,30 @@ pub fn outlines(
     not_linked(("outlines", path_nos, coords, path_count, work, item))
 }
 
+pub fn sizes(
+    path_nos: &[u32],
+    coords: &[f32],
+    paths: &[u32],
+    cols: u32,
+    rows: u32,
+    tiles: &mut u32,
+    made: &mut u32,
+    words: &mut u32,
+    item: &mut u32,
+) -> u32 {
+    #[cfg(all(feature = "sizes", not(bridge)))]
+    if crate::null::is_lent(&[path_nos.len(), coords.len(), paths.len()]) {
+        // SAFETY: every pointer and length is a slice's, lent for the call alone, or NULL and 0.
+        return unsafe { groatpocket::raw::gp_sizes(crate::null::at(path_nos), path_nos.len(), crate::null::at(coords), coords.len(), crate::null::at(paths), paths.len(), cols, rows, tiles, made, words, item) };
+    }
+    #[cfg(feature = "sizes")]
+    let answer = groatpocket::sizes(path_nos, coords, paths, cols, rows);
+    #[cfg(feature = "sizes")]
+    return crate::answers::tiles_made_words_item(answer, tiles, made, words, item);
+    #[cfg(not(feature = "sizes"))]
+    not_linked(("sizes", path_nos, coords, paths, cols, rows, tiles, made, words, item))
+}
+
 pub fn svg_lines(
     text: &[u8],
     depth: u32,

@@ -40,6 +40,7 @@ pub mod has {
     pub const RECOUNT: bool = cfg!(feature = "recount");
     pub const BOXES: bool = cfg!(feature = "boxes");
     pub const CHECK: bool = cfg!(feature = "check");
+    pub const SIZES: bool = cfg!(feature = "sizes");
     pub const SVG: bool = cfg!(feature = "svg");
     pub const BANDS: bool = cfg!(feature = "bands");
 }

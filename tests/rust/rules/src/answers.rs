@@ -20,6 +20,7 @@ pub fn answers(call: &str) -> &'static [u32] {
         "boxes" => &[0, 1, 2, 3, 5, 6, 7, 9],
         "check" => &[0, 1, 2, 3, 4, 5, 6, 7, 9, 10],
         "outlines" => &[0, 1, 2, 5, 7, 9, 23],
+        "sizes" => &[0, 1, 2, 3, 4, 5, 6, 7, 9],
         "svg_lines" => &[0, 1, 9, 21, 22],
         name => panic!("which answers can {name} give?"),
     }

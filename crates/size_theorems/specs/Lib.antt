@@ -1,0 +1,2 @@
+-- The ways in which `sizes` can end. Definitions only.
+pub mod Ways
