@@ -2,6 +2,7 @@
 pub mod Told
 pub mod ToldCheck
 pub mod ToldFrame
+pub mod ToldDraw
 pub mod ToldPpm
 pub mod ToldPixel
 pub mod ToldRecount

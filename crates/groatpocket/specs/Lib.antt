@@ -3,6 +3,7 @@ pub mod Seen
 pub mod Calls
 pub mod CallCheck
 pub mod CallFrame
+pub mod CallDraw
 pub mod CallLists
 pub mod CallPpm
 pub mod CallPixel

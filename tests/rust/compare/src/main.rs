@@ -18,6 +18,7 @@ mod check;
 mod count;
 #[rustfmt::skip]
 mod dispatch;
+mod draw;
 mod fill;
 mod findings;
 mod fine;
@@ -107,7 +108,7 @@ fn run<S: Stage>(stage: &S, args: &Args, linked: bool, seconds: f64) -> bool {
     stage::run(stage, Sides { ours, rust: oracle::AT_HAND }, budget)
 }
 
-const STAGES: [&str; 17] = [
+const STAGES: [&str; 18] = [
     "floats",
     "backdrop",
     "hand_out",
@@ -119,6 +120,7 @@ const STAGES: [&str; 17] = [
     "frame",
     "write_lists",
     "picture",
+    "draw",
     "pixel",
     "recount",
     "check",
@@ -145,6 +147,7 @@ fn stages(args: &Args) -> bool {
     well &= run(&frame::Frame, args, ours::has::FRAME, 12.0);
     well &= run(&write_lists::WriteLists, args, ours::has::LISTS, 12.0);
     well &= picture(args);
+    well &= run(&draw::Draw, args, ours::has::DRAW && picture::LINKED, 8.0);
     well &= run(&pixel::Pixel, args, ours::has::PIXEL && ours::has::FILL && ours::has::FINE, 8.0);
     well &= run(&recount::Recount, args, ours::has::RECOUNT && ours::has::COUNT, 6.0);
     well &= run(&check::Check, args, ours::has::CHECK, 6.0);
