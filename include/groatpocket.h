@@ -20,7 +20,7 @@
  * that a call is lent is its own while it runs; gp_fine_rows draws a band of the screen in a slice of
  * its own, so that several may draw one screen at once.
  *
- * Stack: under 65,536 bytes for gp_write_lists and under 8,192 for any other call, no recursion, nothing allocated. From outside it needs memcpy
+ * Stack: under 65,536 bytes for gp_write_lists and gp_draw and under 8,192 for any other call, no recursion, nothing allocated. From outside it needs memcpy
  * and memset alone.
  */
 #ifndef GROATPOCKET_H
@@ -81,13 +81,15 @@ uint32_t gp_version(void);
 #define GP_MAX_COORD 65536.0f  /* a coordinate's size, in pixels */
 #define GP_MAX_DEPTH 6u        /* how often a curve of an outline is halved */
 
-/* The part of a frame that refused. */
+/* The part of a frame, or of gp_draw, that refused. */
 #define GP_STAGE_NONE 0u     /* none: the frame is done */
 #define GP_STAGE_LENT 1u     /* the checks of what is lent; nothing has changed */
 #define GP_STAGE_COUNT 2u    /* counting; the item is a line */
 #define GP_STAGE_SUMS 3u     /* the sums of the backdrops; the item is a path */
 #define GP_STAGE_HAND_OUT 4u /* hand-out: too few segments lent; the item is 0 */
 #define GP_STAGE_TILE 5u     /* tiling; the item is a reference */
+#define GP_STAGE_LISTS 6u    /* gp_draw: the lists; the item is a screen tile */
+#define GP_STAGE_FINE 7u     /* gp_draw: fine; the item is a screen tile. No drawing is ever refused there */
 
 /* What a check of another's tables found. */
 #define GP_FOUND_NOTHING 0u   /* it was refused: nothing is said of the tables */
@@ -410,6 +412,28 @@ uint32_t gp_fine_rows(const uint32_t *words, size_t words_len,
                       const float *segments, size_t segments_len,
                       uint32_t width, uint32_t cols, uint32_t rows, uint32_t first, uint32_t end,
                       uint32_t *pixels, size_t pixels_len, uint32_t *item);
+
+/* From lines to pixels in one call: gp_frame, then gp_write_lists over what it left, with as much room as segments
+ * are lent, then gp_fine over all screen tiles. It takes what they take, and tells what gp_frame tells: *stage
+ * may be GP_STAGE_LISTS too, where the lists refuse with 15 or 9. All that needs only lengths and sizes is checked
+ * before anything is written: a refusal with GP_STAGE_LENT changes nothing. What the parts before a later refusal
+ * did stands.
+ * 1: as gp_frame; then paths whole; two words of paint for each path. Then 2, for paths, tiles and screen tiles;
+ * 16; each path's 3 and 4. */
+uint32_t gp_draw(const uint32_t *path_nos, size_t path_nos_len,
+                 const float *coords, size_t coords_len,
+                 const uint32_t *paths, size_t paths_len,
+                 const uint32_t *paints, size_t paints_len,
+                 int32_t *backdrops, size_t backdrops_len,
+                 uint32_t *stored, size_t stored_len,
+                 uint32_t *tally, size_t tally_len,
+                 uint32_t *refs, size_t refs_len,
+                 float *segments, size_t segments_len,
+                 uint32_t *tags, size_t tags_len,
+                 uint32_t width, uint32_t cols, uint32_t rows,
+                 uint32_t *words, size_t words_len,
+                 uint32_t *pixels, size_t pixels_len,
+                 uint32_t *stage, uint32_t *item, uint32_t *lines, uint32_t *made);
 
 /* The float helpers: each is the rules' own, docs/RULES.md, "Float meanings". */
 float gp_floor(float x);

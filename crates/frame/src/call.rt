@@ -16,7 +16,7 @@ use panel::widths::REF_WORDS;
 use panel::widths::SEGMENT_FLOATS;
 
 // Check 1 of the lengths lent, in the order of the parameters.
-fn check_lent(
+pub fn check_lent(
     nn: usize,
     nc: usize,
     nb: usize,

@@ -5,6 +5,7 @@ mod call;
 mod kinds;
 mod stages;
 
+pub use call::check_lent;
 pub use call::frame;
 pub use kinds::Framed;
 pub use kinds::Stage;

@@ -4,6 +4,7 @@ pub mod ToldBoxes
 pub mod ToldCheck
 pub mod ToldFrame
 pub mod ToldOutlines
+pub mod ToldDraw
 pub mod ToldPpm
 pub mod ToldPixel
 pub mod ToldRecount

@@ -4,6 +4,7 @@ pub mod Calls
 pub mod CallBoxes
 pub mod CallCheck
 pub mod CallFrame
+pub mod CallDraw
 pub mod CallLists
 pub mod CallOutlines
 pub mod CallPpm

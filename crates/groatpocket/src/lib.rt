@@ -6,6 +6,7 @@ pub mod call_bands;
 pub mod call_boxes;
 pub mod call_check;
 pub mod call_count;
+pub mod call_draw;
 pub mod call_fill;
 pub mod call_fine;
 pub mod call_frame;

@@ -5,7 +5,7 @@ use crate::stages::Running;
 use crate::{Reference, REF_WORDS};
 use core::fmt;
 
-/// The part of a frame that refused.
+/// The part of a frame, or of a drawing, that refused.
 #[derive(Clone, Copy, Debug, PartialEq, Eq, Hash)]
 #[repr(u32)]
 pub enum Stage {
@@ -19,10 +19,15 @@ pub enum Stage {
     HandOut = 4,
     /// Tiling; the item is a reference.
     Tile = 5,
+    /// The lists, in [`draw`](crate::draw); the item is a screen tile.
+    Lists = 6,
+    /// Fine, in [`draw`](crate::draw); the item is a screen tile. No drawing is ever refused there.
+    Fine = 7,
 }
 
 impl Stage {
-    const ALL: [Stage; 5] = [Stage::Lent, Stage::Count, Stage::Sums, Stage::HandOut, Stage::Tile];
+    pub(crate) const ALL: [Stage; 7] =
+        [Stage::Lent, Stage::Count, Stage::Sums, Stage::HandOut, Stage::Tile, Stage::Lists, Stage::Fine];
 }
 
 /// A frame that stopped: where, why, and the running numbers of its count.
@@ -44,6 +49,8 @@ impl fmt::Display for FrameStopped {
             Stage::Sums => "the sums stopped at path",
             Stage::HandOut => "hand-out stopped; item",
             Stage::Tile => "tiling stopped at reference",
+            Stage::Lists => "the lists stopped at screen tile",
+            Stage::Fine => "fine stopped at screen tile",
         };
         write!(f, "{what} {}: {}", self.refused.item, self.refused.refusal)
     }

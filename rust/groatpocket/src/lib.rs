@@ -6,7 +6,7 @@
 //! `docs/PROMISES.md`.
 //!
 //! Lines become pixels in three calls: [`frame`] counts the lines and writes their segments,
-//! [`write_lists`] makes a list of commands for each screen tile, [`fine`] draws them.
+//! [`write_lists`] makes a list of commands for each screen tile, [`fine`] draws them; or in one: [`draw`].
 //!
 #![cfg_attr(all(feature = "frame", feature = "lists"), doc = "```")]
 #![cfg_attr(not(all(feature = "frame", feature = "lists")), doc = "```ignore")]
@@ -106,6 +106,8 @@ mod bands;
 mod boxes;
 #[cfg(feature = "check")]
 mod check;
+#[cfg(feature = "draw")]
+mod draw;
 #[cfg(feature = "frame")]
 mod frame;
 #[cfg(feature = "lists")]
@@ -134,6 +136,8 @@ pub use bands::fine_rows;
 pub use boxes::{box_work_needed, boxes, Boxes};
 #[cfg(feature = "check")]
 pub use check::{check, work_needed, Check, Found};
+#[cfg(feature = "draw")]
+pub use draw::{draw, Draw};
 #[cfg(feature = "frame")]
 pub use frame::{frame, Frame, FrameStopped, Stage};
 #[cfg(feature = "lists")]

@@ -170,4 +170,21 @@ extern "C" {
         pixels: *mut u32, pixels_len: usize,
         item: &mut u32,
     ) -> u32;
+
+    pub fn gp_draw(
+        path_nos: *const u32, path_nos_len: usize,
+        coords: *const f32, coords_len: usize,
+        paths: *const u32, paths_len: usize,
+        paints: *const u32, paints_len: usize,
+        backdrops: *mut i32, backdrops_len: usize,
+        stored: *mut u32, stored_len: usize,
+        tally: *mut u32, tally_len: usize,
+        refs: *mut u32, refs_len: usize,
+        segments: *mut f32, segments_len: usize,
+        tags: *mut u32, tags_len: usize,
+        width: u32, cols: u32, rows: u32,
+        words: *mut u32, words_len: usize,
+        pixels: *mut u32, pixels_len: usize,
+        stage: &mut u32, item: &mut u32, lines: &mut u32, made: &mut u32,
+    ) -> u32;
 }

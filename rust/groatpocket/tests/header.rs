@@ -186,7 +186,9 @@ fn found() {
 #[test]
 fn stages() {
     let header = header();
-    for stage in [Stage::Lent, Stage::Count, Stage::Sums, Stage::HandOut, Stage::Tile] {
+    for stage in
+        [Stage::Lent, Stage::Count, Stage::Sums, Stage::HandOut, Stage::Tile, Stage::Lists, Stage::Fine]
+    {
         let name = format!("STAGE_{}", shouted(&format!("{stage:?}")));
         assert_eq!(header[&name], stage as u32, "{name}");
     }

@@ -97,6 +97,9 @@ extern uint32_t gp_svg_lines(const uint8_t *text, size_t text_len, uint32_t dept
 #ifdef HAS_BANDS
 extern uint32_t gp_fine_rows(const uint32_t *words, size_t words_len, const float *segments, size_t segments_len, uint32_t width, uint32_t cols, uint32_t rows, uint32_t first, uint32_t end, uint32_t *pixels, size_t pixels_len, uint32_t *item);
 #endif
+#ifdef HAS_DRAW
+extern uint32_t gp_draw(const uint32_t *path_nos, size_t path_nos_len, const float *coords, size_t coords_len, const uint32_t *paths, size_t paths_len, const uint32_t *paints, size_t paints_len, int32_t *backdrops, size_t backdrops_len, uint32_t *stored, size_t stored_len, uint32_t *tally, size_t tally_len, uint32_t *refs, size_t refs_len, float *segments, size_t segments_len, uint32_t *tags, size_t tags_len, uint32_t width, uint32_t cols, uint32_t rows, uint32_t *words, size_t words_len, uint32_t *pixels, size_t pixels_len, uint32_t *stage, uint32_t *item, uint32_t *lines, uint32_t *made);
+#endif
 
 static uint32_t run(uint32_t which) {
     uint32_t *n = numbers;
@@ -223,6 +226,12 @@ static uint32_t run(uint32_t which) {
 #ifdef HAS_BANDS
     case 19: { /* fine_rows */
         uint32_t answer = gp_fine_rows(SLICE(0, uint32_t), SLICE(1, float), (uint32_t)n[0], (uint32_t)n[1], (uint32_t)n[2], (uint32_t)n[3], (uint32_t)n[4], SLICE(2, uint32_t), &n[5]);
+        return answer;
+    }
+#endif
+#ifdef HAS_DRAW
+    case 20: { /* draw */
+        uint32_t answer = gp_draw(SLICE(0, uint32_t), SLICE(1, float), SLICE(2, uint32_t), SLICE(3, uint32_t), SLICE(4, int32_t), SLICE(5, uint32_t), SLICE(6, uint32_t), SLICE(7, uint32_t), SLICE(8, float), SLICE(9, uint32_t), (uint32_t)n[0], (uint32_t)n[1], (uint32_t)n[2], SLICE(10, uint32_t), SLICE(11, uint32_t), &n[3], &n[4], &n[5], &n[6]);
         return answer;
     }
 #endif

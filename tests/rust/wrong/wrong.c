@@ -227,6 +227,33 @@ uint32_t __wrap_gp_fine_rows(const uint32_t *words, size_t words_len, const floa
     return answer;
 }
 
+uint32_t __real_gp_draw(const uint32_t *path_nos, size_t path_nos_len, const float *coords, size_t coords_len, const uint32_t *paths, size_t paths_len, const uint32_t *paints, size_t paints_len, int32_t *backdrops, size_t backdrops_len, uint32_t *stored, size_t stored_len, uint32_t *tally, size_t tally_len, uint32_t *refs, size_t refs_len, float *segments, size_t segments_len, uint32_t *tags, size_t tags_len, uint32_t width, uint32_t cols, uint32_t rows, uint32_t *words, size_t words_len, uint32_t *pixels, size_t pixels_len, uint32_t *stage, uint32_t *item, uint32_t *lines, uint32_t *made);
+uint32_t __wrap_gp_draw(const uint32_t *path_nos, size_t path_nos_len, const float *coords, size_t coords_len, const uint32_t *paths, size_t paths_len, const uint32_t *paints, size_t paints_len, int32_t *backdrops, size_t backdrops_len, uint32_t *stored, size_t stored_len, uint32_t *tally, size_t tally_len, uint32_t *refs, size_t refs_len, float *segments, size_t segments_len, uint32_t *tags, size_t tags_len, uint32_t width, uint32_t cols, uint32_t rows, uint32_t *words, size_t words_len, uint32_t *pixels, size_t pixels_len, uint32_t *stage, uint32_t *item, uint32_t *lines, uint32_t *made) {
+    uint32_t answer = __real_gp_draw(path_nos, path_nos_len, coords, coords_len, paths, paths_len, paints, paints_len, backdrops, backdrops_len, stored, stored_len, tally, tally_len, refs, refs_len, segments, segments_len, tags, tags_len, width, cols, rows, words, words_len, pixels, pixels_len, stage, item, lines, made);
+    if (strikes("draw backdrops", answer == 0 && backdrops_len > 0)) flip(backdrops + backdrops_len / 2);
+    if (strikes("draw backdrops refused", answer != 0 && backdrops_len > 0)) flip(backdrops + backdrops_len / 2);
+    if (strikes("draw stored", answer == 0 && stored_len > 0)) flip(stored + stored_len / 2);
+    if (strikes("draw stored refused", answer != 0 && stored_len > 0)) flip(stored + stored_len / 2);
+    if (strikes("draw tally", answer == 0 && tally_len > 0)) flip(tally + tally_len / 2);
+    if (strikes("draw tally refused", answer != 0 && tally_len > 0)) flip(tally + tally_len / 2);
+    if (strikes("draw refs", answer == 0 && refs_len > 0)) flip(refs + refs_len / 2);
+    if (strikes("draw refs refused", answer != 0 && refs_len > 0)) flip(refs + refs_len / 2);
+    if (strikes("draw segments", answer == 0 && segments_len > 0)) flip(segments + segments_len / 2);
+    if (strikes("draw segments refused", answer != 0 && segments_len > 0)) flip(segments + segments_len / 2);
+    if (strikes("draw tags", answer == 0 && tags_len > 0)) flip(tags + tags_len / 2);
+    if (strikes("draw tags refused", answer != 0 && tags_len > 0)) flip(tags + tags_len / 2);
+    if (strikes("draw words", answer == 0 && words_len > 0)) flip(words + words_len / 2);
+    if (strikes("draw words refused", answer != 0 && words_len > 0)) flip(words + words_len / 2);
+    if (strikes("draw pixels", answer == 0 && pixels_len > 0)) flip(pixels + pixels_len / 2);
+    if (strikes("draw pixels refused", answer != 0 && pixels_len > 0)) flip(pixels + pixels_len / 2);
+    if (strikes("draw stage", answer != 0)) *stage += 1;
+    if (strikes("draw item", answer != 0)) *item += 1;
+    if (strikes("draw lines", 1)) *lines += 1;
+    if (strikes("draw made", 1)) *made += 1;
+    if (strikes("draw answer", 1)) answer ^= 1;
+    return answer;
+}
+
 #ifndef BRIDGED /* over the bridge the helpers are no functions of their own */
 
 float __real_gp_floor(float x);

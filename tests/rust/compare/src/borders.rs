@@ -103,6 +103,26 @@ fn frame(rng: &mut Rng) -> Call {
     Call { kind: 7, numbers: vec![], slices }
 }
 
+/// The same of a drawing, on a screen of one tile; or paths over that tile, about as many as its commands allow.
+fn draw(rng: &mut Rng, kind: u32) -> Call {
+    let mut slices = frame(rng).slices;
+    if rng.one_in(4) {
+        // each is covered by the sum of a line left of the tile, which marks its row
+        let n = rules::limits::COMMANDS_MOST / 2 - 2 + rng.below(4) as u32;
+        let down = bits([8.0, 0.0, 8.0, 16.0]);
+        slices[0] = (0..n).collect();
+        slices[1] = down.repeat(n as usize);
+        slices[2] = (0..n).flat_map(|k| path([1, 0, 2, 1], k)).collect();
+        for k in 3..6 {
+            slices[k] = vec![7; n as usize];
+        }
+    }
+    let paints = vec![0; PAINT * slices[2].len() / rules::limits::PATH];
+    slices.insert(3, paints);
+    slices.extend([vec![7; REGION * 1000], vec![7; 512]]);
+    Call { kind, numbers: vec![32, 2, 1], slices }
+}
+
 /// Paths over the one screen tile, all of which its backdrop covers, about as many as its commands allow.
 fn write_lists(rng: &mut Rng) -> Call {
     let n = rules::limits::COMMANDS_MOST / 2 - rng.below(160) as u32;
@@ -232,6 +252,7 @@ pub fn toward(rng: &mut Rng, kind: u32) -> Option<Call> {
         }
         "tile" => tile(rng),
         "frame" => frame(rng),
+        "draw" => draw(rng, kind),
         "recount" => recount(rng, kind),
         "boxes" => boxes(rng, kind),
         "check" => check(rng, kind),

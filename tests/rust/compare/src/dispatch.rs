@@ -29,6 +29,7 @@ pub const NAMES: &[&str] = &[
     "sizes",
     "svg_lines",
     "fine_rows",
+    "draw",
 ];
 
 /// The slices that a call of a kind may change.
@@ -53,6 +54,7 @@ pub const CHANGED: &[&[usize]] = &[
     &[],
     &[1, 2],
     &[2],
+    &[4, 5, 6, 7, 8, 9, 10, 11],
 ];
 
 /// The slices that are bytes, a word for each.
@@ -76,6 +78,7 @@ pub const BYTES: &[&[usize]] = &[
     &[],
     &[],
     &[0],
+    &[],
     &[],
 ];
 
@@ -101,6 +104,7 @@ pub const SHAPES: &[(usize, usize)] = &[
     (3, 2),
     (3, 2),
     (3, 5),
+    (12, 3),
 ];
 
 /// Whether a call of a kind is linked.
@@ -125,6 +129,7 @@ pub const LINKED: &[bool] = &[
     ours::has::SIZES,
     ours::has::SVG,
     ours::has::BANDS,
+    ours::has::DRAW,
 ];
 
 macro_rules! answered_by {
@@ -417,6 +422,34 @@ macro_rules! answered_by {
                         &mut item,
                     );
                     vec![no, item]
+                }
+                (20, [path_nos, coords, paths, paints, backdrops, stored, tally, refs, segments, tags, words, pixels]) => {
+                    let mut stage = UNTOLD;
+                    let mut item = UNTOLD;
+                    let mut lines = UNTOLD;
+                    let mut made = UNTOLD;
+                    let no = $side::draw(
+                        path_nos.u32s(),
+                        coords.f32s(),
+                        paths.u32s(),
+                        paints.u32s(),
+                        backdrops.i32s_mut(),
+                        stored.u32s_mut(),
+                        tally.u32s_mut(),
+                        refs.u32s_mut(),
+                        segments.f32s_mut(),
+                        tags.u32s_mut(),
+                        n[0],
+                        n[1],
+                        n[2],
+                        words.u32s_mut(),
+                        pixels.u32s_mut(),
+                        &mut stage,
+                        &mut item,
+                        &mut lines,
+                        &mut made,
+                    );
+                    vec![no, item, stage, lines, made]
                 }
                 _ => panic!("no call of kind {}", call.kind),
             };

@@ -71,7 +71,7 @@ pub fn of_lines(rng: &mut Rng, (path_nos, coords): (Vec<u32>, Vec<u32>), paths: 
     Case { path_nos, coords, paths, backdrops, tiles: counts, tally, refs, segments, tags }
 }
 
-fn spoil(rng: &mut Rng, case: &mut Case) {
+pub fn spoil(rng: &mut Rng, case: &mut Case) {
     match rng.below(17) {
         0 => _ = case.coords.pop(),
         1 => _ = case.path_nos.pop(),
@@ -198,7 +198,7 @@ impl Memory {
         call(b.i32s_mut(), t.u32s_mut(), y.u32s_mut(), r.u32s_mut(), s.f32s_mut(), g.u32s_mut())
     }
 
-    fn same_as(&self, wanted: &Memory) -> Result<(), String> {
+    pub fn same_as(&self, wanted: &Memory) -> Result<(), String> {
         let names = ["backdrops", "stored", "tally", "references", "segments", "tags"];
         for ((got, wanted), name) in self.0.iter().zip(&wanted.0).zip(names) {
             same_words(name, got.u32s(), wanted.u32s())?;

@@ -223,6 +223,15 @@ fn good(rng: &mut Rng, kind: u32) -> Call {
             let pixels = words(rng, (256 * cols * (end - first)) as usize);
             (vec![16 * cols, cols, rows, first, end], vec![list_words, list, pixels])
         }
+        _ if NAMES[kind as usize] == "draw" => {
+            let (refs, room) = (REF * rng.below(60) as usize, rng.below(60) as usize);
+            let (cols, rows) = (rng.below(4) as u32, rng.below(4) as u32);
+            let tables = [words(rng, tiles), words(rng, tiles), words(rng, tiles), words(rng, refs), words(rng, SEGMENT * room), words(rng, room)];
+            let lists = words(rng, REGION * (cols * rows) as usize);
+            let pixels = words(rng, (256 * cols * rows) as usize);
+            let lent = [path_nos, coords, paths, words(rng, PAINT * n_paths)].into_iter();
+            (vec![16 * cols, cols, rows], lent.chain(tables).chain([lists, pixels]).collect())
+        }
         SVG_LINES => {
             let commands = rng.below(6);
             let text = texts::valid(rng, commands);

@@ -19,6 +19,7 @@ mod check;
 mod count;
 #[rustfmt::skip]
 mod dispatch;
+mod draw;
 mod fill;
 mod findings;
 mod fine;
@@ -110,7 +111,7 @@ fn run<S: Stage>(stage: &S, args: &Args, linked: bool, seconds: f64) -> bool {
     stage::run(stage, Sides { ours, rust: oracle::AT_HAND }, budget)
 }
 
-const STAGES: [&str; 17] = [
+const STAGES: [&str; 18] = [
     "floats",
     "backdrop",
     "hand_out",
@@ -122,6 +123,7 @@ const STAGES: [&str; 17] = [
     "frame",
     "write_lists",
     "picture",
+    "draw",
     "pixel",
     "recount",
     "boxes",
@@ -150,6 +152,7 @@ fn stages(args: &Args) -> bool {
     well &= run(&frame::Frame, args, ours::has::FRAME, 12.0);
     well &= run(&write_lists::WriteLists, args, ours::has::LISTS, 12.0);
     well &= picture(args);
+    well &= run(&draw::Draw, args, ours::has::DRAW && picture::LINKED, 8.0);
     well &= run(&pixel::Pixel, args, ours::has::PIXEL && ours::has::FILL && ours::has::FINE, 8.0);
     well &= run(&recount::Recount, args, ours::has::RECOUNT && ours::has::COUNT, 6.0);
     well &= run(&boxes::Boxes, args, ours::has::BOXES && ours::has::COUNT, 4.0);

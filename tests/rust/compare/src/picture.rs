@@ -18,14 +18,14 @@ pub const LINKED: bool =
 
 #[derive(Clone, Debug)]
 pub struct Case {
-    frame: frame::Case,
-    paints: Vec<u32>,
-    cols: u32,
-    rows: u32,
-    width: u32,
+    pub frame: frame::Case,
+    pub paints: Vec<u32>,
+    pub cols: u32,
+    pub rows: u32,
+    pub width: u32,
     /// The words lent hold anything.
-    words: usize,
-    pixels: Vec<u32>,
+    pub words: usize,
+    pub pixels: Vec<u32>,
     /// Where batches and ranges are cut, which float is changed to what, and the other order of the lines.
     seed: u64,
 }
@@ -158,7 +158,7 @@ impl Case {
         REGION * (self.cols * self.rows) as usize * (2 + paths_in(&self.frame.paths) / 10)
     }
 
-    fn page(&self) -> Vec<u32> {
+    pub fn page(&self) -> Vec<u32> {
         let f = &self.frame;
         rules::picture_of(&f.path_nos, as_f32(&f.coords), &f.paths, &self.paints, self.cols, self.rows, self.width, &self.pixels)
     }

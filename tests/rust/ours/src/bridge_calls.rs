@@ -483,3 +483,47 @@ unsafe extern "C" fn gp_fine_rows(
     *item = n[5];
     answer
 }
+
+#[cfg(feature = "draw")]
+#[no_mangle]
+unsafe extern "C" fn gp_draw(
+    path_nos: *const u32, path_nos_len: usize,
+    coords: *const f32, coords_len: usize,
+    paths: *const u32, paths_len: usize,
+    paints: *const u32, paints_len: usize,
+    backdrops: *mut i32, backdrops_len: usize,
+    stored: *mut u32, stored_len: usize,
+    tally: *mut u32, tally_len: usize,
+    refs: *mut u32, refs_len: usize,
+    segments: *mut f32, segments_len: usize,
+    tags: *mut u32, tags_len: usize,
+    width: u32, cols: u32, rows: u32,
+    words: *mut u32, words_len: usize,
+    pixels: *mut u32, pixels_len: usize,
+    stage: &mut u32, item: &mut u32, lines: &mut u32, made: &mut u32,
+) -> u32 {
+    let mut n = [width, cols, rows, *stage, *item, *lines, *made];
+    let answer = call(
+        20,
+        &mut n,
+        vec![
+            read_only(path_nos, path_nos_len),
+            read_only(coords, coords_len),
+            read_only(paths, paths_len),
+            read_only(paints, paints_len),
+            changed(backdrops, backdrops_len),
+            changed(stored, stored_len),
+            changed(tally, tally_len),
+            changed(refs, refs_len),
+            changed(segments, segments_len),
+            changed(tags, tags_len),
+            changed(words, words_len),
+            changed(pixels, pixels_len),
+        ],
+    );
+    *stage = n[3];
+    *item = n[4];
+    *lines = n[5];
+    *made = n[6];
+    answer
+}

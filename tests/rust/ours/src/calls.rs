@@ -467,3 +467,37 @@ pub fn fine_rows(
     #[cfg(not(feature = "bands"))]
     not_linked(("fine_rows", words, segments, width, cols, rows, first, end, pixels, item))
 }
+
+pub fn draw(
+    path_nos: &[u32],
+    coords: &[f32],
+    paths: &[u32],
+    paints: &[u32],
+    backdrops: &mut [i32],
+    stored: &mut [u32],
+    tally: &mut [u32],
+    refs: &mut [u32],
+    segments: &mut [f32],
+    tags: &mut [u32],
+    width: u32,
+    cols: u32,
+    rows: u32,
+    words: &mut [u32],
+    pixels: &mut [u32],
+    stage: &mut u32,
+    item: &mut u32,
+    lines: &mut u32,
+    made: &mut u32,
+) -> u32 {
+    #[cfg(all(feature = "draw", not(bridge)))]
+    if crate::null::is_lent(&[path_nos.len(), coords.len(), paths.len(), paints.len(), backdrops.len(), stored.len(), tally.len(), refs.len(), segments.len(), tags.len(), words.len(), pixels.len()]) {
+        // SAFETY: every pointer and length is a slice's, lent for the call alone, or NULL and 0.
+        return unsafe { groatpocket::raw::gp_draw(crate::null::at(path_nos), path_nos.len(), crate::null::at(coords), coords.len(), crate::null::at(paths), paths.len(), crate::null::at(paints), paints.len(), crate::null::at_mut(backdrops), backdrops.len(), crate::null::at_mut(stored), stored.len(), crate::null::at_mut(tally), tally.len(), crate::null::at_mut(refs), refs.len(), crate::null::at_mut(segments), segments.len(), crate::null::at_mut(tags), tags.len(), width, cols, rows, crate::null::at_mut(words), words.len(), crate::null::at_mut(pixels), pixels.len(), stage, item, lines, made) };
+    }
+    #[cfg(feature = "draw")]
+    let answer = groatpocket::draw(groatpocket::Draw { path_nos, coords, paths, paints, backdrops, stored, tally, refs, segments, tags, width, cols, rows, words, pixels });
+    #[cfg(feature = "draw")]
+    return crate::answers::stage_item_lines_made(answer, stage, item, lines, made);
+    #[cfg(not(feature = "draw"))]
+    not_linked(("draw", path_nos, coords, paths, paints, backdrops, stored, tally, refs, segments, tags, width, cols, rows, words, pixels, stage, item, lines, made))
+}

@@ -43,6 +43,7 @@ pub mod has {
     pub const SIZES: bool = cfg!(feature = "sizes");
     pub const SVG: bool = cfg!(feature = "svg");
     pub const BANDS: bool = cfg!(feature = "bands");
+    pub const DRAW: bool = cfg!(feature = "draw");
 }
 
 /// A float helper over many operands; the numbers are those of the list of floats (01 floor .. 20 clamp).

@@ -1,0 +1,2 @@
+-- One call from lines to pixels. Definitions only.
+pub mod Draw
