@@ -128,6 +128,7 @@ uint32_t gp_version(void);
 #define GP_SEGMENT_FLOATS 5u /* point0.x, point0.y, point1.x, point1.y, y_edge */
 #define GP_PAINT_WORDS 2u    /* colour, red in the high byte; rule, its lowest bit set for even-odd */
 #define GP_OUTLINE_WORDS 2u  /* working room of gp_outlines, for each path */
+#define GP_BOX_WORDS 4u      /* working room of gp_boxes, for each path */
 #define GP_PATH_X0 0u        /* where a path's words stand */
 #define GP_PATH_Y0 1u
 #define GP_PATH_X1 2u
@@ -318,9 +319,9 @@ uint32_t gp_recount(uint32_t path,
  * for each: all of its words are written. *tiles is how many tiles the boxes take in all: so many backdrops and counts the
  * calls over these paths are lent. A coordinate below 0 counts as in tile 0; an end in a tile past the last, a
  * coordinate of 65,536 alone, is 3.
- * work is working room: 9 where it is under four words for each path. Refused, in this order: 1, 2 (over GP_MAX_PATHS),
+ * work is working room: 9 where it is under GP_BOX_WORDS for each path. Refused, in this order: 1, 2 (over GP_MAX_PATHS),
  * 9, then for each line 5, 6, 7 and 3, then 2 where the tiles are over GP_MAX_TILES. A refusal changes no path and
- * leaves *tiles 0; work stays, but where the boxes are made or their tiles are too many: its first 4 * beams_len words are
+ * leaves *tiles 0; work stays, but where the boxes are made or their tiles are too many: its first GP_BOX_WORDS * beams_len words are
  * 0 then. *item is the line for 5, 6 and 7, the line's path for 3, else 0.
  * 1: coords whole; as many path_nos as lines; paths whole; as many paths as beams. */
 uint32_t gp_boxes(const uint32_t *path_nos, size_t path_nos_len,

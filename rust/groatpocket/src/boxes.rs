@@ -2,10 +2,8 @@
 use crate::raw;
 use crate::refusal::{answered, Refused, UNTOLD};
 
-/// How many words of working room [`boxes`] asks for.
-pub fn box_work_needed(paths: usize) -> usize {
-    4 * paths
-}
+/// Words of working room that [`boxes`] asks for, for each path.
+pub const BOX_WORDS: usize = 4;
 
 /// What [`boxes`] is lent, by name.
 #[derive(Debug)]
@@ -20,7 +18,7 @@ pub struct Boxes<'a> {
     pub margin: u32,
     /// The paths to be made, the words of a [`Path`](crate::Path) each: as many as beam numbers.
     pub paths: &'a mut [u32],
-    /// Working room: [`box_work_needed`] words, which are 0 afterwards.
+    /// Working room: [`BOX_WORDS`] for each path, which are 0 afterwards.
     pub work: &'a mut [u32],
 }
 
@@ -30,10 +28,10 @@ pub struct Boxes<'a> {
 /// changes a path.
 ///
 /// ```
-/// use groatpocket::{box_work_needed, boxes, Boxes, Path};
+/// use groatpocket::{boxes, Boxes, Path, BOX_WORDS, PATH_WORDS};
 /// // Path 0: one line, from tile 2,2 to tile 2,3; path 1 has none.
 /// let (path_nos, coords) = ([0], [40.0, 40.0, 40.0, 56.0]);
-/// let (mut paths, mut work) = ([[0; 6]; 2], vec![0; box_work_needed(2)]);
+/// let (mut paths, mut work) = ([[0; PATH_WORDS]; 2], [0; 2 * BOX_WORDS]);
 /// let tiles = boxes(Boxes {
 ///     path_nos: &path_nos,
 ///     coords: &coords,

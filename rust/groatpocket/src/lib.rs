@@ -69,7 +69,8 @@
 //! draw one screen at once, a band of its rows each: [`fine_rows`]. Lines of an outline can be read from
 //! SVG: [`svg_lines`]. Whether one's own lines make closed outlines, [`outlines`] says.
 //!
-//! Nothing is allocated and the crate is `no_std`. It links `libgroatpocket.a`: see its README. Colours are multiplied by
+//! A [`Panel`] holds the memory for all of this: channels go in as outlines, and out come pixels, or a fault with the channel to blame.
+//! Nothing else allocates, and the crate is `no_std`. It links `libgroatpocket.a`: see its README. Colours are multiplied by
 //! their alpha, and nothing refuses one that isn't; a paint has red in its highest byte and a pixel in its lowest.
 //!
 //! ```
@@ -100,6 +101,9 @@
 #![no_std]
 #![warn(missing_docs)]
 
+#[cfg(all(feature = "boxes", feature = "draw", feature = "sizes"))]
+extern crate alloc;
+
 #[cfg(feature = "bands")]
 mod bands;
 #[cfg(feature = "boxes")]
@@ -114,6 +118,8 @@ mod frame;
 mod lists;
 #[cfg(feature = "outlines")]
 mod outlines;
+#[cfg(all(feature = "boxes", feature = "draw", feature = "sizes"))]
+mod panel;
 #[cfg(feature = "picture")]
 mod picture;
 #[cfg(feature = "pixel")]
@@ -133,7 +139,7 @@ mod svg;
 #[cfg(feature = "bands")]
 pub use bands::fine_rows;
 #[cfg(feature = "boxes")]
-pub use boxes::{box_work_needed, boxes, Boxes};
+pub use boxes::{boxes, Boxes, BOX_WORDS};
 #[cfg(feature = "check")]
 pub use check::{check, work_needed, Check, Found};
 #[cfg(feature = "draw")]
@@ -144,6 +150,8 @@ pub use frame::{frame, Frame, FrameStopped, Stage};
 pub use lists::{words_needed, write_lists, WriteLists};
 #[cfg(feature = "outlines")]
 pub use outlines::{outlines, Outlines, OUTLINE_WORDS};
+#[cfg(all(feature = "boxes", feature = "draw", feature = "sizes"))]
+pub use panel::{Channel, Fault, Panel, Picture};
 #[cfg(feature = "picture")]
 pub use picture::{ppm_read, ppm_write};
 #[cfg(feature = "pixel")]

@@ -489,3 +489,81 @@ fn just_so_much_room_is_enough() {
     assert_eq!((refused.refusal, refused.item), (Refusal::NoSuch, 1));
     assert_eq!(sizes(&path_nos, &coords, &PATHS, 1 << 20, 2).unwrap_err().refusal, Refusal::TooMany);
 }
+
+/// A panel draws what the calls draw over boxes and sizes asked for by hand, at a size that is no whole number of tiles, and again in
+/// the memory that it holds.
+#[test]
+fn a_panel_draws_what_the_calls_draw() {
+    let (width, height) = (40u32, 21u32);
+    let paints = [0xff0000ff, 0x00ff00ff].map(|colour| Paint { colour, even_odd: false });
+    let outlines = [[[3.0, 18.0], [20.0, 2.0], [37.0, 18.0]], [[10.0, 20.0], [25.0, 5.0], [30.0, 20.0]]];
+    let mut panel = Panel::new(width, height);
+    let channels = paints.map(|paint| panel.channel(7, paint));
+    for _ in 0..2 {
+        panel.clear();
+        channels.iter().zip(&outlines).for_each(|(channel, points)| panel.outline(*channel, points));
+        let picture = panel.draw().unwrap();
+        assert_eq!(picture.rows().count(), height as usize);
+        assert!(picture.rows().all(|row| row.len() == width as usize));
+
+        let path_nos = [0, 0, 0, 1, 1, 1];
+        let coords: Vec<f32> =
+            outlines.iter().flat_map(|p| (0..3).flat_map(move |k| [p[k], p[(k + 1) % 3]].concat())).collect();
+        let (mut paths, mut work) = ([0; 2 * PATH_WORDS], [0; 2 * BOX_WORDS]);
+        let lent = Boxes {
+            path_nos: &path_nos,
+            coords: &coords,
+            beams: &[7, 7],
+            margin: 1,
+            paths: &mut paths,
+            work: &mut work,
+        };
+        let tiles = boxes(lent).unwrap() as usize;
+        let told = sizes(&path_nos, &coords, &paths, 3, 2).unwrap();
+        let references = told.references as usize;
+        let (mut backdrops, mut stored, mut tally) = (vec![0; tiles], vec![0; tiles], vec![0; tiles]);
+        let mut refs = vec![0; REF_WORDS * references];
+        let (mut segments, mut tags) = (vec![0.0; SEGMENT_FLOATS * references], vec![0; references]);
+        let (mut words, mut pixels) = (vec![0; told.words as usize], vec![0; 48 * 32]);
+        draw(Draw {
+            path_nos: &path_nos,
+            coords: &coords,
+            paths: &paths,
+            paints: &paints.map(Paint::words).concat(),
+            backdrops: &mut backdrops,
+            stored: &mut stored,
+            tally: &mut tally,
+            refs: &mut refs,
+            segments: &mut segments,
+            tags: &mut tags,
+            width: 48,
+            cols: 3,
+            rows: 2,
+            words: &mut words,
+            pixels: &mut pixels,
+        })
+        .unwrap();
+        let mut painted = 0;
+        for (y, row) in picture.rows().enumerate() {
+            assert_eq!(row, &pixels[48 * y..][..width as usize], "row {y}");
+            painted += row.iter().filter(|p| **p != 0).count();
+        }
+        assert!(painted > 200);
+    }
+}
+
+/// Whose fault it is: a channel's for its own places, the panel's own for too many channels.
+#[test]
+fn a_panel_says_whose_fault_it_is() {
+    let paint = Paint { colour: 0xff0000ff, even_odd: false };
+    let mut panel = Panel::new(16, 16);
+    let channel = panel.channel(301, paint);
+    panel.outline(channel, &[[0.0, 0.0], [65536.0, 8.0]]);
+    let refusal = Refusal::BadBox;
+    assert_eq!(panel.draw().unwrap_err(), Fault::Channel { channel, beam: 301, line: None, refusal });
+    panel.clear();
+    panel.outline(channel, &[[0.0, 0.0]]);
+    assert!(panel.draw().unwrap().rows().all(|row| row.iter().all(|p| *p == 0)));
+    (0..4096).for_each(|_| _ = panel.channel(302, paint));
+    assert_eq!(panel.draw().unwrap_err(), Fault::Panel(Refused { refusal: Refusal::TooMany, item: 0 }));
+}

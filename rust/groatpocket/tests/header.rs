@@ -122,6 +122,9 @@ fn widths_and_commands() {
     let room = numbers(&text("crates/outlines/src/lib.rt"), "const ", ": usize = ");
     let each = OUTLINE_WORDS as u32;
     assert_eq!((header["OUTLINE_WORDS"], room["ROOM_WORDS"]), (each, each));
+    let room = numbers(&text("crates/boxes/src/checks.rt"), "pub const ", ": usize = ");
+    let each = BOX_WORDS as u32;
+    assert_eq!((header["BOX_WORDS"], room["BOX_WORDS"]), (each, each));
     let range = numbers(&text("crates/panel/src/widths.rt"), "pub const ", ": u32 = ");
     assert_eq!((header["STEP_RANGE"], range["STEP_RANGE"]), (STEP_RANGE, STEP_RANGE));
     let commands = numbers(&commands, "pub const ", ": u32 = ");
