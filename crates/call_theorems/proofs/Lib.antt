@@ -5,6 +5,7 @@
 --     FillTags     every slot of a written FILL carries the beam number of the path that it was written for
 --     ExactCount, ExactStages, ExactTile, ExactLists, ExactFrame, ExactPpm, ExactPixel, ExactBands   exact at the call: a promise is met where one of the call's ways holds, and nowhere else
 --     CheckAnswers   the same of a check of another's tables
+--     DrawAnswers    one answer of a drawing, and no cheat
 pub mod OneAnswer
 pub mod Cheats
 pub mod ExactCount
@@ -15,6 +16,7 @@ pub mod ExactFrame
 pub mod ExactPpm
 pub mod ExactPixel
 pub mod ExactBands
+pub mod DrawAnswers
 pub mod Drawn
 pub mod FillTags
 pub mod CheckAnswers
