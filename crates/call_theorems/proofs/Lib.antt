@@ -7,6 +7,7 @@
 --     CheckAnswers   the same of a check of another's tables
 --     BoxAnswers   of boxes made from lines: one answer only, and no cheat
 --     SizesAnswers   of what lines and paths need: one answer, and no cheat
+--     DrawAnswers    one answer of a drawing, and no cheat
 pub mod OneAnswer
 pub mod Cheats
 pub mod ExactCount
@@ -17,6 +18,7 @@ pub mod ExactFrame
 pub mod ExactPpm
 pub mod ExactPixel
 pub mod ExactBands
+pub mod DrawAnswers
 pub mod Drawn
 pub mod FillTags
 pub mod CheckAnswers

@@ -17,6 +17,7 @@ use Rattle.ppm_read.proofs.Answers as Read
 use Rattle.groatpocket.specs.Seen.{Seen, seen, SeenAt, seenAt}
 use Rattle.groatpocket.specs.Calls.{CountSeen, GpFillMet, GpBackdropMet, GpHandMet, GpTileMet, GpFineMet, GpFineRowsMet, GpCountMet}
 use Rattle.groatpocket.specs.CallFrame.{FrameSeen, GpFrameMet}
+use Rattle.groatpocket.specs.CallDraw.{DrawSeen, GpDrawMet}
 use Rattle.groatpocket.specs.CallLists.{GpListsMet}
 use Rattle.groatpocket.specs.CallPixel.{GpPixelAreaMet, GpPixelMet}
 use Rattle.groatpocket.specs.CallRecount.{RecountSeen, GpRecountMet}
@@ -120,6 +121,27 @@ one-gp-frame nos coords paths bs ts ks rs sg r s at₁ at₂ i j l₁ l₂ m₁ 
       ap (λ (x : FrameSeen). x .tally) e,
       ap (λ (x : FrameSeen). x .refs) e,
       ap (λ (x : FrameSeen). x .pieces) e,
+    )
+
+pub one-gp-draw : (nos : List ℕ) (coords : List Float) (paths paints : List ℕ) (bs : List ℤ) (ts ks rs : List ℕ) (sg : Pieces) (width cols rows : ℕ) (ws px : List ℕ)
+    (r s at₁ at₂ i j l₁ l₂ m₁ m₂ : ℕ) (bs₁ bs₂ : List ℤ) (ts₁ ts₂ ks₁ ks₂ rs₁ rs₂ : List ℕ) (sg₁ sg₂ : Pieces) (ws₁ ws₂ px₁ px₂ : List ℕ)
+    → GpDrawMet nos coords paths paints bs ts ks rs sg width cols rows ws px r at₁ i l₁ m₁ bs₁ ts₁ ks₁ rs₁ sg₁ ws₁ px₁
+    → GpDrawMet nos coords paths paints bs ts ks rs sg width cols rows ws px s at₂ j l₂ m₂ bs₂ ts₂ ks₂ rs₂ sg₂ ws₂ px₂
+    → (r ≡ s) × (at₁ ≡ at₂) × (i ≡ j) × (l₁ ≡ l₂) × (m₁ ≡ m₂) × (bs₁ ≡ bs₂) × (ts₁ ≡ ts₂) × (ks₁ ≡ ks₂) × (rs₁ ≡ rs₂) × (sg₁ ≡ sg₂) × (ws₁ ≡ ws₂) × (px₁ ≡ px₂)
+one-gp-draw nos coords paths paints bs ts ks rs sg width cols rows ws px r s at₁ at₂ i j l₁ l₂ m₁ m₂ bs₁ bs₂ ts₁ ts₂ ks₁ ks₂ rs₁ rs₂ sg₁ sg₂ ws₁ ws₂ px₁ px₂ p q =
+    let e = p ∙ sym q in (
+      ap (λ (x : DrawSeen). x .told .number) e,
+      ap (λ (x : DrawSeen). x .told .stage) e,
+      ap (λ (x : DrawSeen). x .told .item) e,
+      ap (λ (x : DrawSeen). x .told .lines) e,
+      ap (λ (x : DrawSeen). x .told .made) e,
+      ap (λ (x : DrawSeen). x .backs) e,
+      ap (λ (x : DrawSeen). x .stored) e,
+      ap (λ (x : DrawSeen). x .tally) e,
+      ap (λ (x : DrawSeen). x .refs) e,
+      ap (λ (x : DrawSeen). x .pieces) e,
+      ap (λ (x : DrawSeen). x .words) e,
+      ap (λ (x : DrawSeen). x .pixels) e,
     )
 
 pub one-gp-lists : (t : Tables) (cols rows room : ℕ) (ws : List ℕ) (r s i j : ℕ) (ws₁ ws₂ : List ℕ) → GpListsMet t cols rows room ws r i ws₁ → GpListsMet t cols rows room ws s j ws₂
