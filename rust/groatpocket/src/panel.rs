@@ -7,18 +7,22 @@ use crate::{Paint, Screen, PATH_WORDS, REF_WORDS, SEGMENT_FLOATS, TILE_SIDE};
 use alloc::vec::Vec;
 use core::fmt;
 
-/// Tiles that a channel's box has on every side of its lines, as far as 0 lets it: a line with a tile of its box on every side of it
-/// is never refused with 10.
+/// Tiles that everything is drawn further in, and that a channel's box has on every side of its lines: so a line whose ends lie at 0
+/// or more, and a tile and more from the limit, is never refused with 10 (docs/THEOREMS.md, 19).
 const MARGIN: u32 = 1;
 
 /// The side of a tile as the screen's numbers count it.
 const TILE: u32 = TILE_SIDE as u32;
 
+/// The pixels above the picture, and left of it, that aren't shown.
+const INWARD: usize = TILE_SIDE * MARGIN as usize;
+
 /// A panel of so many pixels. It holds the memory that the calls are lent, and lends more where a picture needs more.
 ///
 /// Channels are painted in the order in which they were added, each over those before it. A channel has a beam number and a
 /// paint; its outlines are given for each picture anew. Places are in pixels, from the upper left corner on, y downward; what lies off the
-/// picture isn't seen.
+/// picture isn't seen. All is drawn a tile further in than it is shown, since lines a hair beside 0 are what counting refuses most: 16 is added to each
+/// coordinate, and the sum rounded.
 ///
 /// ```
 /// use groatpocket::{Paint, Panel};
@@ -83,19 +87,14 @@ pub struct Picture<'a> {
 impl<'a> Picture<'a> {
     /// Its rows, from the top.
     pub fn rows(&self) -> impl Iterator<Item = &'a [u32]> {
-        let width = self.width;
-        self.pixels.chunks(self.stride).take(self.height).map(move |row| &row[..width])
+        let picture = *self;
+        (0..self.height).map(move |y| picture.row(y))
     }
 
     /// Row y. Panics where there is none.
     pub fn row(&self, y: usize) -> &'a [u32] {
         assert!(y < self.height, "no row {y}");
-        &self.pixels[self.stride * y..][..self.width]
-    }
-
-    /// All pixels of the screen's tiles, and how many there are to a row: the picture's stand at the front of each row.
-    pub fn screen(&self) -> (&'a [u32], usize) {
-        (self.pixels, self.stride)
+        &self.pixels[self.stride * (y + INWARD) + INWARD..][..self.width]
     }
 }
 
@@ -186,7 +185,9 @@ impl Panel {
         let ends = points.iter().zip(points.iter().cycle().skip(1));
         if points.len() > 1 {
             self.path_nos.extend(points.iter().map(|_| channel.0));
-            self.coords.extend(ends.flat_map(|(from, to)| [from[0], from[1], to[0], to[1]]));
+            let inward = INWARD as f32;
+            self.coords
+                .extend(ends.flat_map(|(from, to)| [from[0], from[1], to[0], to[1]]).map(|v| v + inward));
         }
     }
 
@@ -202,7 +203,7 @@ impl Panel {
     }
 
     fn screen(&self) -> Screen {
-        let (cols, rows) = (self.width.div_ceil(TILE), self.height.div_ceil(TILE));
+        let (cols, rows) = (self.width.div_ceil(TILE) + MARGIN, self.height.div_ceil(TILE) + MARGIN);
         Screen { width: cols.saturating_mul(TILE), cols, rows }
     }
 

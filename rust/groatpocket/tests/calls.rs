@@ -490,8 +490,8 @@ fn just_so_much_room_is_enough() {
     assert_eq!(sizes(&path_nos, &coords, &PATHS, 1 << 20, 2).unwrap_err().refusal, Refusal::TooMany);
 }
 
-/// A panel draws what the calls draw over boxes and sizes asked for by hand, at a size that is no whole number of tiles, and again in
-/// the memory that it holds.
+/// A panel draws what the calls draw over boxes and sizes asked for by hand, a tile further in, at a size that is no whole number of tiles,
+/// and again in the memory that it holds.
 #[test]
 fn a_panel_draws_what_the_calls_draw() {
     let (width, height) = (40u32, 21u32);
@@ -507,8 +507,11 @@ fn a_panel_draws_what_the_calls_draw() {
         assert!(picture.rows().all(|row| row.len() == width as usize));
 
         let path_nos = [0, 0, 0, 1, 1, 1];
-        let coords: Vec<f32> =
-            outlines.iter().flat_map(|p| (0..3).flat_map(move |k| [p[k], p[(k + 1) % 3]].concat())).collect();
+        let coords: Vec<f32> = outlines
+            .iter()
+            .flat_map(|p| (0..3).flat_map(move |k| [p[k], p[(k + 1) % 3]].concat()))
+            .map(|v| v + 16.0)
+            .collect();
         let (mut paths, mut work) = ([0; 2 * PATH_WORDS], [0; 2 * BOX_WORDS]);
         let lent = Boxes {
             path_nos: &path_nos,
@@ -519,12 +522,12 @@ fn a_panel_draws_what_the_calls_draw() {
             work: &mut work,
         };
         let tiles = boxes(lent).unwrap() as usize;
-        let told = sizes(&path_nos, &coords, &paths, 3, 2).unwrap();
+        let told = sizes(&path_nos, &coords, &paths, 4, 3).unwrap();
         let references = told.references as usize;
         let (mut backdrops, mut stored, mut tally) = (vec![0; tiles], vec![0; tiles], vec![0; tiles]);
         let mut refs = vec![0; REF_WORDS * references];
         let (mut segments, mut tags) = (vec![0.0; SEGMENT_FLOATS * references], vec![0; references]);
-        let (mut words, mut pixels) = (vec![0; told.words as usize], vec![0; 48 * 32]);
+        let (mut words, mut pixels) = (vec![0; told.words as usize], vec![0; 64 * 48]);
         draw(Draw {
             path_nos: &path_nos,
             coords: &coords,
@@ -536,16 +539,16 @@ fn a_panel_draws_what_the_calls_draw() {
             refs: &mut refs,
             segments: &mut segments,
             tags: &mut tags,
-            width: 48,
-            cols: 3,
-            rows: 2,
+            width: 64,
+            cols: 4,
+            rows: 3,
             words: &mut words,
             pixels: &mut pixels,
         })
         .unwrap();
         let mut painted = 0;
         for (y, row) in picture.rows().enumerate() {
-            assert_eq!(row, &pixels[48 * y..][..width as usize], "row {y}");
+            assert_eq!(row, &pixels[64 * (y + 16) + 16..][..width as usize], "row {y}");
             painted += row.iter().filter(|p| **p != 0).count();
         }
         assert!(painted > 200);
@@ -558,7 +561,7 @@ fn a_panel_says_whose_fault_it_is() {
     let paint = Paint { colour: 0xff0000ff, even_odd: false };
     let mut panel = Panel::new(16, 16);
     let channel = panel.channel(301, paint);
-    panel.outline(channel, &[[0.0, 0.0], [65536.0, 8.0]]);
+    panel.outline(channel, &[[0.0, 0.0], [65520.0, 8.0]]);
     let refusal = Refusal::BadBox;
     assert_eq!(panel.draw().unwrap_err(), Fault::Channel { channel, beam: 301, line: None, refusal });
     panel.clear();
