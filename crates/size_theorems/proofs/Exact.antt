@@ -156,10 +156,17 @@ module _ (nos : List ℕ) (coords : List Float) (paths : List ℕ) where
           }
       go (halted n) q f ih =
           let x : m₀ ≡ m = cc in
-          let y : n ≡ nr = cc in
-          let v : a ≡ line = cc in
+          let k : _≡_ {A = Refusal} (record { no = n; line = a }) (record { no = nr; line = line }) = cc in
+          let y : n ≡ nr = ap (λ (r : Refusal). r .no) k in
+          let v : a ≡ line = ap (λ (r : Refusal). r .line) k in
           let z : a + 0 ≡ a = omega arith in
-          record { at = 0; inside = omega arith; is = sym v ∙ sym z; ran = ap done x; halts = rw (z, ← x, ← y) q }
+          record {
+            at = 0;
+            inside = omega arith;
+            is = sym v ∙ sym z;
+            ran = ap done x;
+            halts = ap (λ (j : ℕ). lineSize nos coords paths j m) z ∙ ap (λ (j : ℕ). lineSize nos coords paths a j) (sym x) ∙ q ∙ ap halted y;
+          }
 
   pub lines-why : (n m nr line : ℕ) → linesSize nos coords paths 0 n 0 ≡ refused m (record { no = nr; line = line })
       → (line < n) × (linesSize nos coords paths 0 line 0 ≡ done m) × (lineSize nos coords paths line m ≡ halted nr)

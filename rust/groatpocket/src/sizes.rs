@@ -44,6 +44,9 @@ pub fn sizes(
             &mut tiles, &mut references, &mut words, &mut item,
         )
     };
-    debug_assert!(number == 0 || (tiles, references, words) == (0, 0, 0), "sizes where it is refused");
+    debug_assert!(
+        number == 0 || (tiles, references, words) == (0, 0, 0),
+        "tiles, references or words where it is refused"
+    );
     answered(number, item).map(|()| Sizes { tiles, references, words })
 }

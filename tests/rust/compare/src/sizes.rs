@@ -149,13 +149,13 @@ impl Stage for Sizes {
         let told = told!(rules, case);
         table.answer(told[0]);
         if sides.ours {
-            same("number, tiles, references, words, item", told!(ours, case), told)?;
+            same("answer, tiles, references, words, item", told!(ours, case), told)?;
         }
         if told[0] != 0 {
             return same("tiles, references, words of a refusal", [told[1], told[2], told[3]], [0; 3]);
         }
         worth(case, told, sides.ours, table)?;
-        if sides.rust && case.paints.len() == rules::limits::PAINT * paths_in(&case.paths) {
+        if sides.rust {
             let ([number, ..], _) = drawn(case, told[1], told[2], told[2], false);
             if number == 0 {
                 by_the_rust(case, told[1], told[2], table)?;
