@@ -62,19 +62,22 @@ float-to-int-result : tie.Need-float-to-int-result
 unfolding ofBits
 float-to-int-result c =
     let s = c .before .before .before .before in
-    fit (s .args .v) _ (yes (s .good .0 .1)) (made (s .args .v) _ _ _ (yes (s .good .0 .1)) (c .before .before .before .pick .ensures) (c .before .before .pick2 .ensures) (c .before .pick3 .ensures))
+    fit (s .args .v) _ (yes (s .good .0 .1))
+    (made (s .args .v) _ _ _ (yes (s .good .0 .1)) (c .before .before .before .pick .ensures) (c .before .before .pick2 .ensures) (c .before .pick3 .ensures))
 
 cast-result : tie.Need-cast-result
 unfolding ofBits
 cast-result c =
     let s = c .before .before .before .before in
-    room (s .args .v) _ (yes (s .good .0 .1)) (made (s .args .v) _ _ _ (yes (s .good .0 .1)) (c .before .before .before .pick .ensures) (c .before .before .pick2 .ensures) (c .before .pick3 .ensures))
+    room (s .args .v) _ (yes (s .good .0 .1))
+    (made (s .args .v) _ _ _ (yes (s .good .0 .1)) (c .before .before .before .pick .ensures) (c .before .before .pick2 .ensures) (c .before .pick3 .ensures))
 
 returns : tie.Need-returns
 unfolding ofBits
 returns c =
     let s = c .before .before .before .before in
-    answer (s .args .v) _ (yes (s .good .0 .1)) (made (s .args .v) _ _ _ (yes (s .good .0 .1)) (c .before .before .before .pick .ensures) (c .before .before .pick2 .ensures) (c .before .pick3 .ensures))
+    answer (s .args .v) _ (yes (s .good .0 .1))
+    (made (s .args .v) _ _ _ (yes (s .good .0 .1)) (c .before .before .before .pick .ensures) (c .before .before .pick2 .ensures) (c .before .pick3 .ensures))
 
 pub byte-spec : {M : Type 1} → statement M
 byte-spec = tie.close (tie.spec pick-requires pick-requires-2 pick-requires-3 float-to-int-result cast-result returns)
