@@ -11,7 +11,7 @@ use lib.Ieee.{Float, nan, inf, fin, binary32, up, down, lt, le, neg, add, sub, m
 use lib.Ieee.Back.{positive-back}
 use lib.Ieee.Fits.{down-pos, round-fits}
 use lib.Ieee.Order.{round-mono}
-use borrow.Author.Tests.{le-ltb, ltb-false}
+use borrow.Author.Tests.{le-ltb, ltb-true, ltb-false}
 use Rattle.float32.specs.Meaning.{whole, unit, near-div, clampOf, roundOf}
 use Rattle.float32.proofs.Halves.{even, Rounded, round-near}
 use Rattle.float32.proofs.Laws.{size-plus, round-to-fits, whole-u32}
@@ -69,6 +69,46 @@ kept-plus (fin false m e) h = go (lt zero (fin false m e))
     go : (b : Bool) → Plus 1 (cond (lt one (cond b (fin false m e) zero)) one (cond b (fin false m e) zero))
     go true = high (lt one (fin false m e)) refl
     go false = plus-zero
+
+-- the same by the other comparison, which a processor does in one step: both leave 1 where it is 1
+pub kept-by : (v : Float) → T (fits binary32 v) → cond (lt (lowest v) one) (lowest v) one ≡ kept v
+unfolding ofBits lt
+kept-by nan h = refl
+kept-by (inf true) h = refl
+kept-by (inf false) h = refl
+kept-by (fin true m e) h = refl
+kept-by (fin false m e) h = go (lt zero (fin false m e))
+  where
+    x : Float
+    x = fin false m e
+
+    one-size : whole false 1 ≡ one
+    one-size = unfold round in refl
+
+    level : (A D : ℕ) → 1 * D ≤ A → A ≤ 1 * D → A ≡ 1 * D
+    level A D p q = omega arith
+
+    not-both : (A D : ℕ) → A < 1 * D → 1 * D < A → ⊥
+    not-both A D p q = omega arith
+
+    is-one : m * up e ≡ 1 * down e → one ≡ x
+    is-one z = sym one-size ∙ ap (whole false) (sym (ap (λ (n : ℕ). n / down e) z ∙ mul-div-cancel 1 (down-pos e))) ∙ sym (own false m e 1 h z)
+
+    both : (a b : Bool) → lt x one ≡ a → lt one x ≡ b → cond a x one ≡ cond b one x
+    both true true i j =
+        absurd
+        (not-both (m * up e) (down e) (ltb-true (m * up e) (1 * down e) (sym (lt-plus m e one 1 (refl, refl)) ∙ i))
+        (ltb-true (1 * down e) (m * up e) (sym (gt-plus m e one 1 (refl, refl)) ∙ j)))
+    both true false i j = refl
+    both false true i j = refl
+    both false false i j =
+        is-one
+        (level (m * up e) (down e) (ltb-false (m * up e) (1 * down e) (sym (lt-plus m e one 1 (refl, refl)) ∙ i))
+        (ltb-false (1 * down e) (m * up e) (sym (gt-plus m e one 1 (refl, refl)) ∙ j)))
+
+    go : (b : Bool) → cond (lt (cond b x zero) one) (cond b x zero) one ≡ cond (lt one (cond b x zero)) one (cond b x zero)
+    go true = both (lt x one) (lt one x) refl refl
+    go false = refl
 
 -- ---- times 255 it lies from +0 to 255
 top-size : whole false 255 ≡ fin false 255 (pos 0)

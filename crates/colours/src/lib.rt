@@ -51,7 +51,7 @@ pub fn byte(v: f32) -> u32
     ensures { λ r. ⌜ (r ≡ byteOf v) × (r < byteMany) ⌝ }
 {
     let low = pick(0.0 < v, v, 0.0);
-    let x = pick(1.0 < low, 1.0, low) * 255.0;
+    let x = pick(low < 1.0, low, 1.0) * 255.0;
     let even = (x + WHOLE) - WHOLE;
     let n = even - pick(0.5 <= x - even, -1.0, 0.0);
     (n as i32) as u32

@@ -29,10 +29,6 @@ pub same-area-length : (a : Float) → length (sameArea a) ≡ tileSize
 unfolding sameArea
 same-area-length a = length-replicate tileSize a
 
-pub same-colour-length : (c : List Float) → length (sameColour c) ≡ tileSize
-unfolding sameColour
-same-colour-length c = length-replicate tileSize c
-
 -- from no area on
 pub run-is : (ws : List ℕ) (segs : List Float) (start : ℕ) (rgba : List (List Float)) → runFrom segs (traceOf mostCommands ws segs start) zero rgba ≡ runOf ws segs start rgba
 unfolding runFrom runOf

@@ -1,5 +1,6 @@
 pub mod Past
 pub mod Laws
+pub mod Sizes
 pub mod RowsLaws
 pub mod Grounds
 pub mod Crooked

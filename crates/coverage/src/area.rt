@@ -14,13 +14,14 @@ use crate::rows::rows_of;
 use crate::tile::TILE_HEIGHT;
 use crate::tile::TILE_SIZE;
 use crate::tile::TILE_WIDTH;
-use float32::abs;
 use float32::of_i32;
+use float32::pick;
 use float32::round;
 use panel::segments::segment_at;
 ghost use mathlib.Core.Path.{_≡_};
 ghost use Prim.Native.Nat.{_+_, _*_, _≤_, _<_};
 ghost use lib.ListN.{length};
+ghost use Rattle.float32.specs.Meaning.{absOf};
 ghost use Rattle.lists.specs.Grid.{mapi, within};
 ghost use Rattle.panel.specs.Widths.{segmentFloats};
 ghost use Rattle.coverage.specs.Tile.{tileHeight, tileSize, rowStart, rowEnd};
@@ -156,14 +157,22 @@ pub fn set_all(area: &mut [f32], v: f32)
     }
 }
 
+// How large v is: of v and 0 less v the larger, with no branch. A NaN stays, and a zero is +0.
+pub fn size(v: f32) -> f32
+    ensures { λ r. ⌜ r ≡ absOf v ⌝ }
+{
+    let less = 0.0 - v;
+    pick(less < v, v, less)
+}
+
 // The coverage that a summed area stands for.
 pub fn finish(eo: bool, a: f32) -> f32
     ensures { λ r. ⌜ r ≡ finishOf eo a ⌝ }
 {
     if eo {
-        abs(a - 2.0 * round(0.5 * a))
+        size(a - 2.0 * round(0.5 * a))
     } else {
-        up_to_one(abs(a))
+        up_to_one(size(a))
     }
 }
 

@@ -83,13 +83,40 @@ pub fn row_of(w: Way, yt: f32, yi: usize) -> Row
     }
 }
 
+// The smaller of two. A segment goes to the right in all its rows or in none, so that the first comparisons can be
+// foretold; only of two that are equal, and beside a NaN, is more to be asked.
+pub fn smaller(a: f32, b: f32) -> f32
+    ensures { λ r. ⌜ r ≡ minOf a b ⌝ }
+{
+    if a < b {
+        return a;
+    }
+    if b < a {
+        return b;
+    }
+    min(a, b)
+}
+
+// The larger of two, likewise.
+pub fn larger(a: f32, b: f32) -> f32
+    ensures { λ r. ⌜ r ≡ maxOf a b ⌝ }
+{
+    if a < b {
+        return b;
+    }
+    if b < a {
+        return a;
+    }
+    max(a, b)
+}
+
 pub fn reach_of(w: Way, r: Row) -> Reach
     ensures { λ p. ⌜ p ≡ reachOf w r ⌝ }
 {
     let x0 = w.x + (r.y0 - r.y) * w.recip * w.dx;
     let x1 = w.x + (r.y1 - r.y) * w.recip * w.dx;
-    let left = min(x0, x1);
-    let right = max(x0, x1);
+    let left = smaller(x0, x1);
+    let right = larger(x0, x1);
     Reach { left, right }
 }
 

@@ -178,7 +178,8 @@ pub fn tile(
     rgba: &mut [[f32; 4]; TILE_SIZE],
     pixels: &mut [u32],
 ) -> Verdict
-    requires { ⌜ (t < mostTiles) × (tx < mostTiles) × (ty < mostTiles) × (tileWidth * tx + tileWidth ≤ width) × (width * (tileHeight * ty + tileHeight) ≤ length (now pixels)) × (length (now rgba) ≡ tileSize) ⌝ }
+    requires { ⌜ (t < mostTiles) × (tx < mostTiles) × (ty < mostTiles) × (tileWidth * tx + tileWidth ≤ width) × (width * (tileHeight * ty + tileHeight) ≤ length (now pixels))
+        × (length (now rgba) ≡ tileSize) ⌝ }
     ensures { λ r. ⌜ (r ≡ endsAt (now (words .entry)) (now (segments .entry)) t) ×
         (now (pixels .exit) ≡ tilePixels (now (words .entry)) (now (segments .entry)) t width tx ty (now (pixels .entry))) × (length (now (rgba .exit)) ≡ tileSize) ⌝ }
 {

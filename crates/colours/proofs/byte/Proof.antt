@@ -15,16 +15,21 @@ use Rattle.float32.proofs.Tests.{yes}
 use Rattle.util.specs.Constants.{zero, half, one, minusOne, byteMost}
 use Rattle.colours.specs.Colour.{byteMany, byteOf}
 use Rattle.colours.proofs.Bytes.{byte-small}
-use Rattle.colours.proofs.ByShift.{stepped, scaled, byte-cast}
+use Rattle.colours.proofs.ByShift.{kept, stepped, scaled, kept-by, byte-cast}
 use borrow.Author.Needs.{needs}
 use Rattle.colours.proofs.byte.Statement.{statement}
 use Rattle.colours.proofs.byte.Tie as tie
 
 -- what the picks leave: a, b and d
-made : (v a b d : Float) → a ≡ cond (lt zero v) v zero → b ≡ cond (lt one a) one a
+made : (v a b d : Float) → T (fits binary32 v) → a ≡ cond (lt zero v) v zero → b ≡ cond (lt a one) a one
     → d ≡ cond (le half (sub binary32 (mul binary32 b byteMost) (even (mul binary32 b byteMost)))) minusOne zero
     → sub binary32 (even (mul binary32 b byteMost)) d ≡ stepped (scaled v)
-made v a b d e f g = rw (g, f, e) refl
+made v a b d h e f g = steps (f ∙ ap (λ (z : Float). cond (lt z one) z one) e ∙ kept-by v h) g
+  where
+    steps : b ≡ kept v
+        → d ≡ cond (le half (sub binary32 (mul binary32 b byteMost) (even (mul binary32 b byteMost)))) minusOne zero
+        → sub binary32 (even (mul binary32 b byteMost)) d ≡ stepped (scaled v)
+    steps k g = rw (g, k) refl
 
 -- a byte, through the two casts
 module _ (v n : Float) (h : T (fits binary32 v)) (e : n ≡ stepped (scaled v)) where
@@ -57,19 +62,22 @@ float-to-int-result : tie.Need-float-to-int-result
 unfolding ofBits
 float-to-int-result c =
     let s = c .before .before .before .before in
-    fit (s .args .v) _ (yes (s .good .0 .1)) (made (s .args .v) _ _ _ (c .before .before .before .pick .ensures) (c .before .before .pick2 .ensures) (c .before .pick3 .ensures))
+    fit (s .args .v) _ (yes (s .good .0 .1))
+    (made (s .args .v) _ _ _ (yes (s .good .0 .1)) (c .before .before .before .pick .ensures) (c .before .before .pick2 .ensures) (c .before .pick3 .ensures))
 
 cast-result : tie.Need-cast-result
 unfolding ofBits
 cast-result c =
     let s = c .before .before .before .before in
-    room (s .args .v) _ (yes (s .good .0 .1)) (made (s .args .v) _ _ _ (c .before .before .before .pick .ensures) (c .before .before .pick2 .ensures) (c .before .pick3 .ensures))
+    room (s .args .v) _ (yes (s .good .0 .1))
+    (made (s .args .v) _ _ _ (yes (s .good .0 .1)) (c .before .before .before .pick .ensures) (c .before .before .pick2 .ensures) (c .before .pick3 .ensures))
 
 returns : tie.Need-returns
 unfolding ofBits
 returns c =
     let s = c .before .before .before .before in
-    answer (s .args .v) _ (yes (s .good .0 .1)) (made (s .args .v) _ _ _ (c .before .before .before .pick .ensures) (c .before .before .pick2 .ensures) (c .before .pick3 .ensures))
+    answer (s .args .v) _ (yes (s .good .0 .1))
+    (made (s .args .v) _ _ _ (yes (s .good .0 .1)) (c .before .before .before .pick .ensures) (c .before .before .pick2 .ensures) (c .before .pick3 .ensures))
 
 pub byte-spec : {M : Type 1} → statement M
 byte-spec = tie.close (tie.spec pick-requires pick-requires-2 pick-requires-3 float-to-int-result cast-result returns)

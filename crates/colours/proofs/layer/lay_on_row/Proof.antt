@@ -35,7 +35,8 @@ returns c =
     let a = c .before .before .before .before .before .before .before .before .before .args in
     four-on (onto (now (a .area)) (a .fg) (a .one)) (a .i) (a .i + 4) (a .i + 8) (a .i + 12) (a .i + tileWidth) (a .i + 4) (a .i + 4 + 4) (a .i + 8 + 4) (a .i + 12 + 4) _ _ _ _ _
     (omega arith) (omega arith) (omega arith) (omega arith) (omega arith) (omega arith) (omega arith) (omega arith)
-    (c .before .before .before .before .before .before .lay-on-four .ensures) (c .before .before .before .before .lay-on-four2 .ensures) (c .before .before .lay-on-four3 .ensures) (c .lay-on-four4 .ensures)
+    (c .before .before .before .before .before .before .lay-on-four .ensures) (c .before .before .before .before .lay-on-four2 .ensures)
+    (c .before .before .lay-on-four3 .ensures) (c .lay-on-four4 .ensures)
 
 pub lay-on-row-spec : {M : Type 1} → statement M
 lay-on-row-spec =

@@ -123,7 +123,8 @@ returns-4 c =
     let s = c .before .before .before .before .before .before .before .before .before .before .before .before .before .before .before in
     let l = c .before .before .before .before .before .before .before .before .before .before .before .loop in (
       l .inv .2,
-      stop (now (s .args .words)) (now (s .args .segments)) _ (l .area) (meant (l .flat) (l .rgba)) (l .at) (l .count) (l .inv .3) _ _ (more (l .count) (l .inv .0) (c .before .before .before .before .before .if2 .left))
+      stop (now (s .args .words)) (now (s .args .segments)) _ (l .area) (meant (l .flat) (l .rgba)) (l .at) (l .count) (l .inv .3) _ _
+          (more (l .count) (l .inv .0) (c .before .before .before .before .before .if2 .left))
           (trace-stop (now (s .args .words)) (now (s .args .segments)) (l .at) _
           (sym (c .before .before .before .before .before .before .before .before .before .before .peek-from .ensures) ∙ c .before .before .before .before
           .before .before .before .before .tag .given .1) (c .before .before .before .before .before .before .if1 .left) _
@@ -163,7 +164,8 @@ loop-again c =
       turn (now (s .args .words)) (now (s .args .segments)) _ (l .area) (meant (l .flat) (l .rgba)) (l .at) (l .count) (l .inv .3) _ _ _ _ (l .inv .0)
           (c .before .before .before .before .before .before .before .before .before .before .if2 .left) (l .inv .1 ∙ sym (meant-length _ _ ∙ l .inv .2))
           (trace-goes (now (s .args .words)) (now (s .args .segments)) (l .at) _
-          (sym (c .before .before .before .before .before .before .before .before .before .before .before .before .before .before .before .peek-from .ensures) ∙ c .before .before .before .before .before .before .before .before .before .before .before .before .before .tag .given .1)
+          (sym (c .before .before .before .before .before .before .before .before .before .before .before .before .before .before .before .peek-from .ensures)
+          ∙ c .before .before .before .before .before .before .before .before .before .before .before .before .before .tag .given .1)
           (c .before .before .before .before .before .before .before .before .before .before .before .if1 .left) _
           (c .before .before .before .before .before .before .before .before .before .op-of .ensures) _
           (c .before .before .before .before .before .before .before .before .move-at .ensures) _ _ _ (c .before .before .before .before .before .before .act .given .1))

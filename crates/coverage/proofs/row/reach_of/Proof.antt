@@ -4,15 +4,15 @@ use borrow.Author.Needs.{needs}
 use Rattle.coverage.proofs.row.reach_of.Statement.{statement}
 use Rattle.coverage.proofs.row.reach_of.Tie as tie
 
-min-requires : tie.Need-min-requires
-min-requires c κs = search needs
+smaller-requires : tie.Need-smaller-requires
+smaller-requires c κs = search needs
 
-max-requires : tie.Need-max-requires
-max-requires c κs = search needs
+larger-requires : tie.Need-larger-requires
+larger-requires c κs = search needs
 
 returns : tie.Need-returns
 unfolding reachOf
 returns c = cc
 
 pub reach-of-spec : {M : Type 1} → statement M
-reach-of-spec = tie.close (tie.spec min-requires max-requires returns)
+reach-of-spec = tie.close (tie.spec smaller-requires larger-requires returns)

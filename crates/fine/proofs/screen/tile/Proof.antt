@@ -120,7 +120,8 @@ returns-2 c =
     let o = b .result in
     let r = c .before .before .before .before .before .before .before .before .before .before .before .before .start-rows in
     let e = goes-on (now (a .words)) (now (a .segments)) (a .t) (o .at) (o .count) (o .area) (b .last .1 .1 .1 .0) (b .ensures .1) _ _ _
-    (ap (λ (f : List Bool). meant f (r .last .0)) (c .before .before .before .before .before .before .before .before .before .before .before .all-flat .ensures) ∙ r .ensures .1) (c .before .before .before .before .before .before .before .before .run .ensures .1) in
+    (ap (λ (f : List Bool). meant f (r .last .0)) (c .before .before .before .before .before .before .before .before .before .before .before .all-flat .ensures) ∙ r .ensures .1)
+    (c .before .before .before .before .before .before .before .before .run .ensures .1) in
     let d = done (now (a .words)) (now (a .segments)) (a .t) (a .width) (a .tx) (a .ty) (now (a .pixels)) _ _ noColour refl e _
     (c .before .before .before .before .before .before .enum-told .given .1) (c .before .before .put-tile .ensures) in
     (d .0, d .1, c .before .before .before .before .before .before .before .before .run .ensures .0)
@@ -133,7 +134,8 @@ returns-3 c =
     let o = b .result in
     let r = c .before .before .before .before .before .before .before .start-rows in
     let e = goes-on (now (a .words)) (now (a .segments)) (a .t) (o .at) (o .count) (o .area) (b .last .1 .1 .1 .0) (b .ensures .1) _ _ _
-    (ap (λ (f : List Bool). meant f (r .last .0)) (c .before .before .before .before .before .before .all-flat .ensures) ∙ r .ensures .1) (c .before .before .before .run .ensures .1) in
+    (ap (λ (f : List Bool). meant f (r .last .0)) (c .before .before .before .before .before .before .all-flat .ensures) ∙ r .ensures .1)
+    (c .before .before .before .run .ensures .1) in
     let d = stopped (now (a .words)) (now (a .segments)) (a .t) (a .width) (a .tx) (a .ty) (now (a .pixels)) _ _ noColour refl e _ (c .before .v .given .1) in
     (d .0, d .1, c .before .before .before .run .ensures .0)
 

@@ -76,8 +76,8 @@ returns c =
     let a = c .before .before .before .before .before .before .before .before .before .before .before .before .before .before .args in
     let l = c .before .before .before .before .before .before .before .before .before .loop in
     let e = c .before .before .before .before .before .tile .ensures in
-    stop (now (a .words)) (now (a .segments)) (a .width) (a .cols) (a .from) (a .to) (l .t) _ (l .pixels) (l .inv .3) (c .before .before .before .before .before .before .before .before .loop-test .taken) _ _ (e .0) (e .1) _
-    (c .before .v .given .1)
+    stop (now (a .words)) (now (a .segments)) (a .width) (a .cols) (a .from) (a .to) (l .t) _ (l .pixels) (l .inv .3)
+    (c .before .before .before .before .before .before .before .before .loop-test .taken) _ _ (e .0) (e .1) _ (c .before .v .given .1)
 
 enum-told : tie.Need-enum-told Inv-loop μ-loop
 enum-told c = search needs
@@ -96,8 +96,8 @@ loop-again c =
       search needs,
       search needs,
       c .before .before .before .before .tile .kept .1 .1 .1 .1 .1 .1 .1 .0 ∙ l .inv .2,
-      go (now (a .words)) (now (a .segments)) (a .width) (a .cols) (a .from) (a .to) (l .t) _ (l .pixels) (l .inv .3) (c .before .before .before .before .before .before .before .loop-test .taken) _ _ (e .0) (e .1)
-          (c .enum-told .given .1),
+      go (now (a .words)) (now (a .segments)) (a .width) (a .cols) (a .from) (a .to) (l .t) _ (l .pixels) (l .inv .3)
+          (c .before .before .before .before .before .before .before .loop-test .taken) _ _ (e .0) (e .1) (c .enum-told .given .1),
       e .2,
     )
 
