@@ -300,7 +300,9 @@ module _ (p : Pace) (b : Path) (k : Boxed b) (l : Starts (p .sign) (p .x0) (p .y
 
     -- the tile's number; t is that of the second row's tile in the first column
     pub cells : (y * g .width + x < widthOf b * heightOf b) × (b .first + widthOf b * heightOf b ≤ mostTiles)
-    cells = (subst (λ (v : ℕ). y * v + x < widthOf b * heightOf b) (sym (q .width-is)) (cell-in (widthOf b) (heightOf b) y x (omega (arith, y-in, q .height-is)) (omega (arith, x-in, q .width-is))), k .last)
+    cells =
+        let c = cell-in (widthOf b) (heightOf b) y x (omega (arith, y-in, q .height-is)) (omega (arith, x-in, q .width-is)) in
+        (subst (λ (v : ℕ). y * v + x < widthOf b * heightOf b) (sym (q .width-is)) c, k .last)
 
     own-is : (t : Bool) → cond (not t) (g .base + y * g .width + x - g .width) (g .base + y * g .width - 1 - x) ≡ tileOf b (X′ t) (b .y0 + y)
     own-is false =

@@ -45,7 +45,9 @@ pick-u32-requires c κs = search needs
 returns-2 : tie.Need-returns-2
 returns-2 c =
     let e = c .before .floor-bits .ensures in
-    first-last (c .before .before .before .before .before .before .before .before .args .p) (c .before .before .before .before .before .before .before .before .args .i) (c .pick-u32 .result) (c .before .before .before .before .before .before .if1 .taken) (some-bits _ (near-1 (c .before .before))) (c .pick-u32 .ensures ∙ rw e refl)
+    let s = c .before .before .before .before .before .before .before .before in
+    first-last (s .args .p) (s .args .i) (c .pick-u32 .result) (c .before .before .before .before .before .before .if1 .taken)
+    (some-bits _ (near-1 (c .before .before))) (c .pick-u32 .ensures ∙ rw e refl)
 
 near-requires-2 : tie.Need-near-requires-2
 near-requires-2 c κs = search needs
@@ -60,7 +62,10 @@ floor-bits-requires-2 : tie.Need-floor-bits-requires-2
 floor-bits-requires-2 c κs = near-2 c
 
 returns-4 : tie.Need-returns-4
-returns-4 c = later-last (c .before .before .before .before .before .before .before .args .p) (c .before .before .before .before .before .before .before .args .i) (c .floor-bits2 .result) (sub binary32 (float (c .before .before .before .before .before .before .before .args .i)) one) (c .before .before .before .before .before .if1 .left) refl (near-2 (c .before)) (c .floor-bits2 .ensures)
+returns-4 c =
+    let s = c .before .before .before .before .before .before .before in
+    later-last (s .args .p) (s .args .i) (c .floor-bits2 .result) (sub binary32 (float (s .args .i)) one)
+    (c .before .before .before .before .before .if1 .left) refl (near-2 (c .before)) (c .floor-bits2 .ensures)
 
 pub last-of-spec : {M : Type 1} → statement M
 last-of-spec =

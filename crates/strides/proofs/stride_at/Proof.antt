@@ -54,7 +54,9 @@ returns-2 : tie.Need-returns-2
 returns-2 c = search needs
 
 -- the column and the row are in the box, so the tile's number is small
-inside : (c : tie.Else2) → let s = c .before .before .before .before .before .before .before .before .before .before .before .before in (c .before .before .before .before .before .wrapping-sub-u32 .result < s .args .g .width) × (c .before .before .before .wrapping-sub-u322 .result < s .args .g .height)
+inside : (c : tie.Else2) →
+    let s = c .before .before .before .before .before .before .before .before .before .before .before .before in
+    (c .before .before .before .before .before .wrapping-sub-u32 .result < s .args .g .width) × (c .before .before .before .wrapping-sub-u322 .result < s .args .g .height)
 inside c = in-both _ _ _ _ (c .if2 .left)
 
 few : (c : tie.Else2) → let s = c .before .before .before .before .before .before .before .before .before .before .before .before in
@@ -62,7 +64,8 @@ few : (c : tie.Else2) → let s = c .before .before .before .before .before .bef
     × (s .args .b .first + widthOf (s .args .b) * heightOf (s .args .b) ≤ mostTiles)
 few c =
     let s = c .before .before .before .before .before .before .before .before .before .before .before .before in
-    cells (s .args .p) (s .args .b) (s .pre .0) (s .pre .1) (s .args .g) (the-grid s) (s .args .i) (s .pre .2) (near (c .before .before .before .before .before .before .before)) _ _ _ (c .before .before .before .before .before .before .floor-bits .ensures)
+    cells (s .args .p) (s .args .b) (s .pre .0) (s .pre .1) (s .args .g) (the-grid s) (s .args .i) (s .pre .2) (near (c .before .before .before .before .before .before .before))
+    _ _ _ (c .before .before .before .before .before .before .floor-bits .ensures)
     (c .before .before .before .before .before .wrapping-sub-u32 .ensures) (c .before .before .before .wrapping-sub-u322 .ensures) (inside c .0) (inside c .1)
 
 mul-t : tie.Need-mul-t
@@ -81,13 +84,19 @@ add-pick-u32 c =
     omega (arith, f .0, f .1, the-grid s .base-is, edges-few (s .args .p) (s .args .b) (s .pre .0) (s .pre .1) .0)
 
 sub-pick-u32 : tie.Need-sub-pick-u32
-sub-pick-u32 c = let s = c .before .before .before .before .before .before .before .before .before .before .before .before .before .before .before in omega (arith, the-grid s .base-is, the-grid s .width-is)
+sub-pick-u32 c =
+    let s = c .before .before .before .before .before .before .before .before .before .before .before .before .before .before .before in
+    omega (arith, the-grid s .base-is, the-grid s .width-is)
 
 sub-pick-u32-2 : tie.Need-sub-pick-u32-2
-sub-pick-u32-2 c = let s = c .before .before .before .before .before .before .before .before .before .before .before .before .before .before .before in omega (arith, the-grid s .base-is, the-grid s .width-is, inside (c .before .before .before) .0)
+sub-pick-u32-2 c =
+    let s = c .before .before .before .before .before .before .before .before .before .before .before .before .before .before .before in
+    omega (arith, the-grid s .base-is, the-grid s .width-is, inside (c .before .before .before) .0)
 
 sub-pick-u32-3 : tie.Need-sub-pick-u32-3
-sub-pick-u32-3 c = let s = c .before .before .before .before .before .before .before .before .before .before .before .before .before .before .before in omega (arith, the-grid s .base-is, the-grid s .width-is, inside (c .before .before .before) .0)
+sub-pick-u32-3 c =
+    let s = c .before .before .before .before .before .before .before .before .before .before .before .before .before .before .before in
+    omega (arith, the-grid s .base-is, the-grid s .width-is, inside (c .before .before .before) .0)
 
 pick-u32-requires : tie.Need-pick-u32-requires
 pick-u32-requires c κs = search needs
@@ -96,8 +105,12 @@ returns-3 : tie.Need-returns-3
 returns-3 c =
     let s = c .before .before .before .before .before .before .before .before .before .before .before .before .before .before .before .before .before in
     let d = c .before .before .before .before .before in
-    struck (s .args .p) (s .args .b) (s .pre .0) (s .pre .1) (s .args .g) (the-grid s) (s .args .i) (s .pre .2) (near (c .before .before .before .before .before .before .before .before .before .before .before .before)) _ _ _ (c .before .before .before .before .before .before .before .before .before .before .before .floor-bits .ensures)
-    (c .before .before .before .before .before .before .before .before .before .before .wrapping-sub-u32 .ensures) (c .before .before .before .before .before .before .before .before .wrapping-sub-u322 .ensures) (inside d .0) (inside d .1) (s .args .last) _ _ (s .pre .4) (c .before .pick-u32 .ensures) refl
+    struck (s .args .p) (s .args .b) (s .pre .0) (s .pre .1) (s .args .g) (the-grid s) (s .args .i) (s .pre .2)
+    (near (c .before .before .before .before .before .before .before .before .before .before .before .before)) _ _ _
+    (c .before .before .before .before .before .before .before .before .before .before .before .floor-bits .ensures)
+    (c .before .before .before .before .before .before .before .before .before .before .wrapping-sub-u32 .ensures)
+    (c .before .before .before .before .before .before .before .before .wrapping-sub-u322 .ensures)
+    (inside d .0) (inside d .1) (s .args .last) _ _ (s .pre .4) (c .before .pick-u32 .ensures) refl
 
 pub stride-at-spec : {M : Type 1} → statement M
 stride-at-spec =

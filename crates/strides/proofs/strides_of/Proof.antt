@@ -45,7 +45,9 @@ row-bounds c =
     omega (arith, c .floor-bits2 .ensures, f, g)
 
 add-pick-u32-2 : tie.Need-add-pick-u32-2
-add-pick-u32-2 c = omega (arith, edges-few (c .before .before .before .before .before .before .args .p) (c .before .before .before .before .before .before .args .b) (c .before .before .before .before .before .before .pre .0) (c .before .before .before .before .before .before .pre .1) .0, c .before .before .before .before .before .before .pre .0 .left)
+add-pick-u32-2 c =
+    let s = c .before .before .before .before .before .before in
+    omega (arith, edges-few (s .args .p) (s .args .b) (s .pre .0) (s .pre .1) .0, s .pre .0 .left)
 
 sub-pick-u32 : tie.Need-sub-pick-u32
 sub-pick-u32 c = omega (arith, col-bounds (c .before .before .before .before) .0)
@@ -54,14 +56,17 @@ add-pick-u32-3 : tie.Need-add-pick-u32-3
 add-pick-u32-3 c = omega (arith, col-bounds (c .before .before .before .before) .0)
 
 sub-pick-u32-2 : tie.Need-sub-pick-u32-2
-sub-pick-u32-2 c = omega (arith, col-bounds (c .before .before .before .before .before) .1, edges-few (c .before .before .before .before .before .before .before .args .p) (c .before .before .before .before .before .before .before .args .b) (c .before .before .before .before .before .before .before .pre .0) (c .before .before .before .before .before .before .before .pre .1) .0)
+sub-pick-u32-2 c =
+    let s = c .before .before .before .before .before .before .before in
+    omega (arith, col-bounds (c .before .before .before .before .before) .1, edges-few (s .args .p) (s .args .b) (s .pre .0) (s .pre .1) .0)
 
 pick-u32-requires : tie.Need-pick-u32-requires
 pick-u32-requires c κs = search needs
 
 low-bounds : (c : tie.After-pick-u32) → (c .pick-u32 .result ≤ 1262485504 + 2 ^ 23) × (1 ≤ c .pick-u32 .result)
 low-bounds c =
-    let e = edges-few (c .before .before .before .before .before .before .before .before .args .p) (c .before .before .before .before .before .before .before .before .args .b) (c .before .before .before .before .before .before .before .before .pre .0) (c .before .before .before .before .before .before .before .before .pre .1) .0 in
+    let s = c .before .before .before .before .before .before .before .before in
+    let e = edges-few (s .args .p) (s .args .b) (s .pre .0) (s .pre .1) .0 in
     let l = c .before .before .before .before .before .before .before .before .pre .0 .left in
     let f = col-bounds (c .before .before .before .before .before .before) in
     go (lt zero (c .before .before .before .before .before .before .before .before .args .p .sign)) (c .pick-u32 .result) (c .pick-u32 .ensures) f e l
@@ -72,7 +77,9 @@ low-bounds c =
     go false r e f g h = (omega (arith, e, f .0), omega (arith, e, f .1))
 
 add-pick-u32-4 : tie.Need-add-pick-u32-4
-add-pick-u32-4 c = omega (arith, low-bounds c .0, edges-few (c .before .before .before .before .before .before .before .before .args .p) (c .before .before .before .before .before .before .before .before .args .b) (c .before .before .before .before .before .before .before .before .pre .0) (c .before .before .before .before .before .before .before .before .pre .1) .0)
+add-pick-u32-4 c =
+    let s = c .before .before .before .before .before .before .before .before in
+    omega (arith, low-bounds c .0, edges-few (s .args .p) (s .args .b) (s .pre .0) (s .pre .1) .0)
 
 sub-pick-u32-3 : tie.Need-sub-pick-u32-3
 sub-pick-u32-3 c = omega (arith, low-bounds c .1)
@@ -81,10 +88,14 @@ pick-u32-requires-2 : tie.Need-pick-u32-requires-2
 pick-u32-requires-2 c κs = search needs
 
 sub-top : tie.Need-sub-top
-sub-top c = omega (arith, row-bounds (c .before .before .before .before .before .before .before), edges-few (c .before .before .before .before .before .before .before .before .before .before .args .p) (c .before .before .before .before .before .before .before .before .before .before .args .b) (c .before .before .before .before .before .before .before .before .before .before .pre .0) (c .before .before .before .before .before .before .before .before .before .before .pre .1) .1, c .before .before .before .before .before .before .before .before .before .before .pre .0 .top)
+sub-top c =
+    let s = c .before .before .before .before .before .before .before .before .before .before in
+    omega (arith, row-bounds (c .before .before .before .before .before .before .before), edges-few (s .args .p) (s .args .b) (s .pre .0) (s .pre .1) .1, s .pre .0 .top)
 
 add-base : tie.Need-add-base
-add-base c = omega (arith, edges-few (c .before .before .before .before .before .before .before .before .before .before .before .args .p) (c .before .before .before .before .before .before .before .before .before .before .before .args .b) (c .before .before .before .before .before .before .before .before .before .before .before .pre .0) (c .before .before .before .before .before .before .before .before .before .before .before .pre .1) .0, c .before .before .before .before .before .before .before .before .before .before .before .pre .0 .last)
+add-base c =
+    let s = c .before .before .before .before .before .before .before .before .before .before .before in
+    omega (arith, edges-few (s .args .p) (s .args .b) (s .pre .0) (s .pre .1) .0, s .pre .0 .last)
 
 returns : tie.Need-returns
 unfolding stridesOf

@@ -46,7 +46,9 @@ mul-if1 : tie.Need-mul-if1
 mul-if1 c = search needs
 
 -- the step is on its tile
-fell : (c : tie.After-tile) → let s = c .before .before .before .before in Struck (s .args .pace) (s .args .path) (s .args .i) (c .tile .given .0 .0) (c .tile .given .0 .1 .0) (c .tile .given .0 .1 .1 .0)
+fell : (c : tie.After-tile) →
+    let s = c .before .before .before .before in
+    Struck (s .args .pace) (s .args .path) (s .args .i) (c .tile .given .0 .0) (c .tile .given .0 .1 .0) (c .tile .given .0 .1 .1 .0)
 fell c = let s = c .before .before .before .before in subst (λ (r : Stride). StrideMet (s .args .pace) (s .args .path) (s .args .i) r) (c .tile .given .1) (c .before .before .stride-at .ensures)
 
 -- which is lent
@@ -89,14 +91,17 @@ returns-3 c = search needs
 
 -- what `leaves` says of the backdrop itself
 said : (c : tie.After-leaves) → let s = c .before .before .before .before .before .before .before .before .before .before in
-    c .leaves .result ≡ not (inI32 (getD (s .args .backs .now) (cond (c .before .before .before .before .before .before .tile .given .0 .1 .0) (c .before .before .before .before .before .before .tile .given .0 .0 + 1) (c .before .before .before .before .before .before .tile .given .0 .0)) (pos 0) +ℤ deltaOf (s .args .up)))
+    let t = c .before .before .before .before .before .before .tile in
+    c .leaves .result ≡ not (inI32 (getD (s .args .backs .now) (cond (t .given .0 .1 .0) (t .given .0 .0 + 1) (t .given .0 .0)) (pos 0) +ℤ deltaOf (s .args .up)))
 said c =
     let s = c .before .before .before .before .before .before .before .before .before .before in
     told (getD (s .args .backs .now) (c .before .before .next-if .result) (pos 0)) (deltaOf (s .args .up)) (c .leaves .result) (c .before .leaves-arg .given) (c .leaves .ensures)
     ∙ ap (λ (q : ℕ). not (inI32 (getD (s .args .backs .now) q (pos 0) +ℤ deltaOf (s .args .up)))) (c .before .before .next-if .ensures)
 
 word-of-requires : tie.Need-word-of-requires
-word-of-requires c κs = let s = c .before .before .before .before .before .before .before .before .before .before .before in omega (arith, below (c .before .before .before .before .before .before .before), s .pre .0 .few)
+word-of-requires c κs =
+    let s = c .before .before .before .before .before .before .before .before .before .before .before in
+    omega (arith, below (c .before .before .before .before .before .before .before), s .pre .0 .few)
 
 returns-4 : tie.Need-returns-4
 returns-4 c =
@@ -105,7 +110,8 @@ returns-4 c =
     let m = c .before .before .before .before .before .before .before .before .tile .given .0 .1 .0 in
     let h : hitAt (s .args .pace) (s .args .path) (s .args .i) ≡ on (c .before .before .before .before .before .before .before .before .tile .given .0 .0) m =
     hit-on (s .args .pace) (s .args .path) (s .args .i) _ _ _ _ (f .falls) (lastZ (s .args .pace) (s .args .i)) m refl (f .crosses) in (
-      sym (check-passes _ _ _ _ _ _ _ h (c .before .before .leaves .result) (c .before .before .before .before .before .if1 .left) (said (c .before .before)) (none-leaves m (c .before .before .leaves .result) (c .before .if2 .left))),
+      sym (check-passes _ _ _ _ _ _ _ h (c .before .before .leaves .result) (c .before .before .before .before .before .if1 .left) (said (c .before .before))
+          (none-leaves m (c .before .before .leaves .result) (c .before .if2 .left))),
       c .word-of .ensures ∙ ap wordOf (sym h),
       f .next,
     )

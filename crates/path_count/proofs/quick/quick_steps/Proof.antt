@@ -64,7 +64,9 @@ loop-holds c =
 
 -- all steps are below the limit
 few : (c : tie.In-loop Inv-loop μ-loop) → c .before .loop .i < stepRange
-few c = omega (arith, c .before .before .before .before .before .before .before .before .before .before .pre .1 (c .before .before .before .before .before .before .before .if1 .left), c .loop-test .taken)
+few c =
+    let s = c .before .before .before .before .before .before .before .before .before .before in
+    omega (arith, s .pre .1 (c .before .before .before .before .before .before .before .if1 .left), c .loop-test .taken)
 
 quick-step-requires : tie.Need-quick-step-requires Inv-loop μ-loop
 quick-step-requires c κs =
@@ -90,14 +92,19 @@ cast-notes : tie.Need-cast-notes Inv-loop μ-loop
 cast-notes c = search needs
 
 -- the word is in the room lent
-in-room : (c : tie.After-known-told2 Inv-loop μ-loop) → c .before .before .before .before .before .loop .i - c .before .before .before .before .before .before .before .before .before .before .before .before .before .before .args .from < length (c .before .before .before .before .before .loop .notes)
+in-room : (c : tie.After-known-told2 Inv-loop μ-loop) →
+    let s = c .before .before .before .before .before .before .before .before .before .before .before .before .before .before in
+    let o = c .before .before .before .before .before .loop in
+    o .i - s .args .from < length (o .notes)
 in-room c =
     let s = c .before .before .before .before .before .before .before .before .before .before .before .before .before .before in
     let o = c .before .before .before .before .before .loop in
     omega (arith, c .before .before .before .before .loop-test .taken, o .inv .0 .0, o .inv .2, s .pre .3)
 
 mul-notes : tie.Need-mul-notes Inv-loop μ-loop
-mul-notes c = let s = c .before .before .before .before .before .before .before .before .before .before .before .before .before .before in omega (arith, in-room c, c .before .before .before .before .before .loop .inv .2, s .pre .4)
+mul-notes c =
+    let s = c .before .before .before .before .before .before .before .before .before .before .before .before .before .before in
+    omega (arith, in-room c, c .before .before .before .before .before .loop .inv .2, s .pre .4)
 
 slice-write-notes : tie.Need-slice-write-notes Inv-loop μ-loop
 slice-write-notes c = in-room c
