@@ -93,7 +93,7 @@ pub fn check_steps(
 }
 
 // A step's tile, and whether it marks, in one word.
-fn word_of(t: u32, marks: bool) -> u32
+pub fn word_of(t: u32, marks: bool) -> u32
     requires { ⌜ t < mostTiles ⌝ }
     ensures { λ r. ⌜ r ≡ wordOf (on t marks) ⌝ }
 {
@@ -143,7 +143,7 @@ fn note_step(
 }
 
 // The steps from .. to, in order, each with its note.
-pub fn note_steps(
+pub fn note_each(
     pace: Pace,
     path: Path,
     up: bool,

@@ -16,6 +16,12 @@ pub enum Noted {
     Against(u32),
 }
 
+// A step that passes its check in whole numbers, with its z and its word; or one to be looked at step by step.
+pub enum Quick {
+    Passed(u32, u32),
+    Other,
+}
+
 // A line counted, with the number of its references; or the number of its refusal.
 pub enum Tallied {
     On(u32),

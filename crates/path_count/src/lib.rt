@@ -4,6 +4,7 @@ mod call;
 mod checks;
 mod kinds;
 mod line;
+mod quick;
 mod writes;
 
 pub use call::count;

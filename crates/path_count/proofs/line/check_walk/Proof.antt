@@ -14,7 +14,7 @@ use Rattle.path_count.proofs.line.check_walk.Tie as tie
 use Rattle.path_count.proofs.line.check_walk.Reads as reads
 use Rattle.path_count.proofs.line.check_walk.Lts as lts
 use Rattle.path_count.proofs.checks.check_steps.Reads as check-steps-reads
-use Rattle.path_count.proofs.checks.note_steps.Reads as note-steps-reads
+use Rattle.path_count.proofs.quick.note_steps.Reads as note-steps-reads
 use Rattle.path_count.proofs.line.noted_to.Reads as noted-to-reads
 
 noted-to-requires : tie.Need-noted-to-requires

@@ -1,4 +1,4 @@
--- `path_count::checks::note_steps` meets its contract. The invariant: what is left to check says what all says, the z carried is that of the step
+-- `path_count::checks::note_each` meets its contract. The invariant: what is left to check says what all says, the z carried is that of the step
 -- before, and the words noted so far are those of the steps so far.
 -- Assumes nothing.
 use mathlib.Core.Path.{_≡_, refl, sym, ap, _∙_, subst}
@@ -17,10 +17,10 @@ use Rattle.exact.proofs.Limits.{far}
 use Rattle.walk.proofs.Counts.{in-float}
 use Rattle.walk.proofs.Walks.{last-z}
 use Rattle.path_count.proofs.StepLaws.{noted-passed, noted-against, step-noted, notes-turn, not-fine}
-use Rattle.path_count.proofs.checks.note_steps.Statement.{statement}
-use Rattle.path_count.proofs.checks.note_steps.Tie as tie
-use Rattle.path_count.proofs.checks.note_steps.Reads as reads
-use Rattle.path_count.proofs.checks.note_steps.Lts as lts
+use Rattle.path_count.proofs.checks.note_each.Statement.{statement}
+use Rattle.path_count.proofs.checks.note_each.Tie as tie
+use Rattle.path_count.proofs.checks.note_each.Reads as reads
+use Rattle.path_count.proofs.checks.note_each.Lts as lts
 use Rattle.path_count.proofs.checks.note_step.Reads as note-step-reads
 use Rattle.walk.proofs.edges.edges_of.Reads as edges-of-reads
 use Rattle.walk.proofs.step.z_at.Reads as z-at-reads
@@ -137,8 +137,8 @@ returns-3 c =
       λ f. subst (λ (n : ℕ). Notes (hitAt (s .args .pace) (s .args .path)) (s .args .from) n (o .notes) (length (s .args .backs .now))) e (o .inv .3),
     )
 
-pub note-steps-spec : {M : Type 1} → statement M
-note-steps-spec =
+pub note-each-spec : {M : Type 1} → statement M
+note-each-spec =
     tie.close
     (tie.spec
     Inv-loop

@@ -1,0 +1,2 @@
+-- Whole numbers by the bits of floats. Definitions only.
+pub mod Bits
