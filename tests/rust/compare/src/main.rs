@@ -111,7 +111,7 @@ fn run<S: Stage>(stage: &S, args: &Args, linked: bool, seconds: f64) -> bool {
     stage::run(stage, Sides { ours, rust: oracle::AT_HAND }, budget)
 }
 
-const STAGES: [&str; 18] = [
+const STAGES: [&str; 20] = [
     "floats",
     "backdrop",
     "hand_out",
