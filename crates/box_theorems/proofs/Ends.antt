@@ -61,8 +61,10 @@ module _ (nos : List ℕ) (coords : List Float) (f : Vec2 → ℕ) where
       rest = endsFrom nos coords k more (suc j)
 
       go : Dec (j ≡ l) → Dec (getD nos j 0 ≡ k) → (suc j ≤ l → l < suc j + more → getD nos l 0 ≡ k → Both k more (suc j) l)
-          → Between (f (lineAt coords l .p0)) (map f (cond (eqb (getD nos j 0) k) (lineAt coords j .p0 ∷ lineAt coords j .p1 ∷ endsFrom nos coords k more (suc j)) (endsFrom nos coords k more (suc j))))
-          × Between (f (lineAt coords l .p1)) (map f (cond (eqb (getD nos j 0) k) (lineAt coords j .p0 ∷ lineAt coords j .p1 ∷ endsFrom nos coords k more (suc j)) (endsFrom nos coords k more (suc j))))
+          → Between (f (lineAt coords l .p0)) (map f (cond (eqb (getD nos j 0) k) (lineAt coords j .p0 ∷ lineAt coords j .p1 ∷ endsFrom nos coords k more (suc j)) (endsFrom nos
+          coords k more (suc j))))
+          × Between (f (lineAt coords l .p1)) (map f (cond (eqb (getD nos j 0) k) (lineAt coords j .p0 ∷ lineAt coords j .p1 ∷ endsFrom nos coords k more (suc j)) (endsFrom nos
+          coords k more (suc j))))
       go (yes s) (yes q) ih =
           let x = f (lineAt coords j .p0) in
           let y = f (lineAt coords j .p1) in

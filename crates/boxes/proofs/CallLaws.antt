@@ -74,7 +74,8 @@ module _ (nos : List ℕ) (coords : List Float) (beams : List ℕ) (m : ℕ) (pa
 
       pub box-is : (k : ℕ) → k < length beams → (t : ℕ) → boxIn (fullOf nos coords (length beams) work) m k t ≡ boxOf nos coords m k t
       box-is k h t =
-          let z : (j : ℕ) → j < length beams * boxWords → getD (blankOf (length beams) work) j 0 ≡ 0 = λ j q. cleared-in 0 0 (length beams * boxWords) work j (omega arith) (omega arith) (omega (arith, lent .room)) in
+          let z : (j : ℕ) → j < length beams * boxWords → getD (blankOf (length beams) work) j 0 ≡ 0 = λ j q. cleared-in 0 0 (length beams * boxWords) work j (omega arith) (omega
+          arith) (omega (arith, lent .room)) in
           box-told (fullOf nos coords (length beams) work) m k t (endsFrom nos coords k (length nos) 0)
           (gather-told nos coords k (length nos) 0 (blankOf (length beams) work) 0 0 0 0 (omega (arith, lent .room, length-blank))
           (record {
@@ -91,14 +92,16 @@ module _ (nos : List ℕ) (coords : List Float) (beams : List ℕ) (m : ℕ) (pa
 
       pub records-is : sets paths 0 (recordsFrom (boxIn (fullOf nos coords (length beams) work) m) beams (length beams) 0 0) ≡ recordsFrom (boxOf nos coords m) beams (length beams) 0 0
       records-is =
-          sets-whole (recordsFrom (boxIn (fullOf nos coords (length beams) work) m) beams (length beams) 0 0) paths (length-records (boxIn (fullOf nos coords (length beams) work) m) beams (length beams) 0 0 ∙ lent .paths)
+          sets-whole (recordsFrom (boxIn (fullOf nos coords (length beams) work) m) beams (length beams) 0 0) paths (length-records (boxIn (fullOf nos coords (length beams) work)
+          m) beams (length beams) 0 0 ∙ lent .paths)
           ∙ records-same (boxIn (fullOf nos coords (length beams) work) m) (boxOf nos coords m) beams (length beams) 0 0 (λ k p q t. box-is k (omega arith) t)
 
       pub room-is : clearedOf 0 0 (length beams * boxWords) (fullOf nos coords (length beams) work) ≡ clearedOf 0 0 (length beams * boxWords) work
       room-is =
           let n = length beams * boxWords in
           let long : length (fullOf nos coords (length beams) work) ≡ length work = length-gather nos coords (length nos) 0 (blankOf (length beams) work) ∙ length-blank in
-          ext-getD 0 (clearedOf 0 0 n (fullOf nos coords (length beams) work)) (clearedOf 0 0 n work) (length-cleared 0 0 n (fullOf nos coords (length beams) work) ∙ long ∙ sym (length-cleared 0 0 n work))
+          ext-getD 0 (clearedOf 0 0 n (fullOf nos coords (length beams) work)) (clearedOf 0 0 n work) (length-cleared 0 0 n (fullOf nos coords (length beams) work) ∙ long ∙ sym
+          (length-cleared 0 0 n work))
           (λ j h. go j (omega (arith, length-cleared 0 0 n (fullOf nos coords (length beams) work), long)) (decLt j n))
         where
           same : (j : ℕ) → length beams * boxWords ≤ j → j < length work → getD (fullOf nos coords (length beams) work) j 0 ≡ getD work j 0
@@ -109,10 +112,20 @@ module _ (nos : List ℕ) (coords : List Float) (beams : List ℕ) (m : ℕ) (pa
           go : (j : ℕ) → j < length work → Dec (j < length beams * boxWords)
               → getD (clearedOf 0 0 (length beams * boxWords) (fullOf nos coords (length beams) work)) j 0 ≡ getD (clearedOf 0 0 (length beams * boxWords) work) j 0
           go j h (yes p) =
-              cleared-in 0 0 (length beams * boxWords) (fullOf nos coords (length beams) work) j (omega arith) (omega arith) (omega (arith, length-gather nos coords (length nos) 0 (blankOf (length beams) work), length-blank))
+              cleared-in 0 0 (length beams * boxWords) (fullOf nos coords (length beams) work) j (omega arith) (omega arith) (omega (
+                arith,
+                length-gather nos coords (length nos)
+                    0 (blankOf (length beams) work),
+                length-blank,
+              ))
               ∙ sym (cleared-in 0 0 (length beams * boxWords) work j (omega arith) (omega arith) h)
           go j h (no p) =
-              cleared-out 0 0 (length beams * boxWords) (fullOf nos coords (length beams) work) j (inr (omega arith)) (omega (arith, length-gather nos coords (length nos) 0 (blankOf (length beams) work), length-blank))
+              cleared-out 0 0 (length beams * boxWords) (fullOf nos coords (length beams) work) j (inr (omega arith)) (omega (
+                arith,
+                length-gather nos coords (length nos) 0
+                    (blankOf (length beams) work),
+                length-blank,
+              ))
               ∙ same j (omega arith) h
               ∙ sym (cleared-out 0 0 (length beams * boxWords) work j (inr (omega arith)) h)
 
@@ -125,7 +138,8 @@ module _ (nos : List ℕ) (coords : List Float) (beams : List ℕ) (m : ℕ) (pa
           rw (asked-fine, e, n, lt-leb tiles mostTiles h, u, room-is)
 
       pub boxes-done : (tiles : ℕ) → tiles ≡ sum (map (λ k. areaOf (boxIn (fullOf nos coords (length beams) work) m k 0)) (from 0 (length beams))) → tiles ≤ mostTiles → (ps us : List ℕ)
-          → ps ≡ sets paths 0 (recordsFrom (boxIn (fullOf nos coords (length beams) work) m) beams (length beams) 0 0) → us ≡ clearedOf 0 0 (length beams * boxWords) (fullOf nos coords (length beams) work)
+          → ps ≡ sets paths 0 (recordsFrom (boxIn (fullOf nos coords (length beams) work) m) beams (length beams) 0 0) → us ≡ clearedOf 0 0 (length beams * boxWords) (fullOf nos
+          coords (length beams) work)
           → BoxesMet nos coords beams m paths work (Done tiles) ps us
       unfolding boxesOf
       boxes-done tiles t h ps us p u =

@@ -70,14 +70,20 @@ clear-words-requires c κs =
 gather-requires : tie.Need-gather-requires
 gather-requires c κs =
     let s = c .before .before .before .before .before .before .before .before .before .before .before .before .before .before .before .before .args in
-    let fine = sym (c .before .before .before .before .before .before .before .before .before .before .check-lent .ensures) ∙ c .before .before .before .before .before .before .before .before .enum-told .given .1 in
-    let k = lent-told (length (s .path-nos .now)) (length (s .coords .now)) (length (s .paths .now)) (length (s .beams .now)) (length (s .work .now)) fine in
-    (k .lines, omega (arith, k .room, c .before .before .before .clear-words .kept .0), sym (c .before .before .before .before .before .before .before .check-lines .ensures) ∙ c .before .before .before .before .before .enum-told2 .given .1)
+    let fine = sym (c .before .before .before .before .before .before .before .before .before .before .check-lent .ensures) ∙ c .before .before .before .before .before .before
+    .before .before .enum-told .given .1 in
+    let k = lent-told (length (s .path-nos .now)) (length (s .coords .now)) (length (s .paths .now)) (length (s .beams .now)) (length (s .work .now)) fine in (
+      k .lines,
+      omega (arith, k .room, c .before .before .before .clear-words .kept .0),
+      sym (c .before .before .before .before .before .before .before .check-lines .ensures) ∙ c
+          .before .before .before .before .before .enum-told2 .given .1,
+    )
 
 total-requires : tie.Need-total-requires
 total-requires c κs =
     let s = c .before .before .before .before .before .before .before .before .before .before .before .before .before .before .before .before .before .before .before .before .args in
-    let fine = sym (c .before .before .before .before .before .before .before .before .before .before .before .before .before .before .check-lent .ensures) ∙ c .before .before .before .before .before .before .before .before .before .before .before .before .enum-told .given .1 in
+    let fine = sym (c .before .before .before .before .before .before .before .before .before .before .before .before .before .before .check-lent .ensures) ∙ c .before .before
+    .before .before .before .before .before .before .before .before .before .before .enum-told .given .1 in
     let k = lent-told (length (s .path-nos .now)) (length (s .coords .now)) (length (s .paths .now)) (length (s .beams .now)) (length (s .work .now)) fine in
     (omega (arith, k .room, c .before .before .before .before .before .before .before .clear-words .kept .0, c .before .before .before .gather .kept .1 .1 .1 .0), k .few)
 
@@ -86,41 +92,68 @@ cast-if1 c = search needs
 
 clear-words-requires-2 : tie.Need-clear-words-requires-2
 clear-words-requires-2 c κs =
-    let s = c .before .before .before .before .before .before .before .before .before .before .before .before .before .before .before .before .before .before .before .before .before .before .before .args in
-    let fine = sym (c .before .before .before .before .before .before .before .before .before .before .before .before .before .before .before .before .before .check-lent .ensures) ∙ c .before .before .before .before .before .before .before .before .before .before .before .before .before .before .before .enum-told .given .1 in
+    let s = c .before .before .before .before .before .before .before .before .before .before .before .before .before .before .before .before .before .before .before .before
+    .before .before .before .args in
+    let fine = sym (c .before .before .before .before .before .before .before .before .before .before .before .before .before .before .before .before .before .check-lent
+    .ensures) ∙ c .before .before .before .before .before .before .before .before .before .before .before .before .before .before .before .enum-told .given .1 in
     let k = lent-told (length (s .path-nos .now)) (length (s .coords .now)) (length (s .paths .now)) (length (s .beams .now)) (length (s .work .now)) fine in
-    omega (arith, k .room, c .before .before .before .before .before .before .before .before .before .before .clear-words .kept .0, c .before .before .before .before .before .before .gather .kept .1 .1 .1 .0)
+    omega (
+      arith,
+      k .room,
+      c .before .before .before .before .before .before .before .before .before .before .clear-words .kept .0,
+      c .before .before .before .before .before
+          .before .gather .kept .1 .1 .1 .0,
+    )
 
 same-length : tie.Need-same-length
 same-length c = search needs
 
 returns-3 : tie.Need-returns-3
 returns-3 c =
-    let s = c .before .before .before .before .before .before .before .before .before .before .before .before .before .before .before .before .before .before .before .before .before .before .before .before .before .before .args in
-    let fine = sym (c .before .before .before .before .before .before .before .before .before .before .before .before .before .before .before .before .before .before .before .before .check-lent .ensures) ∙ c .before .before .before .before .before .before .before .before .before .before .before .before .before .before .before .before .before .before .enum-told .given .1 in
+    let s = c .before .before .before .before .before .before .before .before .before .before .before .before .before .before .before .before .before .before .before .before
+    .before .before .before .before .before .before .args in
+    let fine = sym (c .before .before .before .before .before .before .before .before .before .before .before .before .before .before .before .before .before .before .before
+    .before .check-lent .ensures) ∙ c .before .before .before .before .before .before .before .before .before .before .before .before .before .before .before .before .before
+    .before .enum-told .given .1 in
     let k = lent-told (length (s .path-nos .now)) (length (s .coords .now)) (length (s .paths .now)) (length (s .beams .now)) (length (s .work .now)) fine in
     let w : c .before .before .before .before .before .before .before .before .before .gather .last .1 .1 .1 .0 ≡ fullOf (s .path-nos .now) (s .coords .now) (length (s .beams .now)) (s .work .now) =
-    c .before .before .before .before .before .before .before .before .before .gather .ensures ∙ ap (gatherFrom (s .path-nos .now) (s .coords .now) (length (s .path-nos .now)) 0) (c .before .before .before .before .before .before .before .before .before .before .before .before .before .clear-words .ensures) in
+    c .before .before .before .before .before .before .before .before .before .gather .ensures ∙ ap (gatherFrom (s .path-nos .now) (s .coords .now) (length (s .path-nos .now)) 0)
+    (c .before .before .before .before .before .before .before .before .before .before .before .before .before .clear-words .ensures) in
     let t = c .before .before .before .before .before .total .ensures ∙ ap (λ (ws : List ℕ). sum (map (λ k. areaOf (boxIn ws (s .margin) k 0)) (from 0 (length (s .beams .now))))) w in
-    boxes-many (s .path-nos .now) (s .coords .now) (s .beams .now) (s .margin) (s .paths .now) (s .work .now) fine (sym (c .before .before .before .before .before .before .before .before .before .before .before .before .before .before .before .before .before .check-lines .ensures) ∙ c .before .before .before .before .before .before .before .before .before .before .before .before .before .before .before .enum-told2 .given .1) (c .before .before .before .before .before .total .result) t (c .before .before .before .before .if1 .taken) _
+    boxes-many (s .path-nos .now) (s .coords .now) (s .beams .now) (s .margin) (s .paths .now) (s .work .now) fine (sym (c .before .before .before .before .before .before .before
+    .before .before .before .before .before .before .before .before .before .before .check-lines .ensures) ∙ c .before .before .before .before .before .before .before .before
+    .before .before .before .before .before .before .before .enum-told2 .given .1) (c .before .before .before .before .before .total .result) t (c .before .before .before .before
+    .if1 .taken) _
     (c .before .before .clear-words2 .ensures ∙ ap (clearedOf 0 0 (length (s .beams .now) * boxWords)) w)
 
 put-records-requires : tie.Need-put-records-requires
 put-records-requires c κs =
-    let s = c .before .before .before .before .before .before .before .before .before .before .before .before .before .before .before .before .before .before .before .before .before .before .before .before .args in
-    let fine = sym (c .before .before .before .before .before .before .before .before .before .before .before .before .before .before .before .before .before .before .check-lent .ensures) ∙ c .before .before .before .before .before .before .before .before .before .before .before .before .before .before .before .before .enum-told .given .1 in
+    let s = c .before .before .before .before .before .before .before .before .before .before .before .before .before .before .before .before .before .before .before .before
+    .before .before .before .before .args in
+    let fine = sym (c .before .before .before .before .before .before .before .before .before .before .before .before .before .before .before .before .before .before .check-lent
+    .ensures) ∙ c .before .before .before .before .before .before .before .before .before .before .before .before .before .before .before .before .enum-told .given .1 in
     let k = lent-told (length (s .path-nos .now)) (length (s .coords .now)) (length (s .paths .now)) (length (s .beams .now)) (length (s .work .now)) fine in
     let long = c .before .before .before .before .before .before .before .before .before .before .before .clear-words .kept .0 in
     let same = c .before .before .before .before .before .before .before .gather .kept .1 .1 .1 .0 in
-    let few : sum (map (λ k. areaOf (boxIn (c .before .before .before .before .before .before .before .gather .last .1 .1 .1 .0) (s .margin) k 0)) (from 0 (length (s .beams .now)))) ≡ c .before .before .before .total .result = sym (c .before .before .before .total .ensures) in
+    let few : sum (map (λ k. areaOf (boxIn (c .before .before .before .before .before .before .before .gather .last .1 .1 .1 .0) (s .margin) k 0)) (from 0 (length (s .beams
+    .now)))) ≡ c .before .before .before .total .result = sym (c .before .before .before .total .ensures) in
     (omega (arith, k .room, long, same), omega arith, omega (arith, k .paths), omega (arith, few, c .before .before .if1 .left))
 
 clear-words-requires-3 : tie.Need-clear-words-requires-3
 clear-words-requires-3 c κs =
-    let s = c .before .before .before .before .before .before .before .before .before .before .before .before .before .before .before .before .before .before .before .before .before .before .before .before .before .before .before .before .args in
-    let fine = sym (c .before .before .before .before .before .before .before .before .before .before .before .before .before .before .before .before .before .before .before .before .before .before .check-lent .ensures) ∙ c .before .before .before .before .before .before .before .before .before .before .before .before .before .before .before .before .before .before .before .before .enum-told .given .1 in
+    let s = c .before .before .before .before .before .before .before .before .before .before .before .before .before .before .before .before .before .before .before .before
+    .before .before .before .before .before .before .before .before .args in
+    let fine = sym (c .before .before .before .before .before .before .before .before .before .before .before .before .before .before .before .before .before .before .before
+    .before .before .before .check-lent .ensures) ∙ c .before .before .before .before .before .before .before .before .before .before .before .before .before .before .before
+    .before .before .before .before .before .enum-told .given .1 in
     let k = lent-told (length (s .path-nos .now)) (length (s .coords .now)) (length (s .paths .now)) (length (s .beams .now)) (length (s .work .now)) fine in
-    omega (arith, k .room, c .before .before .before .before .before .before .before .before .before .before .before .before .before .before .before .clear-words .kept .0, c .before .before .before .before .before .before .before .before .before .before .before .gather .kept .1 .1 .1 .0)
+    omega (
+      arith,
+      k .room,
+      c .before .before .before .before .before .before .before .before .before .before .before .before .before .before .before .clear-words .kept .0,
+      c
+          .before .before .before .before .before .before .before .before .before .before .before .gather .kept .1 .1 .1 .0,
+    )
 
 cast-t38 : tie.Need-cast-t38
 cast-t38 c = search needs
@@ -133,14 +166,26 @@ same-length-3 c = search needs
 
 returns-4 : tie.Need-returns-4
 returns-4 c =
-    let s = c .before .before .before .before .before .before .before .before .before .before .before .before .before .before .before .before .before .before .before .before .before .before .before .before .before .before .before .before .before .before .before .args in
-    let fine = sym (c .before .before .before .before .before .before .before .before .before .before .before .before .before .before .before .before .before .before .before .before .before .before .before .before .before .check-lent .ensures) ∙ c .before .before .before .before .before .before .before .before .before .before .before .before .before .before .before .before .before .before .before .before .before .before .before .enum-told .given .1 in
+    let s = c .before .before .before .before .before .before .before .before .before .before .before .before .before .before .before .before .before .before .before .before
+    .before .before .before .before .before .before .before .before .before .before .before .args in
+    let fine = sym (c .before .before .before .before .before .before .before .before .before .before .before .before .before .before .before .before .before .before .before
+    .before .before .before .before .before .before .check-lent .ensures) ∙ c .before .before .before .before .before .before .before .before .before .before .before .before
+    .before .before .before .before .before .before .before .before .before .before .before .enum-told .given .1 in
     let k = lent-told (length (s .path-nos .now)) (length (s .coords .now)) (length (s .paths .now)) (length (s .beams .now)) (length (s .work .now)) fine in
-    let w : c .before .before .before .before .before .before .before .before .before .before .before .before .before .before .gather .last .1 .1 .1 .0 ≡ fullOf (s .path-nos .now) (s .coords .now) (length (s .beams .now)) (s .work .now) =
-    c .before .before .before .before .before .before .before .before .before .before .before .before .before .before .gather .ensures ∙ ap (gatherFrom (s .path-nos .now) (s .coords .now) (length (s .path-nos .now)) 0) (c .before .before .before .before .before .before .before .before .before .before .before .before .before .before .before .before .before .before .clear-words .ensures) in
-    let t = c .before .before .before .before .before .before .before .before .before .before .total .ensures ∙ ap (λ (ws : List ℕ). sum (map (λ k. areaOf (boxIn ws (s .margin) k 0)) (from 0 (length (s .beams .now))))) w in
-    boxes-done (s .path-nos .now) (s .coords .now) (s .beams .now) (s .margin) (s .paths .now) (s .work .now) fine (sym (c .before .before .before .before .before .before .before .before .before .before .before .before .before .before .before .before .before .before .before .before .before .before .check-lines .ensures) ∙ c .before .before .before .before .before .before .before .before .before .before .before .before .before .before .before .before .before .before .before .before .enum-told2 .given .1) (c .before .before .before .before .before .before .before .before .before .before .total .result) t (c .before .before .before .before .before .before .before .before .before .if1 .left) _ _
-    (c .before .before .before .before .before .before .put-records .ensures ∙ ap (λ (ws : List ℕ). sets (s .paths .now) 0 (recordsFrom (boxIn ws (s .margin)) (s .beams .now) (length (s .beams .now)) 0 0)) w)
+    let w : c .before .before .before .before .before .before .before .before .before .before .before .before .before .before .gather .last .1 .1 .1 .0 ≡ fullOf (s .path-nos
+    .now) (s .coords .now) (length (s .beams .now)) (s .work .now) =
+    c .before .before .before .before .before .before .before .before .before .before .before .before .before .before .gather .ensures ∙ ap (gatherFrom (s .path-nos .now) (s
+    .coords .now) (length (s .path-nos .now)) 0) (c .before .before .before .before .before .before .before .before .before .before .before .before .before .before .before
+    .before .before .before .clear-words .ensures) in
+    let t = c .before .before .before .before .before .before .before .before .before .before .total .ensures ∙ ap (λ (ws : List ℕ). sum (map (λ k. areaOf (boxIn ws (s .margin) k
+    0)) (from 0 (length (s .beams .now))))) w in
+    boxes-done (s .path-nos .now) (s .coords .now) (s .beams .now) (s .margin) (s .paths .now) (s .work .now) fine (sym (c .before .before .before .before .before .before .before
+    .before .before .before .before .before .before .before .before .before .before .before .before .before .before .before .check-lines .ensures) ∙ c .before .before .before
+    .before .before .before .before .before .before .before .before .before .before .before .before .before .before .before .before .before .enum-told2 .given .1) (c .before
+    .before .before .before .before .before .before .before .before .before .total .result) t (c .before .before .before .before .before .before .before .before .before .if1
+    .left) _ _
+    (c .before .before .before .before .before .before .put-records .ensures ∙ ap (λ (ws : List ℕ). sets (s .paths .now) 0 (recordsFrom (boxIn ws (s .margin)) (s .beams .now)
+    (length (s .beams .now)) 0 0)) w)
     (c .before .before .clear-words3 .ensures ∙ ap (clearedOf 0 0 (length (s .beams .now) * boxWords)) w)
 
 pub make-boxes-spec : {M : Type 1} → statement M

@@ -37,8 +37,20 @@ cast-if5 c = search needs
 returns-5 : tie.Need-returns-5
 returns-5 c =
     let a = c .before .before .before .before .before .args in
-    sym (fails-at 4 (lentChecks (a .nn) (a .nc) (a .np) (a .nb) (a .nw))
-    (eq-eqb _ _ (c .before .before .before .before .if1 .left), (eq-eqb _ _ (c .before .before .before .if2 .left), (eq-eqb _ _ (c .before .before .if3 .left), (eq-eqb _ _ (c .before .if4 .left), lt-leb _ _ (c .if5 .taken))))))
+    sym (fails-at 4 (lentChecks (a .nn) (a .nc) (a .np) (a .nb) (a .nw)) (
+      eq-eqb _ _ (c .before .before .before .before .if1 .left),
+      (
+        eq-eqb _ _ (c .before .before .before .if2 .left),
+        (
+          eq-eqb _ _ (c .before .before .if3 .left),
+          (
+            eq-eqb _ _ (c
+                .before .if4 .left),
+            lt-leb _ _ (c .if5 .taken),
+          ),
+        ),
+      ),
+    ))
 
 returns-6 : tie.Need-returns-6
 returns-6 c =

@@ -68,7 +68,17 @@ further-requires-2 c κs = search needs
 
 returns-2 : tie.Need-returns-2
 unfolding boxIn edgeMost
-returns-2 c = rw (ne-eqb _ _ (c .before .before .before .before .before .before .before .before .before .if1 .left), c .further2 .ensures, c .before .before .further .ensures, c .before .before .before .less4 .ensures, c .before .before .before .before .less3 .ensures, c .before .before .before .before .before .before .less2 .ensures, c .before .before .before .before .before .before .before .less .ensures)
+returns-2 c = rw (
+  ne-eqb _ _ (c .before .before .before .before .before .before .before .before .before .if1 .left),
+  c .further2 .ensures,
+  c .before .before .further .ensures,
+  c
+      .before .before .before .less4 .ensures,
+  c .before .before .before .before .less3 .ensures,
+  c .before .before .before .before .before .before .less2 .ensures,
+  c .before
+      .before .before .before .before .before .before .less .ensures,
+)
 
 pub box-at-spec : {M : Type 1} → statement M
 box-at-spec =

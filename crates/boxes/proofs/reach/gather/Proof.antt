@@ -43,7 +43,8 @@ add-l : tie.Need-add-l Inv-loop μ-loop
 add-l c =
     let s = c .before .before .before .before .before .before .before .before .before .args in
     let l = c .before .before .before .before .before .loop in
-    let ok = each-line (s .path-nos .now) (s .coords .now) (s .n) (length (s .path-nos .now)) 0 (c .before .before .before .before .before .before .before .before .before .pre .2) (l .l) (omega arith) (omega arith) in
+    let ok = each-line (s .path-nos .now) (s .coords .now) (s .n) (length (s .path-nos .now)) 0 (c .before .before .before .before .before .before .before .before .before .pre
+    .2) (l .l) (omega arith) (omega arith) in
     omega (arith, ok .numbered, small .lines)
 
 loop-less : tie.Need-loop-less Inv-loop μ-loop
@@ -53,7 +54,8 @@ loop-again : tie.Need-loop-again Inv-loop μ-loop
 loop-again c =
     let s = c .before .before .before .before .before .before .before .before .before .args in
     let l = c .before .before .before .before .before .loop in
-    let ok = each-line (s .path-nos .now) (s .coords .now) (s .n) (length (s .path-nos .now)) 0 (c .before .before .before .before .before .before .before .before .before .pre .2) (l .l) (omega arith) (omega arith) in (
+    let ok = each-line (s .path-nos .now) (s .coords .now) (s .n) (length (s .path-nos .now)) 0 (c .before .before .before .before .before .before .before .before .before .pre
+    .2) (l .l) (omega arith) (omega arith) in (
       omega arith,
       omega (arith, ok .numbered),
       c .before .before .reach-line .kept .1 .1 .1 .1 .0 ∙ l .inv .2,

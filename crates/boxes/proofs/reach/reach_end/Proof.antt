@@ -36,7 +36,13 @@ add-raise-2 : tie.Need-add-raise-2
 add-raise-2 c = search needs
 
 add-raise-3 : tie.Need-add-raise-3
-add-raise-3 c = omega (arith, small .edge, c .before .before .before .before .before .before .before .before .before .before .before .before .before .before .pre .1, c .before .before .before .before .before .before .before .before .before .before .before .before .tile-at .ensures)
+add-raise-3 c = omega (
+  arith,
+  small .edge,
+  c .before .before .before .before .before .before .before .before .before .before .before .before .before .before .pre .1,
+  c .before
+      .before .before .before .before .before .before .before .before .before .before .before .tile-at .ensures,
+)
 
 raise-requires-3 : tie.Need-raise-requires-3
 raise-requires-3 c κs = search needs
@@ -45,7 +51,13 @@ add-raise-4 : tie.Need-add-raise-4
 add-raise-4 c = search needs
 
 add-raise-5 : tie.Need-add-raise-5
-add-raise-5 c = omega (arith, small .edge, c .before .before .before .before .before .before .before .before .before .before .before .before .before .before .before .before .before .before .pre .2, c .before .before .before .before .before .before .before .before .before .before .before .before .before .before .before .tile-at2 .ensures)
+add-raise-5 c = omega (
+  arith,
+  small .edge,
+  c .before .before .before .before .before .before .before .before .before .before .before .before .before .before .before .before
+      .before .before .pre .2,
+  c .before .before .before .before .before .before .before .before .before .before .before .before .before .before .before .tile-at2 .ensures,
+)
 
 raise-requires-4 : tie.Need-raise-requires-4
 raise-requires-4 c κs = search needs
@@ -55,7 +67,21 @@ same-length c = search needs
 
 returns : tie.Need-returns
 unfolding endReach edgeMost
-returns c = rw (c .before .before .raise4 .ensures, c .before .before .before .before .before .before .raise3 .ensures, c .before .before .before .before .before .before .before .before .before .before .raise2 .ensures, c .before .before .before .before .before .before .before .before .before .before .before .before .before .before .before .raise .ensures, c .before .before .before .before .before .before .before .before .before .before .before .less2 .ensures, c .before .before .before .before .before .before .before .before .before .before .before .before .before .before .before .before .less .ensures, c .before .before .before .before .before .before .before .before .before .before .before .before .before .before .before .before .before .before .tile-at2 .ensures, c .before .before .before .before .before .before .before .before .before .before .before .before .before .before .before .before .before .before .before .tile-at .ensures)
+returns c = rw (
+  c .before .before .raise4 .ensures,
+  c .before .before .before .before .before .before .raise3 .ensures,
+  c .before .before .before .before .before .before .before
+      .before .before .before .raise2 .ensures,
+  c .before .before .before .before .before .before .before .before .before .before .before .before .before .before .before .raise
+      .ensures,
+  c .before .before .before .before .before .before .before .before .before .before .before .less2 .ensures,
+  c .before .before .before .before .before .before .before
+      .before .before .before .before .before .before .before .before .before .less .ensures,
+  c .before .before .before .before .before .before .before .before .before .before
+      .before .before .before .before .before .before .before .before .tile-at2 .ensures,
+  c .before .before .before .before .before .before .before .before .before .before .before
+      .before .before .before .before .before .before .before .before .tile-at .ensures,
+)
 
 pub reach-end-spec : {M : Type 1} → statement M
 reach-end-spec =

@@ -28,7 +28,8 @@ reach-end-requires-2 : tie.Need-reach-end-requires-2
 reach-end-requires-2 c κs =
     let a = c .before .before .before .before .before .before .before .before .before .before .before .before .args in
     let ok = c .before .before .before .before .before .before .before .before .before .before .before .before .pre .3 in
-    let e : c .before .before .before .before .before .before .before .line-at .result ≡ lineAt (a .coords .now) (a .l) = c .before .before .before .before .before .before .before .line-at .ensures in
+    let e : c .before .before .before .before .before .before .before .line-at .result ≡ lineAt (a .coords .now) (a .l) = c .before .before .before .before .before .before
+    .before .line-at .ensures in
     (omega (arith, ok .there), rw e (ok .p1x), rw e (ok .p1y))
 
 same-length : tie.Need-same-length
@@ -36,7 +37,12 @@ same-length c = search needs
 
 returns : tie.Need-returns
 unfolding lineReach
-returns c = rw (c .before .before .reach-end2 .ensures, c .before .before .before .before .before .before .reach-end .ensures, c .before .before .before .before .before .before .before .before .before .before .line-at .ensures)
+returns c = rw (
+  c .before .before .reach-end2 .ensures,
+  c .before .before .before .before .before .before .reach-end .ensures,
+  c .before .before .before .before .before .before
+      .before .before .before .before .line-at .ensures,
+)
 
 pub reach-line-spec : {M : Type 1} → statement M
 reach-line-spec =

@@ -61,7 +61,8 @@ add-first : tie.Need-add-first Inv-loop μ-loop
 add-first c =
     let s = c .before .before .before .before .before .before .before .before .before .before .before .before .args in
     let l = c .before .before .before .before .before .before .before .before .loop in
-    let e : c .area .result ≡ areaOf (boxIn (s .work .now) (s .m) (l .k) 0) = rw (c .area .ensures, c .before .before .before .before .before .before .box-at .ensures) (area-same (s .work .now) (s .m) (l .k) (l .first)) in
+    let e : c .area .result ≡ areaOf (boxIn (s .work .now) (s .m) (l .k) 0) = rw (c .area .ensures, c .before .before .before .before .before .before .box-at .ensures) (area-same
+    (s .work .now) (s .m) (l .k) (l .first)) in
     omega (arith, sum-turn (λ j. areaOf (boxIn (s .work .now) (s .m) j 0)) (s .n) (l .k) (omega arith), l .inv .2, small .tiles)
 
 add-k : tie.Need-add-k Inv-loop μ-loop
