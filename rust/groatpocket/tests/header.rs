@@ -119,9 +119,6 @@ fn widths_and_commands() {
         assert_eq!(header[name] as usize, width, "{name}");
         assert!(code.get(name).is_none_or(|&w| w as usize == width), "{name}");
     }
-    let room = numbers(&text("crates/outlines/src/lib.rt"), "const ", ": usize = ");
-    let each = OUTLINE_WORDS as u32;
-    assert_eq!((header["OUTLINE_WORDS"], room["ROOM_WORDS"]), (each, each));
     let range = numbers(&text("crates/panel/src/widths.rt"), "pub const ", ": u32 = ");
     assert_eq!((header["STEP_RANGE"], range["STEP_RANGE"]), (STEP_RANGE, STEP_RANGE));
     let commands = numbers(&commands, "pub const ", ": u32 = ");
@@ -129,6 +126,15 @@ fn widths_and_commands() {
     for (name, number) in commands {
         assert_eq!(header[&format!("CMD_{name}")], number, "{name}");
     }
+}
+
+/// The working room of a call for each path.
+#[cfg(feature = "outlines")]
+#[test]
+fn room_for_outlines() {
+    let room = numbers(&text("crates/outlines/src/lib.rt"), "const ", ": usize = ");
+    let each = OUTLINE_WORDS as u32;
+    assert_eq!((header()["OUTLINE_WORDS"], room["ROOM_WORDS"]), (each, each));
 }
 
 /// Where a record's words stand: the header's places are those of this crate's records, and of the proved code wherever it names them.
