@@ -30,10 +30,10 @@ NothingLeaks =
     (nos : List ℕ) (fs : List Float) (paths : List ℕ) (p y : ℕ) → Closed nos fs → AllInside nos fs paths p
     → windingOf paths p (pathAt paths p .x1) y (drawn nos fs (length nos)) ≡ pos 0
 
--- (16, 32.000015), (32, 32), (128.00003, 31.999998)
+-- (16, 32), (24, 32.000008), (96.000015, 31.999998)
 abbrev bits : List ℕ
 bits =
-    0x4180_0000 ∷ 0x4200_0004 ∷ 0x4200_0000 ∷ 0x4200_0000 ∷ 0x4200_0000 ∷ 0x4200_0000 ∷ 0x4300_0002 ∷ 0x41ff_ffff ∷ 0x4300_0002 ∷ 0x41ff_ffff ∷ 0x4180_0000 ∷ 0x4200_0004 ∷ []
+    0x4180_0000 ∷ 0x4200_0000 ∷ 0x41c0_0000 ∷ 0x4200_0002 ∷ 0x41c0_0000 ∷ 0x4200_0002 ∷ 0x42c0_0002 ∷ 0x41ff_ffff ∷ 0x42c0_0002 ∷ 0x41ff_ffff ∷ 0x4180_0000 ∷ 0x4200_0000 ∷ []
 
 abbrev triangle : List Float
 triangle = map (ofBits binary32) bits
@@ -42,7 +42,7 @@ abbrev three : List ℕ
 three = 0 ∷ 0 ∷ 0 ∷ []
 
 abbrev paths : List ℕ
-paths = boxed 0 0 10 4 0
+paths = boxed 0 0 8 4 0
 
 all-fit : (bs : List ℕ) (k : ℕ) → k < length (map (ofBits binary32) bs) → T (fits binary32 (getD (map (ofBits binary32) bs) k nan))
 all-fit [] k h = absurd (not-suc-le-zero h)
@@ -59,20 +59,20 @@ closed = record { lent = leb-true 12 12 refl; floats = all-fit bits; none-open =
 inside : AllInside three triangle paths 0
 unfolding computing
 inside zero h = (
-  record { left = leb-true 1 _ refl; right = leb-true _ 10 refl; top = leb-true 1 _ refl; bottom = leb-true _ 4 refl },
-  record { left = leb-true 1 _ refl; right = leb-true _ 10 refl; top = leb-true 1 _ refl; bottom = leb-true _ 4 refl },
+  record { left = leb-true 1 _ refl; right = leb-true _ 8 refl; top = leb-true 1 _ refl; bottom = leb-true _ 4 refl },
+  record { left = leb-true 1 _ refl; right = leb-true _ 8 refl; top = leb-true 1 _ refl; bottom = leb-true _ 4 refl },
 )
 inside (suc zero) h = (
-  record { left = leb-true 1 _ refl; right = leb-true _ 10 refl; top = leb-true 1 _ refl; bottom = leb-true _ 4 refl },
-  record { left = leb-true 1 _ refl; right = leb-true _ 10 refl; top = leb-true 1 _ refl; bottom = leb-true _ 4 refl },
+  record { left = leb-true 1 _ refl; right = leb-true _ 8 refl; top = leb-true 1 _ refl; bottom = leb-true _ 4 refl },
+  record { left = leb-true 1 _ refl; right = leb-true _ 8 refl; top = leb-true 1 _ refl; bottom = leb-true _ 4 refl },
 )
 inside (suc (suc zero)) h = (
-  record { left = leb-true 1 _ refl; right = leb-true _ 10 refl; top = leb-true 1 _ refl; bottom = leb-true _ 4 refl },
-  record { left = leb-true 1 _ refl; right = leb-true _ 10 refl; top = leb-true 1 _ refl; bottom = leb-true _ 4 refl },
+  record { left = leb-true 1 _ refl; right = leb-true _ 8 refl; top = leb-true 1 _ refl; bottom = leb-true _ 4 refl },
+  record { left = leb-true 1 _ refl; right = leb-true _ 8 refl; top = leb-true 1 _ refl; bottom = leb-true _ 4 refl },
 )
 inside (suc (suc (suc l))) h = absurd (not-suc-le-zero (le-of-suc-le-suc (le-of-suc-le-suc (le-of-suc-le-suc h))))
 
-leak : natAbs (windingOf paths 0 10 2 (drawn three triangle 3)) ≡ 1
+leak : natAbs (windingOf paths 0 8 2 (drawn three triangle 3)) ≡ 1
 unfolding computing walkOf stepMarks windingOf
 leak = refl
 

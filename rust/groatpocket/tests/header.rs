@@ -134,6 +134,15 @@ fn widths_and_commands() {
     }
 }
 
+/// The working room of a call for each path.
+#[cfg(feature = "outlines")]
+#[test]
+fn room_for_outlines() {
+    let room = numbers(&text("crates/outlines/src/lib.rt"), "const ", ": usize = ");
+    let each = OUTLINE_WORDS as u32;
+    assert_eq!((header()["OUTLINE_WORDS"], room["ROOM_WORDS"]), (each, each));
+}
+
 /// Where a record's words stand: the header's places are those of this crate's records, and of the proved code wherever it names them.
 #[test]
 fn places() {
