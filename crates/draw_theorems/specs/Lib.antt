@@ -1,0 +1,2 @@
+-- The words of the theorem on a drawing. Definitions only.
+pub mod Drawing

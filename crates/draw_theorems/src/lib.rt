@@ -1,0 +1,1 @@
+// What holds of a drawing, from lines to pixels in one call: laws, and no code.
