@@ -9,9 +9,9 @@ use mathlib.Core.Logic.{_⊎_, inl, inr}
 use Prim.Native.Nat.{ℕ, _+_, _-_, _*_, _/_, _%_, _^_, _≤_, _<_, min}
 use native.Mathlib.Nat.{mul-div-cancel}
 use native.Mathlib.Omega.{arith}
-use lib.Dec.{T, eqb, ltb, leb}
+use lib.Dec.{T, eqb, ltb, leb, lit<, lit≤}
 use lib.IntN.{ℤ, pos, negsuc, _+ℤ_, _-ℤ_, negℤ, natAbs}
-use lib.Ieee.{Float, nan, inf, fin, binary32, add, sub, mul, lt, eq, fits, toSigned, ofBits}
+use lib.Ieee.{Float, nan, inf, fin, binary32, add, sub, mul, lt, eq, fits, sum, round, toSigned, toUnsigned, inUnsigned, ofBits, whole as isWhole}
 use lib.Ieee.Fits.{add-fits}
 use lib.Ieee.Scale.{finite}
 use borrow.Author.Tests.{leb-false, eqb-true, eq-eqb, ne-eqb, lt-ltb, le-ltb, le-leb}
@@ -30,6 +30,7 @@ use Rattle.exact.specs.Whole.{IsWhole, floorZ, turn}
 use Rattle.exact.specs.Reach.{Starts, coordTiles}
 use Rattle.exact.proofs.Signs.{plusOf, minusOf, one-part, abs-parts, neg-plus, neg-minus, sum-parts, same-parts, abs-sum, abs-neg, abs-turn}
 use Rattle.exact.proofs.Exact.{floor-whole, nat-whole, whole-cast, add-whole, sub-whole}
+use Rattle.exact.proofs.Spans.{one-whole, pos-cast}
 use Rattle.exact.proofs.Compare.{eq-whole, whole-eq}
 use Rattle.exact.proofs.Limits.{far}
 use Rattle.whole.specs.Bits.{zeroBits, bitsOf}
@@ -132,10 +133,10 @@ in-both x w y h e = go (leb w x) refl (leb h y) refl e
 back : (a c : ℕ) → c ≡ a + c - a
 back a c = omega arith
 
-own-rises : (first width left x rows : ℕ) → first + width + rows + x - width ≡ first + rows + (left + x - left)
+own-rises : (first width left x rows : ℕ) → first + width + rows + 2 * x - (x + width) ≡ first + rows + (left + x - left)
 own-rises first width left x rows = omega arith
 
-own-falls : (first left right x rows : ℕ) → x < right - left → first + (right - left) + rows - 1 - x ≡ first + rows + (right - 1 - x - left)
+own-falls : (first left right x rows : ℕ) → x < right - left → first + (right - left) + rows + 0 * x - (x + 1) ≡ first + rows + (right - 1 - x - left)
 own-falls first left right x rows h = omega arith
 
 -- ---- a line's numbers, by where it starts
@@ -144,7 +145,15 @@ unfolding lt ofBits
 lt-unit true = refl
 lt-unit false = refl
 
+unit-twice : (t : Bool) → T (inUnsigned binary32 32 (add binary32 (unit t) one)) × (toUnsigned 32 (add binary32 (unit t) one) ≡ cond t 0 2)
+unfolding add sum round ofBits toUnsigned inUnsigned isWhole
+unit-twice true = (tt, refl)
+unit-twice false = pos-cast (add binary32 (unit false) one) 1 (add-whole (unit false) one (pos 1) (pos 1) one-whole one-whole (lit≤ tt)) (lit< tt)
+
 module _ (p : Pace) (b : Path) (k : Boxed b) (l : Starts (p .sign) (p .x0) (p .y0)) where
+  pub twice-can : T (inUnsigned binary32 32 (add binary32 (p .sign) one))
+  twice-can = subst (λ (u : Float). T (inUnsigned binary32 32 (add binary32 u one))) (sym (l .sign-is)) (unit-twice (l .turned) .0)
+
   abbrev X : ℤ
   X = l .x0n
 
@@ -174,7 +183,10 @@ module _ (p : Pace) (b : Path) (k : Boxed b) (l : Starts (p .sign) (p .x0) (p .y
 
   -- what the numbers are
   pub record Grid (g : Strides) : Type 0 where
-    pub rises-is : g .rises ≡ not (l .turned)
+    pub twice-rises : l .turned ≡ false → g .twice ≡ 2
+    pub twice-falls : l .turned ≡ true → g .twice ≡ 0
+    pub back-rises : l .turned ≡ false → g .back ≡ widthOf b
+    pub back-falls : l .turned ≡ true → g .back ≡ 1
     pub low-rises : l .turned ≡ false → g .low + plusOf X ≡ zeroBits + b .x0 + minusOf X
     pub low-falls : l .turned ≡ true → g .low + b .x1 + minusOf X ≡ zeroBits + plusOf X + 1
     pub edge-rises : l .turned ≡ false → g .edge + 1 ≡ g .low + widthOf b
@@ -194,7 +206,10 @@ module _ (p : Pace) (b : Path) (k : Boxed b) (l : Starts (p .sign) (p .x0) (p .y
       let lo : l .turned ≡ false → lowOf (lt zero (p .sign)) col b ≡ zeroBits + zeroBits + b .x0 - col = λ t. ap (λ (q : Bool). lowOf q col b) (up t) in
       let hi : l .turned ≡ true → lowOf (lt zero (p .sign)) col b ≡ col + 1 - b .x1 = λ t. ap (λ (q : Bool). lowOf q col b) (down t) in
       record {
-        rises-is = r;
+        twice-rises = λ t. ap (λ (u : Float). toUnsigned 32 (add binary32 u one)) (l .sign-is ∙ ap unit t) ∙ unit-twice false .1;
+        twice-falls = λ t. ap (λ (u : Float). toUnsigned 32 (add binary32 u one)) (l .sign-is ∙ ap unit t) ∙ unit-twice true .1;
+        back-rises = λ t. ap (λ (q : Bool). cond q (widthOf b) 1) (up t);
+        back-falls = λ t. ap (λ (q : Bool). cond q (widthOf b) 1) (down t);
         low-rises = λ t. omega (arith, lo t, col-is, col-few, edges-few .0, k .left);
         low-falls = λ t. omega (arith, hi t, col-is, col-few, edges-few .0);
         edge-rises =
@@ -304,13 +319,25 @@ module _ (p : Pace) (b : Path) (k : Boxed b) (l : Starts (p .sign) (p .x0) (p .y
         let c = cell-in (widthOf b) (heightOf b) y x (omega (arith, y-in, q .height-is)) (omega (arith, x-in, q .width-is)) in
         (subst (λ (v : ℕ). y * v + x < widthOf b * heightOf b) (sym (q .width-is)) c, k .last)
 
-    own-is : (t : Bool) → cond (not t) (g .base + y * g .width + x - g .width) (g .base + y * g .width - 1 - x) ≡ tileOf b (X′ t) (b .y0 + y)
-    own-is false =
-        rw (q .base-is, q .width-is)
+    own-is : (t : Bool) → l .turned ≡ t → g .base + y * g .width + g .twice * x - (x + g .back) ≡ tileOf b (X′ t) (b .y0 + y)
+    own-is false e =
+        rw (q .base-is, q .width-is, q .twice-rises e, q .back-rises e)
         (own-rises (b .first) (widthOf b) (b .x0) x (y * widthOf b) ∙ ap (λ (v : ℕ). b .first + v * widthOf b + (b .x0 + x - b .x0)) (back (b .y0) y))
-    own-is true =
-        rw (q .base-is, q .width-is)
+    own-is true e =
+        rw (q .base-is, q .width-is, q .twice-falls e, q .back-falls e)
         (own-falls (b .first) (b .x0) (b .x1) x (y * widthOf b) (omega (arith, x-in, q .width-is)) ∙ ap (λ (v : ℕ). b .first + v * widthOf b + (b .x1 - 1 - x - b .x0)) (back (b .y0) y))
+
+    -- none of its sums is below 0, or large
+    pub own-few : (g .twice * x ≤ 2 * x) × (x + g .back ≤ g .base + y * g .width + g .twice * x) × (g .back ≤ 2 ^ 20 + 1)
+    own-few = go (l .turned) refl
+      where
+        go : (t : Bool) → l .turned ≡ t → (g .twice * x ≤ 2 * x) × (x + g .back ≤ g .base + y * g .width + g .twice * x) × (g .back ≤ 2 ^ 20 + 1)
+        go false e =
+            let m : g .twice * x ≡ 2 * x = ap (λ (v : ℕ). v * x) (q .twice-rises e) in
+            (omega (arith, m), omega (arith, m, q .back-rises e, q .base-is), omega (arith, q .back-rises e, edges-few .0))
+        go true e =
+            let m : g .twice * x ≡ 0 * x = ap (λ (v : ℕ). v * x) (q .twice-falls e) in
+            (omega (arith, m), omega (arith, m, q .back-falls e, q .base-is, q .width-is, x-in), omega (arith, q .back-falls e))
 
     -- the last column has no tile right of it
     edge-at : (t : Bool) → l .turned ≡ t → not (eqb z (g .edge)) ≡ ltb (X′ t + 1) (b .x1)
@@ -325,16 +352,13 @@ module _ (p : Pace) (b : Path) (k : Boxed b) (l : Starts (p .sign) (p .x0) (p .y
         go (inl u) = ap not (ne-eqb z (g .edge) (λ e. omega (arith, e, q .edge-falls t, x-sum, u))) ∙ sym (lt-ltb _ _ u)
         go (inr u) = ap not (eq-eqb z (g .edge) (omega (arith, q .edge-falls t, x-sum, u, x-in, q .width-is))) ∙ sym (le-ltb _ _ u)
 
-    pub struck : (last own : ℕ) (marks : Bool) → Before p i last → own ≡ cond (g .rises) (g .base + y * g .width + x - g .width) (g .base + y * g .width - 1 - x)
+    pub struck : (last own : ℕ) (marks : Bool) → Before p i last → own ≡ g .base + y * g .width + g .twice * x - (x + g .back)
         → marks ≡ (eqb z last && not (eqb z (g .edge))) → Struck p b i own marks z
     struck last own marks f o m =
         record {
           x = X′ (l .turned);
           y = b .y0 + y;
-          falls = falls-on ∙ ap (λ (t : ℕ). Tile (tileNoOf t) (X′ (l .turned)) (b .y0 + y) zf) (sym (own-is (l .turned)) ∙ sym tile);
+          falls = falls-on ∙ ap (λ (t : ℕ). Tile (tileNoOf t) (X′ (l .turned)) (b .y0 + y) zf) (sym (own-is (l .turned) refl) ∙ sym o);
           crosses = m ∙ rw (edge-at (l .turned) refl, ap (λ (v : ℕ). eqb v last) z-is ∙ f .same w);
           next = later-last p (i + 1) z (float i) (λ e. omega (arith, e)) (last-z p i h) w z-is;
         }
-      where
-        tile : own ≡ cond (not (l .turned)) (g .base + y * g .width + x - g .width) (g .base + y * g .width - 1 - x)
-        tile = o ∙ ap (λ (r : Bool). cond r (g .base + y * g .width + x - g .width) (g .base + y * g .width - 1 - x)) (q .rises-is)

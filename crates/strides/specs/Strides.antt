@@ -3,9 +3,9 @@ use mathlib.Core.Path.{_≡_}
 use mathlib.Core.Bool.{Bool, cond}
 use Prim.Native.Nat.{ℕ, _+_, _-_}
 use lib.Dec.{eqb}
-use lib.Ieee.{Float, binary32, add, mul, lt, eq}
+use lib.Ieee.{Float, binary32, add, mul, lt, eq, toUnsigned}
 use Rattle.float32.specs.Inner.{Within}
-use Rattle.util.specs.Constants.{zero}
+use Rattle.util.specs.Constants.{zero, one}
 use Rattle.panel.specs.Kinds.{tileNoOf}
 use Rattle.panel.specs.Paths.{widthOf, heightOf}
 use Rattle.panel.specs.declared.kinds.Path.{Path}
@@ -38,7 +38,8 @@ stridesOf p b =
     let rises = lt zero (p .sign) in
     let low = lowOf rises (bitsOf (floorZ (p .x0))) b in
     record {
-      rises = rises;
+      twice = toUnsigned 32 (add binary32 (p .sign) one);
+      back = cond rises (widthOf b) 1;
       low = low;
       edge = cond rises (low + widthOf b - 1) low;
       top = bitsOf (floorZ (p .y0)) - b .y0;

@@ -20,9 +20,12 @@ const NEAR: f32 = 4194304.0;
 
 // A line's numbers over its path's box, whole. z stands with ZERO added, as `floor_bits` gives it. Columns go from the
 // box's left edge where x rises and from its right edge where it falls: the column is z - low, the row top + i - z, and
-// z is edge in the last column. base is the first tile of the box's second row.
+// z is edge in the last column. The tile is base, the first one of the box's second row, and the rows above in tiles,
+// then up by the column, or down: twice is 2 or 0, and back says from where. Nothing branches on which it is, as x falls
+// as often as it rises.
 pub struct Strides {
-    pub rises: bool,
+    pub twice: u32,
+    pub back: u32,
     pub low: u32,
     pub edge: u32,
     pub top: u32,
@@ -69,8 +72,11 @@ pub fn strides_of(p: Pace, b: Path) -> Strides
     let edge = pick_u32(rises, low + width - 1, low);
     let top = row - b.y0;
     let base = b.first + width;
+    let back = pick_u32(rises, width, 1);
+    let twice = (p.sign + 1.0) as u32;
     Strides {
-        rises,
+        twice,
+        back,
         low,
         edge,
         top,
@@ -118,7 +124,7 @@ pub fn stride_at(p: Pace, b: Path, g: Strides, i: u32, last: u32) -> Stride
         return Stride::Other;
     }
     let t = g.base + y * g.width;
-    let own = pick_u32(g.rises, t + x - g.width, t - 1 - x);
+    let own = t + g.twice * x - (x + g.back);
     let marks = (z == last) & (z != g.edge);
     Stride::At(own, marks, z)
 }

@@ -10,14 +10,13 @@ use Rattle.exact.proofs.Limits.{far}
 use Rattle.walk.specs.Num.{float}
 use Rattle.walk.proofs.Counts.{in-float}
 use Rattle.strides.specs.Strides.{sumAt}
-use Rattle.strides.proofs.Laws.{near-within, in-both, Grid, grid, row-few, edges-few, cells, struck}
+use Rattle.strides.proofs.Laws.{near-within, in-both, Grid, grid, row-few, edges-few, cells, own-few, struck}
 use Rattle.strides.proofs.stride_at.Statement.{statement}
 use Rattle.strides.proofs.stride_at.Tie as tie
 use Rattle.strides.proofs.stride_at.Reads as reads
 use Rattle.strides.proofs.stride_at.Lts as lts
 use Rattle.std.proofs.num.wrapping_sub_u32.Reads as wrapping-sub-u32-reads
 use Rattle.strides.proofs.near.Reads as near-reads
-use Rattle.strides.proofs.pick_u32.Reads as pick-u32-reads
 use Rattle.whole.proofs.floor_bits.Reads as floor-bits-reads
 
 int-to-float-f : tie.Need-int-to-float-f
@@ -77,29 +76,35 @@ add-t c =
     let f = few (c .before .before) in
     omega (arith, f .0, f .1, the-grid s .base-is, edges-few (s .args .p) (s .args .b) (s .pre .0) (s .pre .1) .0)
 
-add-pick-u32 : tie.Need-add-pick-u32
-add-pick-u32 c =
-    let s = c .before .before .before .before .before .before .before .before .before .before .before .before .before .before in
-    let f = few (c .before .before) in
-    omega (arith, f .0, f .1, the-grid s .base-is, edges-few (s .args .p) (s .args .b) (s .pre .0) (s .pre .1) .0)
+-- and so are the sums that make it
+sums : (c : tie.Else2) → let s = c .before .before .before .before .before .before .before .before .before .before .before .before in
+    let x = c .before .before .before .before .before .wrapping-sub-u32 .result in
+    let y = c .before .before .before .wrapping-sub-u322 .result in
+    (s .args .g .twice * x ≤ 2 * x) × (x + s .args .g .back ≤ s .args .g .base + y * s .args .g .width + s .args .g .twice * x) × (s .args .g .back ≤ 2 ^ 20 + 1)
+sums c =
+    let s = c .before .before .before .before .before .before .before .before .before .before .before .before in
+    own-few (s .args .p) (s .args .b) (s .pre .0) (s .pre .1) (s .args .g) (the-grid s) (s .args .i) (s .pre .2) (near (c .before .before .before .before .before .before .before))
+    _ _ _ (c .before .before .before .before .before .before .floor-bits .ensures)
+    (c .before .before .before .before .before .wrapping-sub-u32 .ensures) (c .before .before .before .wrapping-sub-u322 .ensures) (inside c .0) (inside c .1)
 
-sub-pick-u32 : tie.Need-sub-pick-u32
-sub-pick-u32 c =
+mul-own : tie.Need-mul-own
+mul-own c =
+    let f = few (c .before .before .before) in
+    omega (arith, f .0, f .1, sums (c .before .before .before) .0)
+
+add-own : tie.Need-add-own
+add-own c =
     let s = c .before .before .before .before .before .before .before .before .before .before .before .before .before .before .before in
-    omega (arith, the-grid s .base-is, the-grid s .width-is)
+    let f = few (c .before .before .before) in
+    omega (arith, f .0, f .1, the-grid s .base-is, edges-few (s .args .p) (s .args .b) (s .pre .0) (s .pre .1) .0, sums (c .before .before .before) .0)
 
-sub-pick-u32-2 : tie.Need-sub-pick-u32-2
-sub-pick-u32-2 c =
-    let s = c .before .before .before .before .before .before .before .before .before .before .before .before .before .before .before in
-    omega (arith, the-grid s .base-is, the-grid s .width-is, inside (c .before .before .before) .0)
+add-own-2 : tie.Need-add-own-2
+add-own-2 c =
+    let f = few (c .before .before .before .before) in
+    omega (arith, f .0, f .1, sums (c .before .before .before .before) .2)
 
-sub-pick-u32-3 : tie.Need-sub-pick-u32-3
-sub-pick-u32-3 c =
-    let s = c .before .before .before .before .before .before .before .before .before .before .before .before .before .before .before in
-    omega (arith, the-grid s .base-is, the-grid s .width-is, inside (c .before .before .before) .0)
-
-pick-u32-requires : tie.Need-pick-u32-requires
-pick-u32-requires c κs = search needs
+sub-own : tie.Need-sub-own
+sub-own c = sums (c .before .before .before .before) .1
 
 returns-3 : tie.Need-returns-3
 returns-3 c =
@@ -110,7 +115,7 @@ returns-3 c =
     (c .before .before .before .before .before .before .before .before .before .before .before .floor-bits .ensures)
     (c .before .before .before .before .before .before .before .before .before .before .wrapping-sub-u32 .ensures)
     (c .before .before .before .before .before .before .before .before .wrapping-sub-u322 .ensures)
-    (inside d .0) (inside d .1) (s .args .last) _ _ (s .pre .4) (c .before .pick-u32 .ensures) refl
+    (inside d .0) (inside d .1) (s .args .last) _ _ (s .pre .4) refl refl
 
 pub stride-at-spec : {M : Type 1} → statement M
 stride-at-spec =
@@ -126,9 +131,8 @@ stride-at-spec =
     returns-2
     mul-t
     add-t
-    add-pick-u32
-    sub-pick-u32
-    sub-pick-u32-2
-    sub-pick-u32-3
-    pick-u32-requires
+    mul-own
+    add-own
+    add-own-2
+    sub-own
     returns-3)

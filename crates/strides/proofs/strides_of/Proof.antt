@@ -8,7 +8,7 @@ use borrow.Author.Needs.{needs}
 use Rattle.util.specs.Constants.{zero}
 use Rattle.panel.specs.Paths.{widthOf}
 use Rattle.strides.specs.Strides.{stridesOf}
-use Rattle.strides.proofs.Laws.{x0-near, y0-near, col-is, col-few, row-is, row-few, edges-few}
+use Rattle.strides.proofs.Laws.{twice-can, x0-near, y0-near, col-is, col-few, row-is, row-few, edges-few}
 use Rattle.strides.proofs.strides_of.Statement.{statement}
 use Rattle.strides.proofs.strides_of.Tie as tie
 use Rattle.strides.proofs.strides_of.Reads as reads
@@ -97,6 +97,12 @@ add-base c =
     let s = c .before .before .before .before .before .before .before .before .before .before .before in
     omega (arith, edges-few (s .args .p) (s .args .b) (s .pre .0) (s .pre .1) .0, s .pre .0 .last)
 
+pick-u32-requires-3 : tie.Need-pick-u32-requires-3
+pick-u32-requires-3 c κs = search needs
+
+float-to-int-twice : tie.Need-float-to-int-twice
+float-to-int-twice c = let s = c .before .before .before .before .before .before .before .before .before .before .before .before .before .before in twice-can (s .args .p) (s .args .b) (s .pre .0) (s .pre .1)
+
 returns : tie.Need-returns
 unfolding stridesOf
 returns c = cc
@@ -120,4 +126,6 @@ strides-of-spec =
     pick-u32-requires-2
     sub-top
     add-base
+    pick-u32-requires-3
+    float-to-int-twice
     returns)
