@@ -106,7 +106,10 @@ fn frame(rng: &mut Rng) -> Call {
 /// The same of a drawing, on a screen of one tile; or paths over that tile, about as many as its commands allow.
 fn draw(rng: &mut Rng, kind: u32) -> Call {
     let mut slices = frame(rng).slices;
-    if rng.one_in(4) {
+    if rng.one_in(5) {
+        let (path_nos, coords, _) = many_lines(rng);
+        (slices[0], slices[1], slices[2]) = (path_nos, coords, path([0, 0, 1, 1], 0).to_vec());
+    } else if rng.one_in(4) {
         // each is covered by the sum of a line left of the tile, which marks its row
         let n = rules::limits::COMMANDS_MOST / 2 - 2 + rng.below(4) as u32;
         let down = bits([8.0, 0.0, 8.0, 16.0]);

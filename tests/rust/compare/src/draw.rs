@@ -1,12 +1,13 @@
 //! From lines to pixels in one call: beside the rules, beside our own three calls one after another, and beside the page.
 
+use crate::count::spoil_line;
 use crate::fine::OVER;
 use crate::frame::{self, Memory};
 use crate::picture;
 use crate::stage::{hex, same, same_words, Sides, Stage};
 use crate::table::Table;
 use cases::memory::{as_f32, Lent};
-use cases::Rng;
+use cases::{boxes, Rng};
 use rules::limits::PAINT;
 use rules::records::segments_in;
 
@@ -16,7 +17,7 @@ pub struct Draw;
 
 /// Words, paints, a screen or pixels that a caller may get wrong, or what a frame is lent.
 fn spoil(rng: &mut Rng, case: &mut Case) {
-    match rng.below(10) {
+    match rng.below(20) {
         0 => _ = case.paints.pop(),
         1 => case.paints.extend([0; PAINT]),
         2 => (case.cols, case.rows) = rng.pick(&OVER),
@@ -26,6 +27,8 @@ fn spoil(rng: &mut Rng, case: &mut Case) {
             case.pixels.truncate(case.pixels.len().saturating_sub(n));
         }
         5 => case.words = case.words.saturating_sub(rng.range(1, 60) as usize),
+        6..=10 => spoil_line(rng, &mut case.frame.path_nos, &mut case.frame.coords, &case.frame.paths),
+        11..=14 => boxes::spoil(rng, &mut case.frame.paths, case.frame.tiles.len()),
         _ => frame::spoil(rng, &mut case.frame),
     }
 }
@@ -98,7 +101,7 @@ impl Stage for Draw {
 
     fn make(&self, rng: &mut Rng) -> Case {
         let mut case = picture::Picture.make(rng);
-        if rng.one_in(2) {
+        if !rng.one_in(3) {
             spoil(rng, &mut case);
         }
         case
