@@ -52,7 +52,8 @@ loop-again c =
     let l = c .before .before .before .loop in
     let i = l .inv in
     let there : l .k < length (l .work) = omega (arith, i .2 .same-length) in
-    (omega arith, omega arith, kept-store _ _ 1 _ _ (i .0) (i .2), flags-turn _ _ _ _ (i .0) there (c .if1 .left) (i .3), flag-turn-sum (c .before .before .before .before .args .work .now) (l .work) _ (l .k) (i .0) there (c .if1 .left) (i .4))
+    let more = flag-turn-sum (c .before .before .before .before .args .work .now) (l .work) _ (l .k) (i .0) there (c .if1 .left) (i .4) in
+    (omega arith, omega arith, kept-store _ _ 1 _ _ (i .0) (i .2), flags-turn _ _ _ _ (i .0) there (c .if1 .left) (i .3), more)
 
 same-length-2 : tie.Need-same-length-2 Inv-loop μ-loop
 same-length-2 c = search needs

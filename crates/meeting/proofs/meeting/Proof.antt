@@ -53,12 +53,13 @@ pass-requires c κs =
 add-ranges : tie.Need-add-ranges Inv-loop μ-loop
 add-ranges c =
     let a = c .before .before .before .before .before .before .before .before .before .before .before .before .args in
+    let p = c .before .before .before .before .before .before .before .before .before .before .before .before .pre in
     let l = c .before .before .before .before .before .before .before .before .before .loop in
     let v = l .inv in
     let t = both-true (ltb 1 (l .best)) (ltb (l .low) keys) (c .before .before .before .before .before .before .before .before .loop-test .taken) in
     let q = c .before .before .pass .ensures in
-    let most : c .before .before .pass .result .ranges ≤ c .before .before .before .before .before .before .before .before .before .before .before .before .args .n = omega (arith, q .3, v .0) in
-    omega (arith, ranges-small _ (c .before .before .before .before .before .before .before .before .before .before .before .before .args .n) _ (l .low) (l .passes) (l .ranges) _ (ltb-true (l .low) keys (t .1)) (c .before .before .before .before .before .before .before .before .before .before .before .before .pre .3) (v .6) (v .8) most)
+    let most : c .before .before .pass .result .ranges ≤ a .n = omega (arith, q .3, v .0) in
+    omega (arith, ranges-small _ (a .n) _ (l .low) (l .passes) (l .ranges) _ (ltb-true (l .low) keys (t .1)) (p .3) (v .6) (v .8) most)
 
 add-words : tie.Need-add-words Inv-loop μ-loop
 add-words c =

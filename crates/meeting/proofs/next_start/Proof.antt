@@ -18,7 +18,16 @@ abbrev μ-loop : tie.MeasureT-loop
 μ-loop work at n end least₀ i₀ least i = n - i
 
 loop-holds : tie.Need-loop-holds Inv-loop μ-loop
-loop-holds c = (omega arith, record { most = omega arith; past = λ h. absurd (omega arith); least = λ i h. absurd (omega arith); small = λ i h. absurd (omega arith); is-start = λ h. absurd (omega arith) })
+loop-holds c = (
+  omega arith,
+  record {
+    most = omega arith;
+    past = λ h. absurd (omega arith);
+    least = λ i h. absurd (omega arith);
+    small = λ i h. absurd (omega arith);
+    is-start = λ h. absurd (omega arith);
+  },
+)
 
 add-nearer : tie.Need-add-nearer Inv-loop μ-loop
 add-nearer c = omega arith

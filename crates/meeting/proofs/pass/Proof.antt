@@ -72,7 +72,11 @@ add-from : tie.Need-add-from Inv-loop μ-loop
 add-from c =
     let a = c .before .before .before .before .before .before .before .args in
     let s = getD (c .before .before .before .before .loop .work) (a .at + c .before .before .before .before .loop .i) 0 in
-    omega (arith, place-fits s (a .low) (length (a .work .now) - a .free) (a .free) (length (a .work .now)) _ (c .place-of .ensures) refl (c .before .before .before .before .before .before .before .pre .1))
+    omega (
+      arith,
+      place-fits s (a .low) (length (a .work .now) - a .free) (a .free) (length (a .work .now)) _
+          (c .place-of .ensures) refl (c .before .before .before .before .before .before .before .pre .1),
+    )
 
 place-of-requires-2 : tie.Need-place-of-requires-2 Inv-loop μ-loop
 place-of-requires-2 c κs = search needs
@@ -102,6 +106,7 @@ sub-words c = omega (arith, c .before .before .flag .ensures .1 .from)
 add-words : tie.Need-add-words Inv-loop μ-loop
 add-words c =
     let a = c .before .before .before .before .before .before .before .before .before .before .before .before .args in
+    let p = c .before .before .before .before .before .before .before .before .before .before .before .before .pre in
     let l = c .before .before .before .before .before .before .before .before .before .loop in
     let v = l .inv in
     let wide = length (a .work .now) - a .free in
@@ -112,10 +117,10 @@ add-words c =
     let f = c .before .before .flag in
     let end = to .ensures ∙ ap (λ (k : ℕ). placeOf (s + k) (a .low) wide) (c .before .before .before .before .before .before .len-at .ensures) in
     let kept =
-    pass-kept (a .work .now) (l .work) (a .lens .now) (a .at) (a .n) (a .free) (a .low) wide (l .i) (from .result) (to .result) (c .before .before .before .before .before .before .before .before .before .before .before .before .pre .0) here (v .1) (from .ensures) end (v .2)
+    pass-kept (a .work .now) (l .work) (a .lens .now) (a .at) (a .n) (a .free) (a .low) wide (l .i) (from .result) (to .result) (p .0) here (v .1) (from .ensures) end (v .2)
     (f .last .0) (f .result) (v .3) (f .ensures .0) (f .ensures .1) in
     let words =
-    pass-words (a .free) (a .free + from .result) (a .free + to .result) (f .result) wide (l .words) (a .work .now) (l .work) (f .last .0) (c .before .before .before .before .before .before .before .before .before .before .before .before .pre .1) refl kept (f .ensures .1)
+    pass-words (a .free) (a .free + from .result) (a .free + to .result) (f .result) wide (l .words) (a .work .now) (l .work) (f .last .0) (p .1) refl kept (f .ensures .1)
     (v .4) (v .5) in
     omega (arith, words .2)
 
@@ -125,6 +130,7 @@ add-looked c = omega arith
 add-last : tie.Need-add-last Inv-loop μ-loop
 add-last c =
     let a = c .before .before .before .before .before .before .before .before .before .before .before .before .before .args in
+    let p = c .before .before .before .before .before .before .before .before .before .before .before .before .before .pre in
     let l = c .before .before .before .before .before .before .before .before .before .before .loop in
     let v = l .inv in
     let wide = length (a .work .now) - a .free in
@@ -135,10 +141,10 @@ add-last c =
     let f = c .before .before .before .flag in
     let end = to .ensures ∙ ap (λ (k : ℕ). placeOf (s + k) (a .low) wide) (c .before .before .before .before .before .before .before .len-at .ensures) in
     let kept =
-    pass-kept (a .work .now) (l .work) (a .lens .now) (a .at) (a .n) (a .free) (a .low) wide (l .i) (from .result) (to .result) (c .before .before .before .before .before .before .before .before .before .before .before .before .before .pre .0) here (v .1) (from .ensures) end (v .2)
+    pass-kept (a .work .now) (l .work) (a .lens .now) (a .at) (a .n) (a .free) (a .low) wide (l .i) (from .result) (to .result) (p .0) here (v .1) (from .ensures) end (v .2)
     (f .last .0) (f .result) (v .3) (f .ensures .0) (f .ensures .1) in
     let words =
-    pass-words (a .free) (a .free + from .result) (a .free + to .result) (f .result) wide (l .words) (a .work .now) (l .work) (f .last .0) (c .before .before .before .before .before .before .before .before .before .before .before .before .before .pre .1) refl kept (f .ensures .1)
+    pass-words (a .free) (a .free + from .result) (a .free + to .result) (f .result) wide (l .words) (a .work .now) (l .work) (f .last .0) (p .1) refl kept (f .ensures .1)
     (v .4) (v .5) in
     omega (arith, words .2)
 
@@ -148,6 +154,7 @@ same-length c = search needs
 returns : tie.Need-returns Inv-loop μ-loop
 returns c =
     let a = c .before .before .before .before .before .before .before .before .before .before .before .before .before .args in
+    let p = c .before .before .before .before .before .before .before .before .before .before .before .before .before .pre in
     let l = c .before .before .before .before .before .before .before .before .before .before .loop in
     let v = l .inv in
     let wide = length (a .work .now) - a .free in
@@ -158,13 +165,13 @@ returns c =
     let f = c .before .before .before .flag in
     let end = to .ensures ∙ ap (λ (k : ℕ). placeOf (s + k) (a .low) wide) (c .before .before .before .before .before .before .before .len-at .ensures) in
     let kept =
-    pass-kept (a .work .now) (l .work) (a .lens .now) (a .at) (a .n) (a .free) (a .low) wide (l .i) (from .result) (to .result) (c .before .before .before .before .before .before .before .before .before .before .before .before .before .pre .0) here (v .1) (from .ensures) end (v .2)
+    pass-kept (a .work .now) (l .work) (a .lens .now) (a .at) (a .n) (a .free) (a .low) wide (l .i) (from .result) (to .result) (p .0) here (v .1) (from .ensures) end (v .2)
     (f .last .0) (f .result) (v .3) (f .ensures .0) (f .ensures .1) in
     let words =
-    pass-words (a .free) (a .free + from .result) (a .free + to .result) (f .result) wide (l .words) (a .work .now) (l .work) (f .last .0) (c .before .before .before .before .before .before .before .before .before .before .before .before .before .pre .1) refl kept (f .ensures .1)
+    pass-words (a .free) (a .free + from .result) (a .free + to .result) (f .result) wide (l .words) (a .work .now) (l .work) (f .last .0) (p .1) refl kept (f .ensures .1)
     (v .4) (v .5) in
     let t =
-    pass-stops (a .work .now) (l .work) (a .lens .now) (a .at) (a .n) (a .free) (a .low) wide (l .i) (from .result) (to .result) (c .before .before .before .before .before .before .before .before .before .before .before .before .before .pre .0) here (v .1) (from .ensures) end (v .2)
+    pass-stops (a .work .now) (l .work) (a .lens .now) (a .at) (a .n) (a .free) (a .low) wide (l .i) (from .result) (to .result) (p .0) here (v .1) (from .ensures) end (v .2)
     (f .last .0) (f .result) (v .3) (f .ensures .0) (f .ensures .1) (c .if1 .taken) in
     (kept, t, omega (arith, words .2), here-more (l .i) (a .n) here)
 
@@ -177,6 +184,7 @@ loop-less c = falls _ _ (c .before .before .before .before .before .before .befo
 loop-again : tie.Need-loop-again Inv-loop μ-loop
 loop-again c =
     let a = c .before .before .before .before .before .before .before .before .before .before .before .before .before .args in
+    let p = c .before .before .before .before .before .before .before .before .before .before .before .before .before .pre in
     let l = c .before .before .before .before .before .before .before .before .before .before .loop in
     let v = l .inv in
     let wide = length (a .work .now) - a .free in
@@ -187,13 +195,13 @@ loop-again c =
     let f = c .before .before .before .flag in
     let end = to .ensures ∙ ap (λ (k : ℕ). placeOf (s + k) (a .low) wide) (c .before .before .before .before .before .before .before .len-at .ensures) in
     let kept =
-    pass-kept (a .work .now) (l .work) (a .lens .now) (a .at) (a .n) (a .free) (a .low) wide (l .i) (from .result) (to .result) (c .before .before .before .before .before .before .before .before .before .before .before .before .before .pre .0) here (v .1) (from .ensures) end (v .2)
+    pass-kept (a .work .now) (l .work) (a .lens .now) (a .at) (a .n) (a .free) (a .low) wide (l .i) (from .result) (to .result) (p .0) here (v .1) (from .ensures) end (v .2)
     (f .last .0) (f .result) (v .3) (f .ensures .0) (f .ensures .1) in
     let words =
-    pass-words (a .free) (a .free + from .result) (a .free + to .result) (f .result) wide (l .words) (a .work .now) (l .work) (f .last .0) (c .before .before .before .before .before .before .before .before .before .before .before .before .before .pre .1) refl kept (f .ensures .1)
+    pass-words (a .free) (a .free + from .result) (a .free + to .result) (f .result) wide (l .words) (a .work .now) (l .work) (f .last .0) (p .1) refl kept (f .ensures .1)
     (v .4) (v .5) in
     let t =
-    pass-goes (a .work .now) (l .work) (a .lens .now) (a .at) (a .n) (a .free) (a .low) wide (l .i) (from .result) (to .result) (c .before .before .before .before .before .before .before .before .before .before .before .before .before .pre .0) here (v .1) (from .ensures) end (v .2)
+    pass-goes (a .work .now) (l .work) (a .lens .now) (a .at) (a .n) (a .free) (a .low) wide (l .i) (from .result) (to .result) (p .0) here (v .1) (from .ensures) end (v .2)
     (f .last .0) (f .result) (v .3) (f .ensures .0) (f .ensures .1) (c .if1 .left) in
     (here-more (l .i) (a .n) here, kept, t .0, t .1, words .0, words .1, words .2)
 
