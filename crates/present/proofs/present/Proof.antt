@@ -64,13 +64,15 @@ add-size c =
 
 returns-3 : tie.Need-returns-3
 returns-3 c =
-    room-refused _ _ _ _ _ _ _ (sides-of (c .before .before .before .before .before .side-ok .ensures) (c .before .before .before .before .side-ok2 .ensures) (not-false _ (c .before .before .before .if1 .left)))
+    room-refused _ _ _ _ _ _ _ (sides-of (c .before .before .before .before .before .side-ok .ensures) (c .before .before .before .before .side-ok2 .ensures) (not-false _
+    (c .before .before .before .if1 .left)))
     (sym (c .before .before .whole .ensures) ∙ not-false _ (c .before .if2 .left)) (c .if3 .taken)
 
 put-rows-requires : tie.Need-put-rows-requires
 put-rows-requires c κs =
     let a = c .before .before .before .before .before .before .before .before .before .args in
-    let s = sides-of (c .before .before .before .before .before .before .side-ok .ensures) (c .before .before .before .before .before .side-ok2 .ensures) (not-false _ (c .before .before .before .before .if1 .left)) in
+    let s = sides-of (c .before .before .before .before .before .before .side-ok .ensures) (c .before .before .before .before .before .side-ok2 .ensures) (not-false _
+    (c .before .before .before .before .if1 .left)) in
     let least = side-least (a .width) (both (sideOk (a .width)) (sideOk (a .height)) s .0) in
     let w = sym (c .before .before .before .whole .ensures) ∙ not-false _ (c .before .before .if2 .left) in
     let told = whole-told (length (a .pixels .now)) (a .screen) (a .width) (a .height) (a .stride) w in
@@ -81,8 +83,10 @@ same-length c = search needs
 
 returns-4 : tie.Need-returns-4
 returns-4 c =
-    presented _ _ _ _ _ _ _ (sides-of (c .before .before .before .before .before .before .before .before .before .side-ok .ensures) (c .before .before .before .before .before .before .before .before .side-ok2 .ensures) (not-false _ (c .before .before .before .before .before .before .before .if1 .left)))
-    (sym (c .before .before .before .before .before .before .whole .ensures) ∙ not-false _ (c .before .before .before .before .before .if2 .left)) (c .before .before .before .before .if3 .left) _ (c .before .before .put-rows .ensures)
+    presented _ _ _ _ _ _ _ (sides-of (c .before .before .before .before .before .before .before .before .before .side-ok .ensures)
+    (c .before .before .before .before .before .before .before .before .side-ok2 .ensures) (not-false _ (c .before .before .before .before .before .before .before .if1 .left)))
+    (sym (c .before .before .before .before .before .before .whole .ensures) ∙ not-false _ (c .before .before .before .before .before .if2 .left))
+    (c .before .before .before .before .if3 .left) _ (c .before .before .put-rows .ensures)
 
 pub present-spec : {M : Type 1} → statement M
 present-spec =

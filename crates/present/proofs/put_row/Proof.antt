@@ -75,14 +75,16 @@ loop-again c =
       omega arith,
       omega arith,
       simp length-set (l .inv .2),
-      pixel-turn (c .before .before .before .before .before .before .before .args .order) (c .before .before .before .before .before .before .before .args .row .now) (l .out) _ (l .to) (l .i) _ _ (c .before .before .before .loop-test .taken) (c .before .first .ensures) (c .third .ensures) (l .inv .3),
+      pixel-turn (c .before .before .before .before .before .before .before .args .order) (c .before .before .before .before .before .before .before .args .row .now) (l .out) _
+          (l .to) (l .i) _ _ (c .before .before .before .loop-test .taken) (c .before .first .ensures) (c .third .ensures) (l .inv .3),
     )
 
 same-length : tie.Need-same-length Inv-loop μ-loop
 same-length c = c .before .loop .inv .2
 
 returns : tie.Need-returns Inv-loop μ-loop
-returns c = let l = c .before .loop in pixels-done (c .before .before .before .before .args .order) (c .before .before .before .before .args .row .now) (l .out) _ (l .to) (l .i) (c .loop-test .left) (l .inv .3)
+returns c = let l = c .before .loop in pixels-done (c .before .before .before .before .args .order) (c .before .before .before .before .args .row .now) (l .out) _ (l .to) (l .i)
+    (c .loop-test .left) (l .inv .3)
 
 pub put-row-spec : {M : Type 1} → statement M
 put-row-spec =

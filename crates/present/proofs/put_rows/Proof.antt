@@ -29,22 +29,38 @@ loop-holds c =
 mul-from : tie.Need-mul-from Inv-loop μ-loop
 mul-from c =
     let a = c .before .before .before .before .args in
-    omega (arith, row-there (length (a .pixels .now)) (a .screen) (a .width) (a .height) (a .stride) (length (a .out .now)) (c .before .before .before .before .pre) (c .before .loop .y) (c .loop-test .taken))
+    omega (
+      arith,
+      row-there (length (a .pixels .now)) (a .screen) (a .width) (a .height) (a .stride) (length (a .out .now)) (c .before .before .before .before .pre)
+          (c .before .loop .y) (c .loop-test .taken),
+    )
 
 add-to : tie.Need-add-to Inv-loop μ-loop
 add-to c =
     let a = c .before .before .before .before .args in
-    omega (arith, row-there (length (a .pixels .now)) (a .screen) (a .width) (a .height) (a .stride) (length (a .out .now)) (c .before .before .before .before .pre) (c .before .loop .y) (c .loop-test .taken))
+    omega (
+      arith,
+      row-there (length (a .pixels .now)) (a .screen) (a .width) (a .height) (a .stride) (length (a .out .now)) (c .before .before .before .before .pre)
+          (c .before .loop .y) (c .loop-test .taken),
+    )
 
 mul-at : tie.Need-mul-at Inv-loop μ-loop
 mul-at c =
     let a = c .before .before .before .before .args in
-    omega (arith, row-room (length (a .pixels .now)) (a .screen) (a .width) (a .height) (a .stride) (length (a .out .now)) (c .before .before .before .before .pre) (c .before .loop .y) (c .loop-test .taken))
+    omega (
+      arith,
+      row-room (length (a .pixels .now)) (a .screen) (a .width) (a .height) (a .stride) (length (a .out .now)) (c .before .before .before .before .pre)
+          (c .before .loop .y) (c .loop-test .taken),
+    )
 
 mul-row : tie.Need-mul-row Inv-loop μ-loop
 mul-row c =
     let a = c .before .before .before .before .args in
-    omega (arith, row-there (length (a .pixels .now)) (a .screen) (a .width) (a .height) (a .stride) (length (a .out .now)) (c .before .before .before .before .pre) (c .before .loop .y) (c .loop-test .taken))
+    omega (
+      arith,
+      row-there (length (a .pixels .now)) (a .screen) (a .width) (a .height) (a .stride) (length (a .out .now)) (c .before .before .before .before .pre)
+          (c .before .loop .y) (c .loop-test .taken),
+    )
 
 sub-row : tie.Need-sub-row Inv-loop μ-loop
 sub-row c = omega arith
@@ -55,7 +71,11 @@ part-row-start c = omega arith
 part-row-end : tie.Need-part-row-end Inv-loop μ-loop
 part-row-end c =
     let a = c .before .before .before .before .args in
-    omega (arith, row-there (length (a .pixels .now)) (a .screen) (a .width) (a .height) (a .stride) (length (a .out .now)) (c .before .before .before .before .pre) (c .before .loop .y) (c .loop-test .taken))
+    omega (
+      arith,
+      row-there (length (a .pixels .now)) (a .screen) (a .width) (a .height) (a .stride) (length (a .out .now)) (c .before .before .before .before .pre)
+          (c .before .loop .y) (c .loop-test .taken),
+    )
 
 put-row-requires : tie.Need-put-row-requires Inv-loop μ-loop
 put-row-requires c κs =
@@ -66,7 +86,8 @@ put-row-requires c κs =
       arith,
       length-take (from + a .width - from) (drop from (a .pixels .now)),
       l .inv .1,
-      row-room (length (a .pixels .now)) (a .screen) (a .width) (a .height) (a .stride) (length (a .out .now)) (c .before .before .before .before .before .before .pre) (l .y) (c .before .before .loop-test .taken),
+      row-room (length (a .pixels .now)) (a .screen) (a .width) (a .height) (a .stride) (length (a .out .now)) (c .before .before .before .before .before .before .pre) (l .y)
+          (c .before .before .loop-test .taken),
     )
 
 add-y : tie.Need-add-y Inv-loop μ-loop
@@ -85,7 +106,8 @@ loop-again c =
     let stored = r .ensures ∙ ap (λ (k : ℕ). sets (l .out) (l .y * a .stride) (rowBytes (a .order) (take k (drop from (a .pixels .now))))) wide in (
       omega arith,
       ap length stored ∙ length-sets (l .out) (l .y * a .stride) (rowBytes (a .order) (rowOf (a .pixels .now) (a .screen) (a .width) (l .y))) ∙ l .inv .1,
-      rows-turn (a .order) (a .pixels .now) (a .screen) (a .width) (a .stride) (a .height) (l .y) (l .out) (r .last .0) _ (c .before .before .before .before .before .loop-test .taken) stored (l .inv .2),
+      rows-turn (a .order) (a .pixels .now) (a .screen) (a .width) (a .stride) (a .height) (l .y) (l .out) (r .last .0) _
+          (c .before .before .before .before .before .loop-test .taken) stored (l .inv .2),
     )
 
 same-length : tie.Need-same-length Inv-loop μ-loop
