@@ -436,6 +436,15 @@ uint32_t gp_draw(const uint32_t *path_nos, size_t path_nos_len,
                  uint32_t *pixels, size_t pixels_len,
                  uint32_t *stage, uint32_t *item, uint32_t *lines, uint32_t *made);
 
+/* The shown part of a screen's pixels as bytes for a frame buffer: the top left width by height pixels of rows of
+ * screen pixels each, at the front of out, row after row, each stride bytes past the one before. bgra 0: red, green,
+ * blue, alpha; else blue, green, red, alpha. Bytes between two rows, and after the last, stay. A refusal changes nothing:
+ * 17; 1; then 9 where out has fewer than stride * (height - 1) + 4 * width bytes.
+ * 1: screen at least width; pixels whole rows of screen; at least height rows; stride at least 4 * width. */
+uint32_t gp_present(const uint32_t *pixels, size_t pixels_len,
+                    uint32_t screen, uint32_t width, uint32_t height, uint32_t stride, uint32_t bgra,
+                    uint8_t *out, size_t out_len);
+
 /* The float helpers: each is the rules' own, docs/RULES.md, "Float meanings". */
 float gp_floor(float x);
 float gp_ceil(float x);

@@ -6,6 +6,7 @@
 --     ExactCount, ExactStages, ExactTile, ExactLists, ExactFrame, ExactPpm, ExactPixel, ExactBands   exact at the call: a promise is met where one of the call's ways holds, and nowhere else
 --     CheckAnswers   the same of a check of another's tables
 --     BoxAnswers   of boxes made from lines: one answer only, and no cheat
+--     PresentAnswers   of the shown part of a screen: one answer, and no cheat
 --     SizesAnswers   of what lines and paths need: one answer, and no cheat
 --     DrawAnswers    one answer of a drawing, and no cheat
 pub mod OneAnswer
@@ -24,3 +25,4 @@ pub mod FillTags
 pub mod CheckAnswers
 pub mod BoxAnswers
 pub mod SizesAnswers
+pub mod PresentAnswers

@@ -2,7 +2,7 @@
 -- answer a and of what was lent, m, as it is afterwards. Definitions only.
 use mathlib.Core.Path.{_≡_}
 use mathlib.Core.Logic.{_≢_}
-use Prim.Native.Nat.{ℕ}
+use Prim.Native.Nat.{ℕ, zero, suc}
 use Rattle.panel.specs.Refusals.{doneNo}
 use Rattle.panel.specs.declared.kinds.Answer.{Answer}
 use Rattle.panel.specs.declared.kinds.Answer.the-variants as Answer
@@ -55,6 +55,11 @@ RefusesWrite (Written.Refused n) = Unit {0}
 abbrev pub RefusesRead : Read.Answer → Type 0
 RefusesRead (Reading.Done w h) = ⊥
 RefusesRead (Reading.Refused n) = Unit {0}
+
+-- an answer that is a number alone
+abbrev pub RefusesNumber : ℕ → Type 0
+RefusesNumber zero = ⊥
+RefusesNumber (suc n) = Unit {0}
 
 abbrev pub RefusesBoxes : Boxed → Type 0
 RefusesBoxes (Boxed.Done t) = ⊥

@@ -15,6 +15,7 @@ pub mod call_lists;
 pub mod call_outlines;
 pub mod call_pixel;
 pub mod call_ppm;
+pub mod call_present;
 pub mod call_recount;
 pub mod call_sizes;
 pub mod call_svg;

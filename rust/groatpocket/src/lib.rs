@@ -124,6 +124,8 @@ mod panel;
 mod picture;
 #[cfg(feature = "pixel")]
 mod pixel;
+#[cfg(feature = "present")]
+mod present;
 pub mod raw;
 mod records;
 #[cfg(feature = "recount")]
@@ -156,6 +158,8 @@ pub use panel::{Channel, Fault, Panel, Picture};
 pub use picture::{ppm_read, ppm_write};
 #[cfg(feature = "pixel")]
 pub use pixel::{pixel, pixel_area};
+#[cfg(feature = "present")]
+pub use present::{present, Present, PIXEL_BYTES};
 pub use records::{Paint, Path, Reference, Segment, STEP_RANGE};
 #[cfg(feature = "recount")]
 pub use recount::{recount, Recount, RecountStopped};

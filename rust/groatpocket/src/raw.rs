@@ -187,4 +187,10 @@ extern "C" {
         pixels: *mut u32, pixels_len: usize,
         stage: &mut u32, item: &mut u32, lines: &mut u32, made: &mut u32,
     ) -> u32;
+
+    pub fn gp_present(
+        pixels: *const u32, pixels_len: usize,
+        screen: u32, width: u32, height: u32, stride: u32, bgra: u32,
+        out: *mut u8, out_len: usize,
+    ) -> u32;
 }

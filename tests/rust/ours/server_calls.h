@@ -100,6 +100,9 @@ extern uint32_t gp_fine_rows(const uint32_t *words, size_t words_len, const floa
 #ifdef HAS_DRAW
 extern uint32_t gp_draw(const uint32_t *path_nos, size_t path_nos_len, const float *coords, size_t coords_len, const uint32_t *paths, size_t paths_len, const uint32_t *paints, size_t paints_len, int32_t *backdrops, size_t backdrops_len, uint32_t *stored, size_t stored_len, uint32_t *tally, size_t tally_len, uint32_t *refs, size_t refs_len, float *segments, size_t segments_len, uint32_t *tags, size_t tags_len, uint32_t width, uint32_t cols, uint32_t rows, uint32_t *words, size_t words_len, uint32_t *pixels, size_t pixels_len, uint32_t *stage, uint32_t *item, uint32_t *lines, uint32_t *made);
 #endif
+#ifdef HAS_PRESENT
+extern uint32_t gp_present(const uint32_t *pixels, size_t pixels_len, uint32_t screen, uint32_t width, uint32_t height, uint32_t stride, uint32_t bgra, uint8_t *out, size_t out_len);
+#endif
 
 static uint32_t run(uint32_t which) {
     uint32_t *n = numbers;
@@ -232,6 +235,12 @@ static uint32_t run(uint32_t which) {
 #ifdef HAS_DRAW
     case 20: { /* draw */
         uint32_t answer = gp_draw(SLICE(0, uint32_t), SLICE(1, float), SLICE(2, uint32_t), SLICE(3, uint32_t), SLICE(4, int32_t), SLICE(5, uint32_t), SLICE(6, uint32_t), SLICE(7, uint32_t), SLICE(8, float), SLICE(9, uint32_t), (uint32_t)n[0], (uint32_t)n[1], (uint32_t)n[2], SLICE(10, uint32_t), SLICE(11, uint32_t), &n[3], &n[4], &n[5], &n[6]);
+        return answer;
+    }
+#endif
+#ifdef HAS_PRESENT
+    case 21: { /* present */
+        uint32_t answer = gp_present(SLICE(0, uint32_t), (uint32_t)n[0], (uint32_t)n[1], (uint32_t)n[2], (uint32_t)n[3], (uint32_t)n[4], SLICE(1, uint8_t));
         return answer;
     }
 #endif

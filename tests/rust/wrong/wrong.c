@@ -254,6 +254,15 @@ uint32_t __wrap_gp_draw(const uint32_t *path_nos, size_t path_nos_len, const flo
     return answer;
 }
 
+uint32_t __real_gp_present(const uint32_t *pixels, size_t pixels_len, uint32_t screen, uint32_t width, uint32_t height, uint32_t stride, uint32_t bgra, uint8_t *out, size_t out_len);
+uint32_t __wrap_gp_present(const uint32_t *pixels, size_t pixels_len, uint32_t screen, uint32_t width, uint32_t height, uint32_t stride, uint32_t bgra, uint8_t *out, size_t out_len) {
+    uint32_t answer = __real_gp_present(pixels, pixels_len, screen, width, height, stride, bgra, out, out_len);
+    if (strikes("present out", answer == 0 && out_len > 0)) flip(out + out_len / 2);
+    if (strikes("present out refused", answer != 0 && out_len > 0)) flip(out + out_len / 2);
+    if (strikes("present answer", 1)) answer ^= 1;
+    return answer;
+}
+
 #ifndef BRIDGED /* over the bridge the helpers are no functions of their own */
 
 float __real_gp_floor(float x);

@@ -30,6 +30,7 @@ pub const NAMES: &[&str] = &[
     "svg_lines",
     "fine_rows",
     "draw",
+    "present",
 ];
 
 /// The slices that a call of a kind may change.
@@ -55,6 +56,7 @@ pub const CHANGED: &[&[usize]] = &[
     &[1, 2],
     &[2],
     &[4, 5, 6, 7, 8, 9, 10, 11],
+    &[1],
 ];
 
 /// The slices that are bytes, a word for each.
@@ -80,6 +82,7 @@ pub const BYTES: &[&[usize]] = &[
     &[0],
     &[],
     &[],
+    &[1],
 ];
 
 /// How many slices and numbers a call of a kind takes.
@@ -105,6 +108,7 @@ pub const SHAPES: &[(usize, usize)] = &[
     (3, 2),
     (3, 5),
     (12, 3),
+    (2, 5),
 ];
 
 /// Whether a call of a kind is linked.
@@ -130,6 +134,7 @@ pub const LINKED: &[bool] = &[
     ours::has::SVG,
     ours::has::BANDS,
     ours::has::DRAW,
+    ours::has::PRESENT,
 ];
 
 macro_rules! answered_by {
@@ -450,6 +455,20 @@ macro_rules! answered_by {
                         &mut made,
                     );
                     vec![no, item, stage, lines, made]
+                }
+                (21, [pixels, out]) => {
+                    let mut out_bytes = LentBytes::of(out.u32s());
+                    let no = $side::present(
+                        pixels.u32s(),
+                        n[0],
+                        n[1],
+                        n[2],
+                        n[3],
+                        n[4],
+                        out_bytes.u8s_mut(),
+                    );
+                    out_bytes.give_back(out.u32s_mut());
+                    vec![no, 0]
                 }
                 _ => panic!("no call of kind {}", call.kind),
             };

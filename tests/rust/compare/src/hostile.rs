@@ -223,6 +223,14 @@ fn good(rng: &mut Rng, kind: u32) -> Call {
             let pixels = words(rng, (256 * cols * (end - first)) as usize);
             (vec![16 * cols, cols, rows, first, end], vec![list_words, list, pixels])
         }
+        _ if NAMES[kind as usize] == "present" => {
+            let (width, height) = (rng.range(1, 6) as u32, rng.range(1, 4) as u32);
+            let (screen, stride) = (width + rng.below(3) as u32, rules::present::EACH as u32 * width + rng.below(4) as u32);
+            let room = rules::present::bytes(width, height, stride) as usize + rng.below(3) as usize;
+            let room = if rng.one_in(5) { room - 1 } else { room };
+            let pixels = words(rng, (screen * (height + rng.below(2) as u32)) as usize);
+            (vec![screen, width, height, stride, rng.below(2) as u32], vec![pixels, words(rng, room)])
+        }
         _ if NAMES[kind as usize] == "draw" => {
             let (refs, room) = (REF * rng.below(60) as usize, rng.below(60) as usize);
             let (cols, rows) = (rng.below(4) as u32, rng.below(4) as u32);

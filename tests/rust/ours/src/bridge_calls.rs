@@ -527,3 +527,22 @@ unsafe extern "C" fn gp_draw(
     *made = n[6];
     answer
 }
+
+#[cfg(feature = "present")]
+#[no_mangle]
+unsafe extern "C" fn gp_present(
+    pixels: *const u32, pixels_len: usize,
+    screen: u32, width: u32, height: u32, stride: u32, bgra: u32,
+    out: *mut u8, out_len: usize,
+) -> u32 {
+    let mut n = [screen, width, height, stride, bgra];
+    let answer = call(
+        21,
+        &mut n,
+        vec![
+            read_only(pixels, pixels_len),
+            changed(out, out_len),
+        ],
+    );
+    answer
+}

@@ -501,3 +501,31 @@ pub fn draw(
     #[cfg(not(feature = "draw"))]
     not_linked(("draw", path_nos, coords, paths, paints, backdrops, stored, tally, refs, segments, tags, width, cols, rows, words, pixels, stage, item, lines, made))
 }
+
+pub fn present(
+    pixels: &[u32],
+    screen: u32,
+    width: u32,
+    height: u32,
+    stride: u32,
+    bgra: u32,
+    out: &mut [u8],
+) -> u32 {
+    #[cfg(all(feature = "present", not(bridge)))]
+    if crate::null::is_lent(&[pixels.len(), out.len()]) {
+        // SAFETY: every pointer and length is a slice's, lent for the call alone, or NULL and 0.
+        return unsafe { groatpocket::raw::gp_present(crate::null::at(pixels), pixels.len(), screen, width, height, stride, bgra, crate::null::at_mut(out), out.len()) };
+    }
+    #[cfg(feature = "present")]
+    if bgra > 1 {
+        // the safe call has a bool there
+        // SAFETY: every pointer and length is a slice's, lent for the call alone.
+        return unsafe { groatpocket::raw::gp_present(pixels.as_ptr(), pixels.len(), screen, width, height, stride, bgra, out.as_mut_ptr(), out.len()) };
+    }
+    #[cfg(feature = "present")]
+    let answer = groatpocket::present(pixels, groatpocket::Present { screen, width, height, stride, bgra: bgra != 0 }, out);
+    #[cfg(feature = "present")]
+    return crate::answers::nothing(answer);
+    #[cfg(not(feature = "present"))]
+    not_linked(("present", pixels, screen, width, height, stride, bgra, out))
+}

@@ -43,6 +43,7 @@ pub mod has {
     pub const SIZES: bool = cfg!(feature = "sizes");
     pub const SVG: bool = cfg!(feature = "svg");
     pub const BANDS: bool = cfg!(feature = "bands");
+    pub const PRESENT: bool = cfg!(feature = "present");
     pub const DRAW: bool = cfg!(feature = "draw");
 }
 

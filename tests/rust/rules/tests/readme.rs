@@ -27,5 +27,5 @@ fn the_table_of_calls() {
             calls += 1;
         }
     }
-    assert_eq!(calls, 20, "a call is missing in README.md's table");
+    assert_eq!(calls, 21, "a call is missing in README.md's table");
 }
