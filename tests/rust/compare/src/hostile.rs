@@ -228,7 +228,8 @@ fn good(rng: &mut Rng, kind: u32) -> Call {
             let (screen, stride) = (width + rng.below(3) as u32, rules::present::EACH as u32 * width + rng.below(4) as u32);
             let room = rules::present::bytes(width, height, stride) as usize + rng.below(3) as usize;
             let room = if rng.one_in(5) { room - 1 } else { room };
-            let pixels = words(rng, (screen * (height + rng.below(2) as u32)) as usize);
+            let rows = height + rng.below(2) as u32;
+            let pixels = words(rng, (screen * rows) as usize);
             (vec![screen, width, height, stride, rng.below(2) as u32], vec![pixels, words(rng, room)])
         }
         _ if NAMES[kind as usize] == "draw" => {
