@@ -47,9 +47,14 @@ enum-known-f c = search needs
 
 paint-requires : tie.Need-paint-requires
 paint-requires c κs =
-    let a = c .before .before .before .before .before .before .before .before .before .before .before .before .before .before .before .before .before .before .before .before .before .before .before .before .before .before .before .before .before .before .before .before .before .before .before .before .before .before .before .before .before .before .before .before .args in
+    let a = c .before .before .before .before .before .before .before .before .before .before .before .before .before .before .before .before .before .before
+    .before .before .before .before .before .before .before .before .before .before .before .before .before .before .before .before .before .before .before
+    .before .before .before .before .before .before .before .args in
     let ok = all-ok (pageChecks (length (now (a .paths))) (length (now (a .paints))) (length (now (a .stored))) (a .width) (a .cols) (a .rows) (length (now (a .pixels))))
-    (sym (c .before .before .before .before .before .before .before .before .before .before .before .before .before .before .before .before .before .before .before .before .before .before .before .before .before .before .before .before .before .check-page .ensures) ∙ c .before .before .before .before .before .before .before .before .before .before .before .before .before .before .before .before .before .before .before .before .before .before .before .before .before .before .before .enum-told2 .given .1) in
+    (sym (c .before .before .before .before .before .before .before .before .before .before .before .before .before .before .before .before .before .before
+    .before .before .before .before .before .before .before .before .before .before .before .check-page .ensures) ∙ c .before .before .before .before .before
+    .before .before .before .before .before .before .before .before .before .before .before .before .before .before .before .before .before .before .before
+    .before .before .before .enum-told2 .given .1) in
     leb-true _ _ (ok .1 .1 .1 .1 .0)
 
 enum-known-f-2 : tie.Need-enum-known-f-2
@@ -84,12 +89,20 @@ same-length-8 c = search needs
 
 returns-3 : tie.Need-returns-3
 returns-3 c =
-    let l = c .before .before .before .before .before .before .before .before .before .before .before .before .before .before .before .before .before .before .before .before .before .before .before .before .before .before .before .before .before .before .before .before .before .before .before .before .before .check-lent in
-    let k = c .before .before .before .before .before .before .before .before .before .before .before .before .before .before .before .before .before .before .before .before .before .before .before .before .before .before .before .before .before .before .before .before .before .before .check-page in
-    let f = c .before .before .before .before .before .before .before .before .before .before .before .before .before .before .before .before .before .before .before .before .before .before .before .before .before .frame in
+    let l = c .before .before .before .before .before .before .before .before .before .before .before .before .before .before .before .before .before .before
+    .before .before .before .before .before .before .before .before .before .before .before .before .before .before .before .before .before .before .before
+    .check-lent in
+    let k = c .before .before .before .before .before .before .before .before .before .before .before .before .before .before .before .before .before .before
+    .before .before .before .before .before .before .before .before .before .before .before .before .before .before .before .before .check-page in
+    let f = c .before .before .before .before .before .before .before .before .before .before .before .before .before .before .before .before .before .before
+    .before .before .before .before .before .before .before .frame in
     let d = c .before .before .before .before .paint in
-    frame-done _ _ _ _ _ _ _ _ _ _ _ _ _ _ (l .result) (l .ensures) (c .before .before .before .before .before .before .before .before .before .before .before .before .before .before .before .before .before .before .before .before .before .before .before .before .before .before .before .before .before .before .before .before .before .before .before .enum-told .given .1) (k .result) (k .ensures)
-    (c .before .before .before .before .before .before .before .before .before .before .before .before .before .before .before .before .before .before .before .before .before .before .before .before .before .before .before .before .before .before .before .before .enum-told2 .given .1) (f .result) _ _ _ _ _ (f .ensures) _ (d .result) _ _ (c .before .before .before .before .before .before .before .before .before .before .before .before .f .given .1) (d .ensures)
+    frame-done _ _ _ _ _ _ _ _ _ _ _ _ _ _ (l .result) (l .ensures) (c .before .before .before .before .before .before .before .before .before .before .before
+    .before .before .before .before .before .before .before .before .before .before .before .before .before .before .before .before .before .before .before
+    .before .before .before .before .before .enum-told .given .1) (k .result) (k .ensures)
+    (c .before .before .before .before .before .before .before .before .before .before .before .before .before .before .before .before .before .before .before
+    .before .before .before .before .before .before .before .before .before .before .before .before .before .enum-told2 .given .1) (f .result) _ _ _ _ _ (f
+    .ensures) _ (d .result) _ _ (c .before .before .before .before .before .before .before .before .before .before .before .before .f .given .1) (d .ensures)
 
 same-length-9 : tie.Need-same-length-9
 same-length-9 c = search needs
@@ -111,11 +124,16 @@ same-length-14 c = search needs
 
 returns-4 : tie.Need-returns-4
 returns-4 c =
-    let l = c .before .before .before .before .before .before .before .before .before .before .before .before .before .before .before .before .before .before .before .before .before .before .before .before .before .before .before .check-lent in
-    let k = c .before .before .before .before .before .before .before .before .before .before .before .before .before .before .before .before .before .before .before .before .before .before .before .before .check-page in
+    let l = c .before .before .before .before .before .before .before .before .before .before .before .before .before .before .before .before .before .before
+    .before .before .before .before .before .before .before .before .before .check-lent in
+    let k = c .before .before .before .before .before .before .before .before .before .before .before .before .before .before .before .before .before .before
+    .before .before .before .before .before .before .check-page in
     let f = c .before .before .before .before .before .before .before .before .before .before .before .before .before .before .before .frame in
-    frame-no _ _ _ _ _ _ _ _ _ _ _ _ _ _ (l .result) (l .ensures) (c .before .before .before .before .before .before .before .before .before .before .before .before .before .before .before .before .before .before .before .before .before .before .before .before .before .enum-told .given .1) (k .result) (k .ensures)
-    (c .before .before .before .before .before .before .before .before .before .before .before .before .before .before .before .before .before .before .before .before .before .before .enum-told2 .given .1) (f .result) _ _ _ _ _ (f .ensures) _ _ _ _ _ (c .before .before .f2 .given .1) (c .stage-no .ensures)
+    frame-no _ _ _ _ _ _ _ _ _ _ _ _ _ _ (l .result) (l .ensures) (c .before .before .before .before .before .before .before .before .before .before .before
+    .before .before .before .before .before .before .before .before .before .before .before .before .before .before .enum-told .given .1) (k .result) (k
+    .ensures)
+    (c .before .before .before .before .before .before .before .before .before .before .before .before .before .before .before .before .before .before .before
+    .before .before .before .enum-told2 .given .1) (f .result) _ _ _ _ _ (f .ensures) _ _ _ _ _ (c .before .before .f2 .given .1) (c .stage-no .ensures)
 
 pub draw-spec : {M : Type 1} → statement M
 draw-spec =

@@ -46,13 +46,28 @@ cast-if5 : tie.Need-cast-if5
 cast-if5 c = search needs
 
 returns-5 : tie.Need-returns-5
-returns-5 c = rw (eq-eqb _ _ (c .before .before .before .before .if1 .left), eq-eqb _ _ (c .before .before .before .if2 .left), le-leb _ _ (c .before .before .if3 .left), le-leb _ _ (c .before .if4 .left), lt-leb _ _ (c .if5 .taken))
+returns-5 c = rw (
+  eq-eqb _ _ (c .before .before .before .before .if1 .left),
+  eq-eqb _ _ (c .before .before .before .if2 .left),
+  le-leb _ _ (c .before .before
+      .if3 .left),
+  le-leb _ _ (c .before .if4 .left),
+  lt-leb _ _ (c .if5 .taken),
+)
 
 mul-if6 : tie.Need-mul-if6
 mul-if6 c = search needs
 
 returns-6 : tie.Need-returns-6
-returns-6 c = rw (eq-eqb _ _ (c .before .before .before .before .before .if1 .left), eq-eqb _ _ (c .before .before .before .before .if2 .left), le-leb _ _ (c .before .before .before .if3 .left), le-leb _ _ (c .before .before .if4 .left), le-leb _ _ (c .before .if5 .left), lt-leb _ _ (c .if6 .taken))
+returns-6 c = rw (
+  eq-eqb _ _ (c .before .before .before .before .before .if1 .left),
+  eq-eqb _ _ (c .before .before .before .before .if2 .left),
+  le-leb _ _ (c
+      .before .before .before .if3 .left),
+  le-leb _ _ (c .before .before .if4 .left),
+  le-leb _ _ (c .before .if5 .left),
+  lt-leb _ _ (c .if6 .taken),
+)
 
 mul-if7 : tie.Need-mul-if7
 mul-if7 c = record { fits = product _ _ (search needs) (search needs) }
@@ -60,12 +75,32 @@ mul-if7 c = record { fits = product _ _ (search needs) (search needs) }
 returns-7 : tie.Need-returns-7
 returns-7 c =
     let s = c .before .before .before .before .before .before .before in
-    rw (eq-eqb _ _ (c .before .before .before .before .before .before .if1 .left), eq-eqb _ _ (c .before .before .before .before .before .if2 .left), le-leb _ _ (c .before .before .before .before .if3 .left), le-leb _ _ (c .before .before .before .if4 .left), le-leb _ _ (c .before .before .if5 .left), le-leb _ _ (c .before .if6 .left), lt-leb _ _ (few (s .args .width) (s .args .rows) (s .args .pixels) (c .if7 .taken)))
+    rw (
+      eq-eqb _ _ (c .before .before .before .before .before .before .if1 .left),
+      eq-eqb _ _ (c .before .before .before .before .before .if2 .left),
+      le-leb _ _
+          (c .before .before .before .before .if3 .left),
+      le-leb _ _ (c .before .before .before .if4 .left),
+      le-leb _ _ (c .before .before .if5 .left),
+      le-leb _ _ (c
+          .before .if6 .left),
+      lt-leb _ _ (few (s .args .width) (s .args .rows) (s .args .pixels) (c .if7 .taken)),
+    )
 
 returns-8 : tie.Need-returns-8
 returns-8 c =
     let s = c .before .before .before .before .before .before .before in
-    rw (eq-eqb _ _ (c .before .before .before .before .before .before .if1 .left), eq-eqb _ _ (c .before .before .before .before .before .if2 .left), le-leb _ _ (c .before .before .before .before .if3 .left), le-leb _ _ (c .before .before .before .if4 .left), le-leb _ _ (c .before .before .if5 .left), le-leb _ _ (c .before .if6 .left), le-leb _ _ (enough (s .args .width) (s .args .rows) (s .args .pixels) (c .if7 .left)))
+    rw (
+      eq-eqb _ _ (c .before .before .before .before .before .before .if1 .left),
+      eq-eqb _ _ (c .before .before .before .before .before .if2 .left),
+      le-leb _ _
+          (c .before .before .before .before .if3 .left),
+      le-leb _ _ (c .before .before .before .if4 .left),
+      le-leb _ _ (c .before .before .if5 .left),
+      le-leb _ _ (c
+          .before .if6 .left),
+      le-leb _ _ (enough (s .args .width) (s .args .rows) (s .args .pixels) (c .if7 .left)),
+    )
 
 pub check-page-spec : {M : Type 1} → statement M
 check-page-spec =

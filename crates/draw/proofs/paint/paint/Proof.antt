@@ -51,7 +51,8 @@ returns-2 c =
     let r = c .before .before .before .before .before .before .before .before .before .before .before .before .before .before .slots-of in
     let f = c .before .before .before .before .before .fine in
     shown-no (a .s) (tables (now (a .paths)) (now (a .paints)) (now (a .backdrops)) (now (a .stored)) (now (a .tally))) (now (a .segments)) (a .width) (a .cols) (a .rows)
-    (now (a .words)) (now (a .pixels)) (r .result) (r .ensures) (l .result) _ (l .ensures) (c .before .before .before .before .before .before .before .before .enum-told .given .1) (f .result) _ (f .ensures) _ _ (c .before .shown .given .1)
+    (now (a .words)) (now (a .pixels)) (r .result) (r .ensures) (l .result) _ (l .ensures) (c .before .before .before .before .before .before .before .before
+    .enum-told .given .1) (f .result) _ (f .ensures) _ _ (c .before .shown .given .1)
 
 enum-told-2 : tie.Need-enum-told-2
 enum-told-2 c = search needs
@@ -69,7 +70,8 @@ returns-3 c =
     let r = c .before .before .before .before .before .before .before .before .before .before .before .before .before .slots-of in
     let f = c .before .before .before .before .fine in
     all-shown (a .s) (tables (now (a .paths)) (now (a .paints)) (now (a .backdrops)) (now (a .stored)) (now (a .tally))) (now (a .segments)) (a .width) (a .cols) (a .rows)
-    (now (a .words)) (now (a .pixels)) (r .result) (r .ensures) (l .result) _ (l .ensures) (c .before .before .before .before .before .before .before .enum-told .given .1) (f .result) _ (f .ensures) (c .enum-told2 .given .1)
+    (now (a .words)) (now (a .pixels)) (r .result) (r .ensures) (l .result) _ (l .ensures) (c .before .before .before .before .before .before .before .enum-told
+    .given .1) (f .result) _ (f .ensures) (c .enum-told2 .given .1)
 
 pub paint-spec : {M : Type 1} → statement M
 paint-spec =
