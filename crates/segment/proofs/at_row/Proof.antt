@@ -5,7 +5,7 @@ use Rattle.segment.proofs.at_row.Tie as tie
 
 returns : tie.Need-returns
 unfolding atRowOf
-returns c = cc
+returns c = rw (c .new .ensures, c .before .hold .ensures, c .before .before .far .ensures)
 
 pub at-row-spec : {M : Type 1} → statement M
 at-row-spec = tie.close (tie.spec (λ c κs. tt) (λ c κs. tt) (λ c κs. tt) returns)

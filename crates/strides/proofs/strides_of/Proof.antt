@@ -101,7 +101,9 @@ pick-u32-requires-3 : tie.Need-pick-u32-requires-3
 pick-u32-requires-3 c κs = search needs
 
 float-to-int-twice : tie.Need-float-to-int-twice
-float-to-int-twice c = let s = c .before .before .before .before .before .before .before .before .before .before .before .before .before .before in twice-can (s .args .p) (s .args .b) (s .pre .0) (s .pre .1)
+float-to-int-twice c =
+    let s = c .before .before .before .before .before .before .before .before .before .before .before .before .before .before in
+    twice-can (s .args .p) (s .args .b) (s .pre .0) (s .pre .1)
 
 returns : tie.Need-returns
 unfolding stridesOf
