@@ -1,6 +1,5 @@
 pub mod Bytes
 pub mod ByShift
 pub mod Traces
-pub mod SameByte
 pub mod LayerLaws
 pub mod FlatLaws

@@ -5,7 +5,6 @@ pub mod layer;
 
 use float32::pick;
 ghost use mathlib.Core.Path.{_≡_};
-ghost use mathlib.Core.Bool.{true};
 ghost use Prim.Native.Nat.{_<_};
 ghost use Rattle.colours.specs.Colour.{byteMany, channelOf, colourOf, overOf, byteOf, packOf};
 
@@ -62,18 +61,4 @@ pub fn pack(px: [f32; 4]) -> u32
     ensures { λ r. ⌜ r ≡ packOf px ⌝ }
 {
     byte(px[0]) + 0x100 * byte(px[1]) + 0x1_0000 * byte(px[2]) + 0x100_0000 * byte(px[3])
-}
-
-// Whether two channels are equal: then so are their bytes, also of +0 and -0. A NaN is equal to nothing.
-fn one_byte(x: f32, y: f32) -> bool
-    ensures { λ r. ⌜ (r ≡ true → byteOf x ≡ byteOf y) ⌝ }
-{
-    x == y
-}
-
-// Whether two pixels are equal, channel by channel: then one word stands for both.
-pub fn one_word(a: [f32; 4], b: [f32; 4]) -> bool
-    ensures { λ r. ⌜ (r ≡ true → packOf a ≡ packOf b) ⌝ }
-{
-    one_byte(a[0], b[0]) & one_byte(a[1], b[1]) & one_byte(a[2], b[2]) & one_byte(a[3], b[3])
 }

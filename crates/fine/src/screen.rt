@@ -1,6 +1,5 @@
 // A screen tile: its commands run on colours of its own, which go to the screen only where none is
 // refused; and a range of tiles.
-use colours::one_word;
 use colours::pack;
 use commands::numbers::LIST_START;
 use commands::numbers::TILE_WORDS;
@@ -13,7 +12,6 @@ use coverage::tile::TILE_WIDTH;
 use panel::kinds::Answer;
 use panel::kinds::Verdict;
 ghost use mathlib.Core.Path.{_≡_};
-ghost use mathlib.Core.Bool.{true};
 ghost use Prim.Native.Nat.{_+_, _*_, _/_, _%_, _≤_, _<_};
 ghost use lib.ListN.{length};
 ghost use Rattle.lists.specs.Grid.{mapi, within};
@@ -22,7 +20,7 @@ ghost use Rattle.panel.specs.Limits.{mostTiles};
 ghost use Rattle.coverage.specs.Tile.{tileWidth, tileHeight, tileSize};
 ghost use Rattle.colours.specs.Layer.{meant};
 ghost use Rattle.commands.specs.Alike.{sameColour};
-ghost use Rattle.fine.specs.Screen.{noColour, allFlat, oneWord, OneWord, rowAt, fromList, putTile, endsAt, tilePixels};
+ghost use Rattle.fine.specs.Screen.{noColour, allFlat, oneWord, rowAt, fromList, putTile, endsAt, tilePixels};
 ghost use Rattle.fine.specs.Fine.{shown, tilesOf, shownOf};
 
 // A flag for each row: all are flat.
@@ -66,25 +64,7 @@ pub fn fill_row(pixels: &mut [u32], width: usize, tx: usize, ty: usize, y: usize
     }
 }
 
-// Whether one word stands for all pixels of a row, the first of which is `first`.
-pub fn alike(rgba: &[[f32; 4]; TILE_SIZE], first: usize) -> bool
-    requires { ⌜ first + tileWidth ≤ tileSize ⌝ }
-    ensures { λ r. ⌜ (r ≡ true → OneWord (now (rgba .entry)) first) ⌝ }
-{
-    let one = rgba[first];
-    let mut x = 0usize;
-    while x < TILE_WIDTH {
-        let px = rgba[first + x];
-        let same = one_word(px, one);
-        if !same {
-            return false;
-        }
-        x += 1;
-    }
-    true
-}
-
-// Row y of the tile in column tx and row ty of tiles, packed: once where one word stands for all.
+// Row y of the tile in column tx and row ty of tiles, packed pixel by pixel.
 pub fn put_row(
     pixels: &mut [u32],
     width: usize,
@@ -98,10 +78,6 @@ pub fn put_row(
 {
     let base = width * (TILE_HEIGHT * ty + y) + TILE_WIDTH * tx;
     let first = TILE_WIDTH * y;
-    if alike(rgba, first) {
-        fill_row(pixels, width, tx, ty, y, pack(rgba[first]));
-        return;
-    }
     let mut x = 0usize;
     while x < TILE_WIDTH {
         let px = rgba[first + x];

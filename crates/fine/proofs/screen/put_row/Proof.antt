@@ -1,4 +1,4 @@
--- `fine::screen::put_row` meets its contract: one word for all where `alike` says so; else the invariant is that the row's pixels left of x are written. Assumes nothing.
+-- `fine::screen::put_row` meets its contract. The invariant: the row's pixels left of x are written. Assumes nothing.
 use mathlib.Core.Path.{_≡_, sym, ap, subst, _∙_}
 use mathlib.Core.List.{List, []}
 use Prim.Native.Nat.{ℕ, _*_, _-_, _+_, _≤_, _<_}
@@ -10,7 +10,6 @@ use Rattle.ranges.proofs.Turn.{Done, begun-at, turned-at, ended-at}
 use Rattle.colours.specs.Colour.{packOf}
 use Rattle.fine.specs.Screen.{rowAt, fromList}
 use Rattle.fine.proofs.Places.{place-in-row}
-use Rattle.fine.proofs.Flats.{once}
 use native.Mathlib.Omega.{arith}
 use borrow.Author.Needs.{needs}
 use Rattle.fine.proofs.screen.put_row.Statement.{statement}
@@ -46,35 +45,9 @@ add-base-2 c = search needs
 mul-first : tie.Need-mul-first Inv-loop μ-loop
 mul-first c = search needs
 
-alike-requires : tie.Need-alike-requires Inv-loop μ-loop
-alike-requires c κs = search needs
-
-mul-pack : tie.Need-mul-pack Inv-loop μ-loop
-mul-pack c = search needs
-
-element-copy-out-pack : tie.Need-element-copy-out-pack Inv-loop μ-loop
-element-copy-out-pack c = search needs
-
-pack-requires : tie.Need-pack-requires Inv-loop μ-loop
-pack-requires c κs = search needs
-
-fill-row-requires : tie.Need-fill-row-requires Inv-loop μ-loop
-fill-row-requires c κs = search needs
-
-same-length : tie.Need-same-length Inv-loop μ-loop
-same-length c = search needs
-
-returns : tie.Need-returns Inv-loop μ-loop
-returns c =
-    let a = c .before .before .before .before .before .before .before .before .before .args in
-    let p = c .before .before .before .before .before .before .before .before .before .pre in
-    once (now (a .rgba)) (a .width) (a .tx) (a .ty) (a .y) _ _ _ (p .2) (p .3)
-    (c .before .before .before .before .before .before .before .alike .ensures (c .before .before .before .before .before .before .if1 .taken))
-    (c .before .before .before .pack .ensures) (c .before .before .fill-row .ensures)
-
 loop-holds : tie.Need-loop-holds Inv-loop μ-loop
 loop-holds c =
-    let a = c .before .before .before .args in
+    let a = c .before .args in
     (search needs, begun-at (fromList (now (a .rgba)) (a .width)) 0 _ _)
 
 add-px : tie.Need-add-px Inv-loop μ-loop
@@ -86,8 +59,8 @@ mul-px c = search needs
 element-copy-out-px : tie.Need-element-copy-out-px Inv-loop μ-loop
 element-copy-out-px c = search needs
 
-pack-requires-2 : tie.Need-pack-requires-2 Inv-loop μ-loop
-pack-requires-2 c κs = search needs
+pack-requires : tie.Need-pack-requires Inv-loop μ-loop
+pack-requires c κs = search needs
 
 add-at : tie.Need-add-at Inv-loop μ-loop
 add-at c = search needs
@@ -106,19 +79,19 @@ loop-less c = search needs
 
 loop-again : tie.Need-loop-again Inv-loop μ-loop
 loop-again c =
-    let p = c .before .before .before .before .before .before .before .pre in
-    let a = c .before .before .before .before .before .before .before .args in
+    let p = c .before .before .before .before .before .pre in
+    let a = c .before .before .before .before .before .args in
     let l = c .before .before .before .loop in (
       search needs,
-      turn (now (a .rgba)) (a .width) (a .tx) (a .ty) (a .y) (l .x) _ (l .pixels) _ (p .2) (p .3) (c .before .before .loop-test .taken) (l .inv .1) (c .pack2 .ensures),
+      turn (now (a .rgba)) (a .width) (a .tx) (a .ty) (a .y) (l .x) _ (l .pixels) _ (p .2) (p .3) (c .before .before .loop-test .taken) (l .inv .1) (c .pack .ensures),
     )
 
-same-length-2 : tie.Need-same-length-2 Inv-loop μ-loop
-same-length-2 c = c .before .loop .inv .1 .0
+same-length : tie.Need-same-length Inv-loop μ-loop
+same-length c = c .before .loop .inv .1 .0
 
-returns-2 : tie.Need-returns-2 Inv-loop μ-loop
-returns-2 c =
-    let a = c .before .before .before .before .before .args in
+returns : tie.Need-returns Inv-loop μ-loop
+returns c =
+    let a = c .before .before .before .args in
     let l = c .before .loop in
     ended-at (fromList (now (a .rgba)) (a .width)) 0 _ tileWidth (l .x) _ _ (l .inv .1) (omega arith)
 
@@ -134,23 +107,16 @@ put-row-spec =
     mul-base-3
     add-base-2
     mul-first
-    alike-requires
-    mul-pack
-    element-copy-out-pack
-    pack-requires
-    fill-row-requires
-    same-length
-    returns
     loop-holds
     add-px
     mul-px
     element-copy-out-px
-    pack-requires-2
+    pack-requires
     add-at
     mul-pixels
     slice-write-pixels
     add-x
     loop-less
     loop-again
-    same-length-2
-    returns-2)
+    same-length
+    returns)
