@@ -1,5 +1,6 @@
 // A tile's commands carried out: on areas of its own, and on the colours lent.
 use crate::numbers::END;
+use crate::numbers::FILL;
 use crate::steps::Act;
 use crate::steps::Move;
 use crate::steps::move_at;
@@ -122,7 +123,7 @@ pub fn paint_one(act: Act, a: f32, px: &mut [f32; 4])
 }
 
 // The commands from the word `start` on, up to END, a FILL or the first that is refused, on one pixel:
-// until then all are alike.
+// until then all are alike. A FILL is known by its first word, so that its segments are not looked at twice.
 pub fn begin(words: &[u32], segments: &[f32], start: usize, px: &mut [f32; 4]) -> Opening
     ensures { λ r. ⌜ (r .count ≤ mostCommands)
         × (runFrom (now (segments .entry)) (traceOf mostCommands (now (words .entry)) (now (segments .entry)) start) zero (sameColour (now (px .entry)))
@@ -136,7 +137,7 @@ pub fn begin(words: &[u32], segments: &[f32], start: usize, px: &mut [f32; 4]) -
         let Look::Word(tag) = peek_from(words, at) else {
             return Opening { at, count, area };
         };
-        if tag == END {
+        if (tag == END) | (tag == FILL) {
             return Opening { at, count, area };
         }
         let Move::Goes(act, next) = move_at(words, segments, at, op_of(tag)) else {

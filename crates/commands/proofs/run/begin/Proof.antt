@@ -1,8 +1,9 @@
 -- `commands::run::begin` meets its contract. The invariant: what is left to do, from the present place on pixels that are alike, gives what the
 -- whole gives. Assumes nothing.
-use mathlib.Core.Path.{_≡_, refl, sym, _∙_}
-use mathlib.Core.Bool.{false}
-use Prim.Native.Nat.{_+_, _-_, _≤_}
+use mathlib.Core.Path.{_≡_, refl, sym, subst, _∙_}
+use mathlib.Core.Bool.{false, _||_, true≢false}
+use Prim.Native.Nat.{ℕ, _+_, _-_, _≤_}
+use lib.Dec.{eqb}
 use native.Mathlib.Omega.{arith}
 use borrow.Author.Needs.{needs}
 use borrow.Author.Tests.{not-false}
@@ -10,6 +11,7 @@ use denote.Ref.{now}
 use Rattle.float32.specs.Meaning.{signOf}
 use Rattle.util.specs.Constants.{zero}
 use Rattle.panel.specs.Limits.{mostCommands}
+use Rattle.commands.specs.Numbers.{endNo, fillNo}
 use Rattle.commands.specs.Moves.{traceOf}
 use Rattle.commands.specs.Alike.{sameColour, runFrom}
 use Rattle.commands.proofs.Traced.{found, trace-goes}
@@ -86,6 +88,10 @@ add-count c = search needs
 loop-less : tie.Need-loop-less Inv-loop μ-loop
 loop-less c = search needs
 
+-- a word that is neither END nor FILL isn't END
+not-end : (tag : ℕ) → (eqb tag endNo || eqb tag fillNo) ≡ false → tag ≡ endNo → ⊥
+not-end tag h e = true≢false (subst (λ (t : ℕ). (eqb t endNo || eqb t fillNo) ≡ false) e h)
+
 loop-again : tie.Need-loop-again Inv-loop μ-loop
 loop-again c =
     let a = c .before .before .before .before .before .before .before .before .before .before .before .before .before .before .before .before .before .before .before .args in
@@ -94,7 +100,7 @@ loop-again c =
     let segs = now (a .segments) in
     let goes = trace-goes ws segs (l .at) _ (sym (c .before .before .before .before .before .before .before .before .before .before .before .before .before
     .before .peek-from .ensures) ∙ c .before .before .before .before .before .before .before .before .before .before .before .before .tag .given .1)
-    (c .before .before .before .before .before .before .before .before .before .before .if1 .left) _
+    (not-end _ (c .before .before .before .before .before .before .before .before .before .before .if1 .left)) _
     (c .before .before .before .before .before .before .before .before .before .op-of .ensures) _
     (c .before .before .before .before .before .before .before .before .move-at .ensures) (mostCommands - (l .count + 1)) _ _
     (c .before .before .before .before .before .before .act .given .1) in (
