@@ -1,0 +1,2 @@
+-- A line within one tile. Definitions only.
+pub mod Spot
