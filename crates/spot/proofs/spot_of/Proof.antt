@@ -1,4 +1,10 @@
+-- `spot::spot_of` meets its contract: what passes the tests lies within one tile (`Spots.antt`). Assumes nothing.
 use borrow.Author.Needs.{needs}
+use mathlib.Core.Path.{_≡_, sym, ap, _∙_}
+use mathlib.Core.Bool.{true}
+use borrow.Author.Tests.{not-false}
+use Rattle.spot.specs.Tests.{heldOf}
+use Rattle.spot.proofs.Spots.{held-real, spot-met}
 use Rattle.spot.proofs.spot_of.Statement.{statement}
 use Rattle.spot.proofs.spot_of.Tie as tie
 use Rattle.spot.proofs.spot_of.Reads as reads
@@ -9,45 +15,49 @@ use Rattle.spot.proofs.stretch_of.Reads as stretch-of-reads
 use Rattle.spot.proofs.tile_by.Reads as tile-by-reads
 use Rattle.util.proofs.Vec2.scale.Reads as scale-reads
 
--- src/lib.rt:84:9
 scale-requires : tie.Need-scale-requires
 scale-requires c κs = search needs
 
--- src/lib.rt:85:9
 scale-requires-2 : tie.Need-scale-requires-2
 scale-requires-2 c κs = search needs
 
--- src/lib.rt:86:9
 shifted-requires : tie.Need-shifted-requires
 shifted-requires c κs = search needs
 
--- src/lib.rt:87:9
 shifted-requires-2 : tie.Need-shifted-requires-2
 shifted-requires-2 c κs = search needs
 
--- src/lib.rt:88:22
 stretch-of-requires : tie.Need-stretch-of-requires
 stretch-of-requires c κs = search needs
 
--- src/lib.rt:88:46
 stretch-of-requires-2 : tie.Need-stretch-of-requires-2
 stretch-of-requires-2 c κs = search needs
 
--- src/lib.rt:88:9
 held-requires : tie.Need-held-requires
 held-requires c κs = search needs
 
--- src/lib.rt:89:9
 returns : tie.Need-returns
 returns c = search needs
 
--- src/lib.rt:91:5
-tile-by-requires : tie.Need-tile-by-requires
-tile-by-requires c κs = ?
+-- the tests have passed
+passed : (c : tie.Else1) → let s = c .before .before .before .before .before .before .before .before in
+    heldOf (c .before .before .before .before .before .shifted .result) (c .before .before .before .before .shifted2 .result)
+    (c .before .before .before .stretch-of .result) (c .before .before .stretch-of2 .result) ≡ true
+passed c = sym (c .before .held .ensures) ∙ not-false _ (c .if1 .left)
 
--- src/lib.rt:80:1
+tile-by-requires : tie.Need-tile-by-requires
+tile-by-requires c κs =
+    let r = held-real _ _ _ _ (passed c) in
+    (c .before .before .before .before .before .before .before .before .pre, r .0, r .1)
+
 returns-2 : tie.Need-returns-2
-returns-2 c = ?
+returns-2 c =
+    let d = c .before in
+    let s = d .before .before .before .before .before .before .before .before in
+    spot-met (s .args .p0) (s .args .p1) (s .args .b) (s .pre)
+    (rw (d .before .before .before .stretch-of .ensures, d .before .before .stretch-of2 .ensures, d .before .before .before .before .before .shifted .ensures, d .before .before .before .before .shifted2 .ensures, d .before .before .before .before .before .before .before .scale .ensures, d .before .before .before .before .before .before .scale2 .ensures) at (passed d))
+    (c .tile-by .result)
+    (rw (d .before .before .before .before .before .shifted .ensures, d .before .before .before .before .shifted2 .ensures, d .before .before .before .before .before .before .before .scale .ensures) at (c .tile-by .ensures))
 
 pub spot-of-spec : {M : Type 1} → statement M
 spot-of-spec =
