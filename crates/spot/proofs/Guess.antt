@@ -2,14 +2,13 @@
 --     guess-is     the float, less the shift, is the whole number
 --     both-off     so both floats lie strictly between
 use mathlib.Core.Path.{_≡_, refl, sym, ap, _∙_, subst}
-use mathlib.Core.Bool.{Bool, true, false, not, cond, false≢true, true≢false}
+use mathlib.Core.Bool.{Bool, true, false, cond, false≢true, true≢false}
 use mathlib.Core.Logic.{_⊎_, inl, inr}
 use Prim.Native.Nat.{ℕ, _+_, _-_, _*_, _^_, _≤_, _<_}
-use native.Mathlib.Nat.{le-trans, zero-mul, mul-pos}
+use native.Mathlib.Nat.{zero-mul, mul-pos}
 use native.Mathlib.Omega.{arith}
-use lib.Dec.{T, ltb}
-use lib.IntN.{ℤ}
-use lib.Ieee.{Float, nan, inf, fin, binary32, up, down, add, sub, lt, le, fits, isNan, ofBits, toBits}
+use lib.Dec.{T}
+use lib.Ieee.{Float, nan, inf, fin, binary32, up, down, add, sub, lt, fits, ofBits, toBits}
 use lib.Ieee.Exact.{HasValue}
 use lib.Ieee.Fits.{down-pos}
 use lib.Ieee.Scale.{finite}
@@ -25,7 +24,7 @@ use Rattle.float32.proofs.Order.{not-lt-of-le}
 use Rattle.util.specs.Constants.{one}
 use Rattle.whole.specs.Bits.{zeroBits}
 use Rattle.whole.proofs.Shifted.{from-bits}
-use Rattle.errors.specs.Sizes.{parts, Is}
+use Rattle.errors.specs.Sizes.{parts}
 use Rattle.errors.proofs.Parts.{parts-pos, own-parts}
 use Rattle.margin.proofs.Ends.{value-lt, value-scale}
 use Rattle.spot.specs.Tests.{shift}
@@ -60,7 +59,7 @@ module _ (t : Float) (x : ℕ) (f : T (fits binary32 t)) (e : toBits binary32 t 
   guess-next = one-more false (sub binary32 t shift) x (subst (λ (y : Float). HasValue y false x 1) (sym guess-is) (whole-value false x (omega arith)))
 
 -- ---- what lies above one whole number and below the next is a number from 0 up
-pub record Real (u : Float) : Type 0 where
+record FromZero (u : Float) : Type 0 where
   pub can : T (finite u)
   pub plus : signOf u ≡ false
 
@@ -77,7 +76,7 @@ factor a b c h = go (below-or-not 0 b)
         omega (arith, ap (λ (k : ℕ). k * c) z, zero-mul c)
 
 -- y < u, no w < u, and w < z
-reals : (y u w z : Float) (n m : ℕ) → HasValue y false n 1 → HasValue z false m 1 → lt y u ≡ true → lt w u ≡ false → lt w z ≡ true → Real u × Real w
+reals : (y u w z : Float) (n m : ℕ) → HasValue y false n 1 → HasValue z false m 1 → lt y u ≡ true → lt w u ≡ false → lt w z ≡ true → FromZero u × FromZero w
 unfolding lt signOf
 reals nan u w z n m v k l o g = absurd v
 reals (inf r) u w z n m v k l o g = absurd v

@@ -2,8 +2,8 @@
 use mathlib.Core.Path.{_≡_, refl, sym, ap, _∙_, subst}
 use mathlib.Core.Bool.{Bool, true, false, not, false≢true}
 use mathlib.Core.Logic.{_⊎_, inl, inr}
-use Prim.Native.Nat.{ℕ, suc, _+_, _-_, _*_, _/_, _^_, _≤_, _<_}
-use native.Mathlib.Nat.{le-trans, le-of-lt, le-of-eq, one-mul, mul-one, add-mul, mul-assoc, mul-right-comm, mul-pos, mul-le-mul-right, le-of-mul-le-mul-right}
+use Prim.Native.Nat.{ℕ, _+_, _-_, _*_, _/_, _^_, _≤_, _<_}
+use native.Mathlib.Nat.{le-trans, le-of-lt, le-of-eq, one-mul, add-mul, mul-assoc, mul-right-comm, mul-pos, mul-le-mul-right, le-of-mul-le-mul-right}
 use native.Mathlib.Omega.{arith}
 use lib.Dec.{T, lit<, lit≤}
 use lib.IntN.{ℤ, negsuc}
@@ -12,7 +12,6 @@ use lib.Ieee.Bits.{is-true}
 use lib.Ieee.Exact.{HasValue}
 use lib.Ieee.Fits.{down-pos}
 use lib.Ieee.Order.{round-mono}
-use lib.Ieee.Scale.{finite}
 use borrow.Author.Tests.{lt-ltb, le-ltb}
 use Rattle.float32.specs.Meaning.{whole, up-div, floorOf, ceilOf, absOf, signOf, minOf, maxOf}
 use Rattle.float32.proofs.Tests.{below-or-not}
@@ -21,11 +20,11 @@ use Rattle.float32.proofs.Floors.{gt-plus, up-more}
 use Rattle.float32.proofs.Magic.{div-is}
 use Rattle.float32.proofs.MinMax.{min-picks, max-picks}
 use Rattle.float32.proofs.Order.{le-of-not-lt, not-lt-of-le, eq-not-lt}
-use Rattle.util.specs.Constants.{one, tileScale}
+use Rattle.util.specs.Constants.{one}
 use Rattle.util.specs.Span.{spanOf}
-use Rattle.panel.specs.Limits.{coordMost, coordWhole, edgeMost}
+use Rattle.panel.specs.Limits.{coordWhole, edgeMost}
 use Rattle.exact.specs.Whole.{Small}
-use Rattle.exact.specs.Reach.{inReach, scaled, coordTiles, Near}
+use Rattle.exact.specs.Reach.{inReach, scaled, coordTiles}
 use Rattle.exact.proofs.Bounds.{scale-is, finite-number}
 use Rattle.exact.proofs.Limits.{far}
 use Rattle.errors.specs.Sizes.{parts, Is}
@@ -53,14 +52,6 @@ pub next-parts : (t : ℕ) → (t + 1) * parts ≡ t * parts + parts
 next-parts t = add-mul t 1 parts ∙ ap (λ (z : ℕ). t * parts + z) (one-mul parts)
 
 module _ (s : Float) (t : ℕ) (o : Off s t) where
-  pub off-finite : T (finite s)
-  off-finite = go s (o .is)
-    where
-      go : (s : Float) → Is s (o .n) → T (finite s)
-      go nan v = v
-      go (inf r) v = v
-      go (fin r m e) v = tt
-
   tile-is : o .n / parts ≡ t
   tile-is = div-is (o .n) parts t (le-of-lt (o .low)) (o .high)
 
@@ -147,9 +138,6 @@ parts-small (fin r m e) n N v h =
 
 pub off-small : (s : Float) (t N : ℕ) → Off s t → t + 1 ≤ N → Small s N
 off-small s t N o h = parts-small s (o .n) N (o .is) (le-of-lt (above s t o N h))
-
-pub off-near : (s : Float) (t : ℕ) → Off s t → t + 1 ≤ coordTiles → Near s
-off-near s t o h = record { few = off-small s t coordTiles o h; fit = o .fit }
 
 -- a coordinate beyond the limit is beyond it in tiles
 abs-parts : (s : Float) (n : ℕ) → Is s n → Is (absOf s) n

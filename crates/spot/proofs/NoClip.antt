@@ -1,8 +1,8 @@
 -- A line whose ends lie strictly within a tile of the box is neither skipped nor clipped. Assumes nothing.
 use mathlib.Core.Path.{_≡_, refl, sym, ap, _∙_, subst}
-use mathlib.Core.Bool.{Bool, true, false, cond, _&&_, _||_}
+use mathlib.Core.Bool.{Bool, true, false, _&&_, _||_}
 use mathlib.Core.Logic.{_⊎_, inl, inr}
-use Prim.Native.Nat.{ℕ, _+_, _^_, _≤_, _<_, min, max}
+use Prim.Native.Nat.{ℕ, _+_, _^_, _≤_, min, max}
 use native.Mathlib.Omega.{arith}
 use lib.Dec.{eqb}
 use lib.Ieee.{Float, binary32, add, sub, lt, le, eq}
@@ -19,9 +19,8 @@ use Rattle.walk.specs.Skip.{flatOf, pastOf}
 use Rattle.walk.specs.Step.{Boxed, Within}
 use Rattle.walk.specs.declared.kinds.Walk.{Walk}
 use Rattle.clip.specs.Clip.{firstStepOf, lastStepOf, rowsOf, byLeftOf, byRightOf, colsOf, clipOf}
-use Rattle.clip.specs.declared.Clip.{Clip}
 use Rattle.clip.specs.Page.{clippedOf, by-parts}
-use Rattle.spot.proofs.InTile.{Off, not-before, not-past, not-from, off-edge}
+use Rattle.spot.proofs.InTile.{not-before, not-past, not-from, off-edge}
 use Rattle.spot.proofs.Slope.{Spotted, total-stands, stands-some}
 
 either : (a b m : Float) (P : Float → Type 0) → (m ≡ a) ⊎ (m ≡ b) → P a → P b → P m
@@ -66,9 +65,11 @@ module _ (s0 s1 : Vec2) (x y : ℕ) (h : Spotted s0 s1 x y) (b : Path) (k : Boxe
   pub not-beyond : pastOf s0 s1 b ≡ false
   unfolding pastOf
   not-beyond =
-      rw (not-from (s0 .y) y (h .start-y) (b .y1) bottom y1-few, not-before (s1 .y) y (h .end-y) (b .y0) (w .row-least) y0-few, least, ne-eqb (b .x1) (b .x0) (λ e. omega (arith, w .col-least, right)))
-      refl
+      rw (not-from (s0 .y) y (h .start-y) (b .y1) bottom y1-few, not-before (s1 .y) y (h .end-y) (b .y0) (w .row-least) y0-few, least, wide) refl
     where
+      wide : eqb (b .x1) (b .x0) ≡ false
+      wide = ne-eqb (b .x1) (b .x0) (λ e. omega (arith, w .col-least, right))
+
       least : le (float (b .x1)) (minOf (s0 .x) (s1 .x)) ≡ false
       least =
           either (s0 .x) (s1 .x) (minOf (s0 .x) (s1 .x)) (λ (v : Float). le (float (b .x1)) v ≡ false) (min-picks (s0 .x) (s1 .x)) (not-from (s0 .x) x (h .start-x) (b .x1) right x1-few)

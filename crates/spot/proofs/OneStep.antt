@@ -1,39 +1,34 @@
 -- The step of a line whose ends lie strictly within one tile: its first column and row are the tile's, whichever way x goes, and z is 0. Assumes nothing.
 use mathlib.Core.Path.{_≡_, refl, sym, ap, _∙_, subst}
-use mathlib.Core.Bool.{Bool, true, false, not, cond, _&&_}
-use Prim.Native.Nat.{ℕ, _+_, _-_, _*_, _/_, _^_, _≤_, _<_}
+use mathlib.Core.Bool.{Bool, true, false, not}
+use Prim.Native.Nat.{ℕ, _+_, _^_, _≤_, _<_}
 use native.Mathlib.Omega.{arith}
 use lib.Dec.{T, lit≤}
 use lib.IntN.{ℤ, pos, negsuc, negℤ, _+ℤ_, _-ℤ_, natAbs}
-use lib.Ieee.{Float, nan, inf, fin, binary32, add, sub, mul, le, fits, toSigned}
+use lib.Ieee.{Float, nan, inf, fin, binary32, add, sub, mul, fits, toSigned}
 use lib.Ieee.Exact.{HasValue}
 use lib.Ieee.Fits.{mul-fits}
 use lib.Ieee.Scale.{finite}
 use borrow.Author.Tests.{lt-ltb, le-leb}
-use Rattle.float32.specs.Meaning.{whole, floorOf, unit, up-div}
+use Rattle.float32.specs.Meaning.{whole, floorOf, unit}
 use Rattle.float32.proofs.Whole.{whole-value}
-use Rattle.util.specs.declared.Vec2.{Vec2}
 use Rattle.panel.specs.Kinds.{tileNoOf}
 use Rattle.panel.specs.Paths.{tileOf}
 use Rattle.panel.specs.declared.kinds.Path.{Path}
-use Rattle.exact.specs.Whole.{IsWhole, floorZ, signedZ, turn}
+use Rattle.exact.specs.Whole.{IsWhole, floorZ, signedZ}
 use Rattle.exact.specs.Reach.{coordTiles, signAt, x0At}
 use Rattle.exact.proofs.Limits.{far}
-use Rattle.exact.proofs.Signs.{plusOf, minusOf, sum-parts, same-parts}
+use Rattle.exact.proofs.Signs.{sum-parts, same-parts}
 use Rattle.exact.proofs.Exact.{value-whole, whole-only, floor-whole, nat-whole, whole-cast, add-whole, sub-whole, sign-whole, neg-neg}
 use Rattle.exact.proofs.Bounds.{x0Z, x0-is, sign-unit}
 use Rattle.errors.specs.Sizes.{parts}
 use Rattle.errors.proofs.Parts.{parts-pos}
 use Rattle.margin.proofs.Ends.{times-unit, floor-turned}
 use Rattle.walk.specs.Num.{float, cutOf, insideOf}
-use Rattle.walk.specs.Step.{Within, zAt, tileIn}
-use Rattle.walk.specs.Setup.{slopeOf}
-use Rattle.walk.specs.declared.kinds.Slope.{Slope}
-use Rattle.walk.specs.declared.step.Step.{Step}
+use Rattle.walk.specs.Step.{Within, tileIn}
 use Rattle.walk.specs.declared.step.Step.the-variants.{Tile}
 use Rattle.walk.proofs.Boxes.{okOf, tile-yes}
-use Rattle.walk.proofs.StepTiles.{z-fits}
-use Rattle.spot.proofs.InTile.{Off, off-finite, off-floor, off-up, off-small}
+use Rattle.spot.proofs.InTile.{Off, off-floor, off-up, off-small}
 
 -- ---- the first column
 value-finite : (v : Float) (t : Bool) (n c : ℕ) → HasValue v t n c → T (finite v)

@@ -1,13 +1,13 @@
 -- The walk's a, b and z of a line whose ends lie strictly within one tile, and that is not too short: a is finite, b lies from 0 to below 1, so z at step 0 is 0. Assumes nothing.
 use mathlib.Core.Path.{_≡_, refl, sym, ap, _∙_, subst}
 use mathlib.Core.Bool.{Bool, true, false, not, cond, false≢true, true≢false}
-use mathlib.Core.Logic.{_⊎_, inl, inr}
-use Prim.Native.Nat.{ℕ, zero, suc, _+_, _-_, _*_, _/_, _^_, _≤_, _<_}
-use native.Mathlib.Nat.{le-trans, le-of-eq, one-mul, zero-mul, mul-assoc, mul-comm, mul-pos, mul-le-mul, mul-le-mul-right, mul-le-mul-left}
+use mathlib.Core.Logic.{inl, inr}
+use Prim.Native.Nat.{ℕ, _+_, _-_, _*_, _^_, _≤_, _<_}
+use native.Mathlib.Nat.{le-trans, le-of-eq, one-mul, zero-mul, mul-assoc, mul-comm, mul-pos, mul-le-mul, mul-le-mul-right}
 use native.Mathlib.Omega.{arith}
 use lib.Dec.{T, ltb, eqb, lit<, lit≤}
 use lib.IntN.{ℤ, pos, negsuc, negℤ}
-use lib.Ieee.{Float, nan, inf, fin, binary32, up, down, unlike, round, sum, add, sub, mul, div, lt, le, eq, ne, fits, isNan, ofBits, ofInt}
+use lib.Ieee.{Float, nan, inf, fin, binary32, up, down, unlike, round, sum, add, sub, mul, div, lt, le, eq, ne, isNan, ofBits, ofInt}
 use lib.Ieee.Fits.{down-pos, add-fits}
 use lib.Ieee.Scale.{finite}
 use borrow.Author.Tests.{lt-ltb, ltb-false, ne-eqb}
@@ -19,7 +19,6 @@ use Rattle.float32.proofs.Laws.{up-most}
 use Rattle.util.specs.Constants.{zero as zeroF, one, oneMinusUlp, robustEpsilon}
 use Rattle.util.specs.declared.Vec2.{Vec2}
 use Rattle.exact.specs.Whole.{IsWhole, floorZ, Small}
-use Rattle.exact.specs.Reach.{coordTiles}
 use Rattle.exact.proofs.Exact.{floor-whole}
 use Rattle.exact.proofs.Bounds.{small-finite, small-round, small-more}
 use Rattle.walk.specs.Num.{float}
@@ -32,7 +31,7 @@ use Rattle.errors.proofs.Sizes.{round-most, add-small, sub-small}
 use Rattle.errors.proofs.Signs.{round-none, add-plus}
 use Rattle.errors.proofs.Slopes.{start-in}
 use Rattle.spot.specs.Tests.{short}
-use Rattle.spot.proofs.InTile.{Off, off-near}
+use Rattle.spot.proofs.InTile.{Off}
 use Rattle.spot.proofs.Guess.{factor}
 use Rattle.spot.proofs.Apart.{apart-down, apart-small, apart-turned}
 
@@ -164,7 +163,7 @@ unfolding isNan ofBits
 ulp-number = tt
 
 -- from 0 to 1 - 2 ^ -24
-pub record Starts (b : Float) : Type 0 where
+pub record BelowOne (b : Float) : Type 0 where
   pub plus : Plus b
   pub most : AtMost b 16777215 16777216
 
@@ -235,7 +234,7 @@ most-finite nan h = h
 most-finite (inf s) h = h
 most-finite (fin s m e) h = tt
 
-pub z-none : (a b : Float) → T (finite a) → Starts b → IsWhole (zAt a b (float 0)) (pos 0)
+pub z-none : (a b : Float) → T (finite a) → BelowOne b → IsWhole (zAt a b (float 0)) (pos 0)
 unfolding zAt
 z-none a b f s =
     let v = add binary32 (mul binary32 a (float 0)) b in
@@ -244,6 +243,6 @@ z-none a b f s =
     subst (λ (n : ℤ). IsWhole (floorOf v) n) (floor-none v (add-plus (mul binary32 a (float 0)) b (inr z) (s .plus)) l)
     (floor-whole v (add-fits binary32 (mul binary32 a (float 0)) b) (most-finite v l))
 
-pub b-starts : (s0 s1 : Vec2) → Scaled s0 → Scaled s1 → lt (s1 .y) (s0 .y) ≡ false → Starts (bOf (slopeOf s0 s1) s0)
+pub b-starts : (s0 s1 : Vec2) → Scaled s0 → Scaled s1 → lt (s1 .y) (s0 .y) ≡ false → BelowOne (bOf (slopeOf s0 s1) s0)
 unfolding bOf
 b-starts s0 s1 h k o = let p = start-in s0 s1 h k o .plus in record { plus = p; most = min-most _ p }

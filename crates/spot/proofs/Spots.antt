@@ -3,18 +3,17 @@
 --     spot-met     what the tests and the tile by the guesses tell
 --     held-real    the guesses are numbers
 use mathlib.Core.Path.{_≡_, refl, sym, ap, _∙_, subst}
-use mathlib.Core.Bool.{Bool, true, false, not, cond, _&&_, _||_, false≢true}
-use Prim.Native.Nat.{ℕ, _+_, _-_, _^_, _≤_, _<_}
+use mathlib.Core.Bool.{Bool, true, false, cond, _&&_, false≢true}
+use Prim.Native.Nat.{ℕ, _+_, _^_, _≤_, _<_}
 use native.Mathlib.Omega.{arith}
 use lib.Dec.{T}
 use lib.IntN.{ℤ, pos}
-use lib.Ieee.{Float, nan, inf, fin, binary32, add, sub, mul, lt, le, eq, isNan, toSigned}
+use lib.Ieee.{Float, nan, inf, fin, binary32, add, sub, lt, le, fits, isNan, toBits, toSigned}
 use lib.Ieee.Fits.{add-fits, mul-fits}
 use lib.Ieee.Scale.{finite}
-use Rattle.float32.specs.Meaning.{whole, floorOf, absOf}
-use Rattle.util.specs.Constants.{tileScale}
+use Rattle.float32.specs.Meaning.{floorOf, absOf}
+use Rattle.util.specs.Constants.{one, tileScale}
 use Rattle.util.specs.Vec.{scaleOf}
-use Rattle.util.specs.Span.{spanOf}
 use Rattle.util.specs.declared.Vec2.{Vec2}
 use Rattle.panel.specs.Kinds.{tileNoOf}
 use Rattle.panel.specs.Paths.{tileOf}
@@ -25,14 +24,13 @@ use Rattle.exact.specs.Whole.{IsWhole}
 use Rattle.exact.specs.Reach.{coordTiles}
 use Rattle.exact.proofs.Bounds.{small-finite}
 use Rattle.exact.proofs.Limits.{far}
+use Rattle.whole.specs.Bits.{zeroBits}
 use Rattle.walk.specs.Num.{float}
 use Rattle.walk.specs.Setup.{Scaled, endsOf, countsOf, slopeOf, aOf, bOf, walkOn}
 use Rattle.walk.specs.Page.{lineOf, by-parts}
-use Rattle.walk.specs.Lent.{Reached, walkedOf}
+use Rattle.walk.specs.Lent.{Reached}
 use Rattle.walk.specs.Step.{Boxed, Within, zAt, tileIn, stepOf}
 use Rattle.walk.specs.declared.kinds.Walk.{Walk}
-use Rattle.walk.specs.declared.kinds.Walked.the-variants.{Line}
-use Rattle.walk.specs.declared.step.Step.{Step}
 use Rattle.walk.specs.declared.step.Step.the-variants.{Tile}
 use Rattle.walk.proofs.AroundLaws.{ends-ordered}
 use Rattle.walk.proofs.Counts.{ends-scaled}
@@ -113,7 +111,7 @@ module _ (p0 p1 : Vec2) (b : Path) (k : Boxed b) (x y : ℕ) (w : Within b x y) 
       z-none a (bOf (slopeOf s0 s1) s0) (small-finite a 1048577 (a-small s0 s1 x y ends ordered (countsOf s0 s1) (bOf (slopeOf s0 s1) s0)))
       (b-starts s0 s1 (checked .0) (checked .1) ordered)
 
-  z-fit : T (lib.Ieee.fits binary32 z)
+  z-fit : T (fits binary32 z)
   z-fit = z-fits a (bOf (slopeOf s0 s1) s0) (float 0)
 
   on-falls : stepOf (walkOn (endsOf p0 p1) .pace) b 0 ≡ Tile (tileNoOf (tileOf b x y)) x y (zAt (walkOn (endsOf p0 p1) .pace .a) (walkOn (endsOf p0 p1) .pace .b) (float 0))
@@ -160,10 +158,10 @@ held-real tx ty g q h =
     (between-real tx g (c .0), between-real ty q (d .0))
 
 -- both ends of a stretch, by the bits of the guess
-ends-off : (u v t : Float) (n : ℕ) → T (lib.Ieee.fits binary32 u) → T (lib.Ieee.fits binary32 v) → T (lib.Ieee.fits binary32 t) → lib.Ieee.toBits binary32 t ≡ Rattle.whole.specs.Bits.zeroBits + n → n < 2 ^ 20
+ends-off : (u v t : Float) (n : ℕ) → T (fits binary32 u) → T (fits binary32 v) → T (fits binary32 t) → toBits binary32 t ≡ zeroBits + n → n < 2 ^ 20
     → betweenOf t (stretchOf u v) ≡ true → Off u n × Off v n
 ends-off u v t n f g k e l h =
-    let c = both (lt (sub binary32 t shift) (cond (lt v u) v u)) (lt (cond (lt v u) u v) (add binary32 (sub binary32 t shift) Rattle.util.specs.Constants.one)) h in
+    let c = both (lt (sub binary32 t shift) (cond (lt v u) v u)) (lt (cond (lt v u) u v) (add binary32 (sub binary32 t shift) one)) h in
     both-off u v n f g (omega arith)
     (subst (λ (y : Float). lt y (cond (lt v u) v u) ≡ true) (guess-is t n k e l) (c .0))
     (subst (λ (y : Float). lt (cond (lt v u) u v) y ≡ true) (guess-next t n k e l) (c .1))

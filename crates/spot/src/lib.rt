@@ -13,7 +13,8 @@ use walk::step::tile_at;
 use whole::SHIFT;
 use whole::ZERO;
 
-// A line that is shorter than that, in tiles, across and down together, is left to `walk`: 1 divided by that is no infinity.
+// 2^-20. A line that is shorter, in tiles, across and down together, is left to `walk`; 1 divided by a longer one's length
+// is far from an infinity.
 const SHORT: f32 = 9.5367431640625e-7;
 
 // The tile by its number, its column and its row; or a line to be looked at in another way.
@@ -28,18 +29,22 @@ struct Stretch {
     most: f32,
 }
 
-// A guess at the floor of s, with SHIFT added: what follows tries it.
+// A guess at the floor of s, with SHIFT added, where the floats are the whole numbers: what follows tries it.
 fn shifted(s: f32) -> f32
     ensures { λ r. ⌜ r ≡ shiftedOf s ⌝ }
 {
     s - 0.5 + SHIFT
 }
 
+// Which of the two is the smaller can't be foretold: no branch.
 fn stretch_of(u: f32, v: f32) -> Stretch
     ensures { λ r. ⌜ r ≡ stretchOf u v ⌝ }
 {
     let turned = v < u;
-    Stretch { least: pick(turned, v, u), most: pick(turned, u, v) }
+    Stretch {
+        least: pick(turned, v, u),
+        most: pick(turned, u, v),
+    }
 }
 
 // Whether both ends lie strictly between the guess and one more.
@@ -50,19 +55,21 @@ fn between(t: f32, g: Stretch) -> bool
     (low < g.least) & (g.most < low + 1.0)
 }
 
+// Whether the line is long enough, across and down together.
 fn long(g: Stretch, h: Stretch) -> bool
     ensures { λ r. ⌜ r ≡ longOf g h ⌝ }
 {
     SHORT <= g.most - g.least + (h.most - h.least)
 }
 
+// All tests of the two ends, with no branch between them.
 fn held(tx: f32, ty: f32, across: Stretch, down: Stretch) -> bool
     ensures { λ r. ⌜ r ≡ heldOf tx ty across down ⌝ }
 {
     between(tx, across) & (between(ty, down) & long(across, down))
 }
 
-// The tile by the guesses, where they are in the box.
+// The tile by the guesses, where it is in the box.
 fn tile_by(tx: f32, ty: f32, b: Path) -> Spot
     requires { ⌜ Boxed b × Real tx × Real ty ⌝ }
     ensures { λ r. ⌜ AtMet tx ty b r ⌝ }
@@ -77,6 +84,7 @@ fn tile_by(tx: f32, ty: f32, b: Path) -> Spot
     Spot::In(tile_at(b, col, row), col, row)
 }
 
+// The tile that the line from p0 to p1 lies in, where it lies in one of the box b.
 pub fn spot_of(p0: Vec2, p1: Vec2, b: Path) -> Spot
     requires { ⌜ Boxed b ⌝ }
     ensures { λ r. ⌜ SpotMet p0 p1 b r ⌝ }

@@ -1,3 +1,4 @@
+-- `spot::held` meets its contract. Assumes nothing.
 use borrow.Author.Needs.{needs}
 use Rattle.spot.proofs.held.Statement.{statement}
 use Rattle.spot.proofs.held.Tie as tie
@@ -6,19 +7,15 @@ use Rattle.spot.proofs.held.Lts as lts
 use Rattle.spot.proofs.between.Reads as between-reads
 use Rattle.spot.proofs.long.Reads as long-reads
 
--- src/lib.rt:62:5
 between-requires : tie.Need-between-requires
 between-requires c κs = search needs
 
--- src/lib.rt:62:28
 between-requires-2 : tie.Need-between-requires-2
 between-requires-2 c κs = search needs
 
--- src/lib.rt:62:48
 long-requires : tie.Need-long-requires
 long-requires c κs = search needs
 
--- src/lib.rt:59:1
 returns : tie.Need-returns
 returns c = cc
 

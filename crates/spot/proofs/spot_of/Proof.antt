@@ -1,6 +1,6 @@
 -- `spot::spot_of` meets its contract: what passes the tests lies within one tile (`Spots.antt`). Assumes nothing.
 use borrow.Author.Needs.{needs}
-use mathlib.Core.Path.{_≡_, sym, ap, _∙_}
+use mathlib.Core.Path.{_≡_, sym, _∙_}
 use mathlib.Core.Bool.{true}
 use borrow.Author.Tests.{not-false}
 use Rattle.spot.specs.Tests.{heldOf}
@@ -54,10 +54,13 @@ returns-2 : tie.Need-returns-2
 returns-2 c =
     let d = c .before in
     let s = d .before .before .before .before .before .before .before .before in
-    spot-met (s .args .p0) (s .args .p1) (s .args .b) (s .pre)
-    (rw (d .before .before .before .stretch-of .ensures, d .before .before .stretch-of2 .ensures, d .before .before .before .before .before .shifted .ensures, d .before .before .before .before .shifted2 .ensures, d .before .before .before .before .before .before .before .scale .ensures, d .before .before .before .before .before .before .scale2 .ensures) at (passed d))
-    (c .tile-by .result)
-    (rw (d .before .before .before .before .before .shifted .ensures, d .before .before .before .before .shifted2 .ensures, d .before .before .before .before .before .before .before .scale .ensures) at (c .tile-by .ensures))
+    let a = d .before .before .before .before .before .before .before .scale .ensures in
+    let z = d .before .before .before .before .before .before .scale2 .ensures in
+    let tx = d .before .before .before .before .before .shifted .ensures in
+    let ty = d .before .before .before .before .shifted2 .ensures in
+    let g = d .before .before .before .stretch-of .ensures in
+    let h = d .before .before .stretch-of2 .ensures in
+    spot-met (s .args .p0) (s .args .p1) (s .args .b) (s .pre) (rw (g, h, tx, ty, a, z) at (passed d)) (c .tile-by .result) (rw (tx, ty, a) at (c .tile-by .ensures))
 
 pub spot-of-spec : {M : Type 1} → statement M
 spot-of-spec =
