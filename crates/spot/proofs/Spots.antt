@@ -153,9 +153,9 @@ between-real (fin s m e) g h = tt
 
 pub held-real : (tx ty : Float) (g q : Stretch) → heldOf tx ty g q ≡ true → Real tx × Real ty
 held-real tx ty g q h =
-    let c = both (betweenOf tx g) (betweenOf ty q && longOf g q) h in
-    let d = both (betweenOf ty q) (longOf g q) (c .1) in
-    (between-real tx g (c .0), between-real ty q (d .0))
+    let c = both (betweenOf tx g && betweenOf ty q) (longOf g q) h in
+    let d = both (betweenOf tx g) (betweenOf ty q) (c .0) in
+    (between-real tx g (d .0), between-real ty q (d .1))
 
 -- both ends of a stretch, by the bits of the guess
 ends-off : (u v t : Float) (n : ℕ) → T (fits binary32 u) → T (fits binary32 v) → T (fits binary32 t) → toBits binary32 t ≡ zeroBits + n → n < 2 ^ 20
@@ -183,12 +183,12 @@ module _ (p0 p1 : Vec2) (b : Path) (k : Boxed b) where
   spotted h x y d =
       let g = stretchOf (u .x) (v .x) in
       let q = stretchOf (u .y) (v .y) in
-      let c = both (betweenOf tx g) (betweenOf ty q && longOf g q) h in
-      let e = both (betweenOf ty q) (longOf g q) (c .1) in
+      let c = both (betweenOf tx g && betweenOf ty q) (longOf g q) h in
+      let e = both (betweenOf tx g) (betweenOf ty q) (c .0) in
       let ox = ends-off (u .x) (v .x) tx x (mul-fits binary32 (p0 .x) tileScale) (mul-fits binary32 (p1 .x) tileScale) (add-fits binary32 _ shift) (d .column)
-      (omega (arith, d .within .col-most, k .wide, small .edge)) (c .0) in
+      (omega (arith, d .within .col-most, k .wide, small .edge)) (e .0) in
       let oy = ends-off (u .y) (v .y) ty y (mul-fits binary32 (p0 .y) tileScale) (mul-fits binary32 (p1 .y) tileScale) (add-fits binary32 _ shift) (d .row)
-      (omega (arith, d .within .row-most, k .high, small .edge)) (e .0) in
+      (omega (arith, d .within .row-most, k .high, small .edge)) (e .1) in
       record {
         start-x = ox .0;
         start-y = oy .0;
@@ -196,7 +196,7 @@ module _ (p0 p1 : Vec2) (b : Path) (k : Boxed b) where
         end-y = oy .1;
         long =
             subst (λ (z : Float). le short (add binary32 (absOf (sub binary32 (v .x) (u .x))) z) ≡ true) (stretch-is (u .y) (v .y) y (oy .0) (oy .1))
-            (subst (λ (z : Float). le short (add binary32 z (sub binary32 (q .most) (q .least))) ≡ true) (stretch-is (u .x) (v .x) x (ox .0) (ox .1)) (e .1));
+            (subst (λ (z : Float). le short (add binary32 z (sub binary32 (q .most) (q .least))) ≡ true) (stretch-is (u .x) (v .x) x (ox .0) (ox .1)) (c .1));
       }
 
   pub spot-met : heldOf tx ty (stretchOf (u .x) (v .x)) (stretchOf (u .y) (v .y)) ≡ true → (r : Spot) → AtMet tx ty b r → SpotMet p0 p1 b r

@@ -38,7 +38,7 @@ abbrev pub longOf : Stretch → Stretch → Bool
 longOf g h = le short (add binary32 (sub binary32 (g .most) (g .least)) (sub binary32 (h .most) (h .least)))
 
 abbrev pub heldOf : (tx ty : Float) → Stretch → Stretch → Bool
-heldOf tx ty g h = betweenOf tx g && (betweenOf ty h && longOf g h)
+heldOf tx ty g h = (betweenOf tx g && betweenOf ty h) && longOf g h
 
 -- the tile in column x and row y of the box b is that which tx and ty are above the shift
 pub record At (tx ty : Float) (b : Path) (x y : ℕ) : Type 0 where

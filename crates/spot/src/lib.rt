@@ -66,7 +66,7 @@ fn long(g: Stretch, h: Stretch) -> bool
 fn held(tx: f32, ty: f32, across: Stretch, down: Stretch) -> bool
     ensures { λ r. ⌜ r ≡ heldOf tx ty across down ⌝ }
 {
-    between(tx, across) & (between(ty, down) & long(across, down))
+    between(tx, across) & between(ty, down) & long(across, down)
 }
 
 // The tile by the guesses, where it is in the box.
