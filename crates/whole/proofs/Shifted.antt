@@ -35,7 +35,7 @@ digits-are k h = omega arith
 high : (k : ℕ) → k < 8388608 → 0x4b00_0000 + k < 2147483648
 high k h = omega arith
 
-from-bits : (k : ℕ) → k < 8388608 → ofBits binary32 (0x4b00_0000 + k) ≡ whole false (8388608 + k)
+pub from-bits : (k : ℕ) → k < 8388608 → ofBits binary32 (0x4b00_0000 + k) ≡ whole false (8388608 + k)
 from-bits k h =
     ofBits-is (0x4b00_0000 + k)
     ∙ ap (λ (s : Bool). ofFields binary32 s ((0x4b00_0000 + k) % 2147483648 / 8388608) ((0x4b00_0000 + k) % 8388608)) (lt-leb 2147483648 (0x4b00_0000 + k) (high k h))
