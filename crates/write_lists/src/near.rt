@@ -47,7 +47,7 @@ pub(crate) fn nothing_held() -> Held
     }
 }
 
-// 1 for a path that is kept.
+// 1 for a path that is kept, or for an end that lies so.
 fn one_if(kept: bool) -> usize
     ensures { λ r. ⌜ r ≡ oneIf kept ⌝ }
 {
@@ -61,8 +61,8 @@ fn has_row(p: Path, y: u32) -> bool
     (p.y0 <= y) & (y < p.y1)
 }
 
-// One more than m where a box has one of the columns from .. to. One that ends before them starts
-// before their end too: so one is added for the start, and taken off again for the end.
+// One more than m where a box has one of the columns from .. to. A box that ends before them starts
+// before their end too: so 1 is added for the start, and taken off again for the end.
 fn more_if(m: usize, p: Path, from: u32, to: u32) -> usize
     requires { ⌜ (p .x0 ≤ p .x1) × (from < to) × (m < mostPaths) ⌝ }
     ensures { λ r. ⌜ r ≡ m + oneIf (hasColumns p from to) ⌝ }
