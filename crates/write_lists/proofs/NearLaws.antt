@@ -1,11 +1,11 @@
 -- A path that misses a row, or a block of columns, puts nothing there: so the paths kept put what all of them put. Assumes nothing.
 use mathlib.Core.Path.{_≡_, refl, sym, ap, subst, _∙_}
-use mathlib.Core.Bool.{Bool, true, false, cond, _&&_, and-assoc}
+use mathlib.Core.Bool.{Bool, true, false, cond, _&&_, and-assoc, and-true}
 use mathlib.Core.List.{List, [], _∷_, _++_, append-assoc, append-nil}
 use Prim.Native.Nat.{ℕ, zero, suc, _+_, _-_, _*_, _/_, _%_, _≤_, _<_}
 use native.Mathlib.Nat.{div-add-mod', mod-lt, zero-mod}
 use native.Mathlib.Omega.{arith}
-use borrow.Author.Tests.{lt-ltb, le-ltb, leb-true, ltb-true}
+use borrow.Author.Tests.{lt-ltb, le-ltb, le-leb, lt-leb, leb-true, ltb-true, ltb-false}
 use lib.Dec.{leb, ltb}
 use lib.ListN.{length, getD, take, drop, set, replicate, length-replicate}
 use lib.Seq.{take-suc-set, take-set-le, length-take-le, drop-cons, getD-take, drop-length}
@@ -186,7 +186,7 @@ listed-near s cols t h ns ms ks l =
 
 -- the paths of a call that passed 1 to 4
 pub ready-boxed : (s : Tables) → Ready s → Boxed (s .paths)
-ready-boxed s r = let c = checked (s .paths) (length (s .backdrops)) (r .passed) in record { few = c .few; low = λ p h. c .fits p h .bottom }
+ready-boxed s r = let c = checked (s .paths) (length (s .backdrops)) (r .passed) in record { few = c .few; across = λ p h. c .fits p h .across; low = λ p h. c .fits p h .bottom }
 
 -- from a screen tile to the next one of its row
 pub next-column : (cols t : ℕ) → 0 < cols → 0 < (t + 1) % cols → (t % cols ≡ (t + 1) % cols - 1) × (t / cols ≡ (t + 1) / cols)
@@ -199,6 +199,21 @@ next-column cols t h k =
 pub one-small : (b : Bool) → oneIf b ≤ 1
 one-small true = omega arith
 one-small false = omega arith
+
+-- whether a box has one of the columns, by its start and its end
+pub by-ends : (p : Path) (a b m : ℕ) → p .x0 ≤ p .x1 → a < b → m + oneIf (ltb (p .x0) b) ≡ m + oneIf (hasColumns p a b) + oneIf (leb (p .x1) a)
+by-ends p a b m h k = go (ltb a (p .x1)) refl
+  where
+    go : (v : Bool) → ltb a (p .x1) ≡ v → m + oneIf (ltb (p .x0) b) ≡ m + oneIf (ltb (p .x0) b && ltb a (p .x1)) + oneIf (leb (p .x1) a)
+    go true e =
+        let on : leb (p .x1) a ≡ false = lt-leb (p .x1) a (ltb-true a (p .x1) e) in
+        let both : ltb (p .x0) b && true ≡ ltb (p .x0) b = and-true (ltb (p .x0) b) in
+        rw (e, on, both) (omega arith)
+    go false e =
+        let low = ltb-false a (p .x1) e in
+        let off : leb (p .x1) a ≡ true = le-leb (p .x1) a low in
+        let left : ltb (p .x0) b ≡ true = lt-ltb (p .x0) b (omega (arith, low, h, k)) in
+        rw (e, off, left) (omega arith)
 
 -- ---- one list after another
 
@@ -221,6 +236,18 @@ pub lists-narrow : (ws : List ℕ) (x y k : ℕ) (ns : List ℕ) → 0 < x % nar
 lists-narrow ws x y k ns h l =
     let e : blockStart wideColumns (x - 1) ≡ blockStart wideColumns x = omega (arith, h) in
     record { few = l .few; room = l .room; same = l .same ∙ ap (blockPaths ws narrowColumns (x - 1)) (block-next ws wideColumns x (rowPaths ws y) e) }
+
+-- between the first columns of narrow blocks the lists stay as they are
+pub listed-on : (ws : List ℕ) (x y : ℕ) (h : Held) (ns ms ks : List ℕ) → 0 < x % narrowColumns → Listed ws (x - 1) y h ns ms ks → Listed ws x y h ns ms ks
+listed-on ws x y h ns ms ks k l =
+    let wide : blockStart wideColumns (x - 1) ≡ blockStart wideColumns x = omega (arith, k) in
+    let narrow : blockStart narrowColumns (x - 1) ≡ blockStart narrowColumns x = omega (arith, k) in
+    let n = lists-narrow ws x y (h .narrow) ks k (l .narrow) in
+    record {
+      row = l .row;
+      wide = record { few = l .wide .few; room = l .wide .room; same = l .wide .same ∙ block-next ws wideColumns x (rowPaths ws y) wide };
+      narrow = record { few = n .few; room = n .room; same = n .same ∙ block-next ws narrowColumns x (blockPaths ws wideColumns x (rowPaths ws y)) narrow };
+    }
 
 -- ---- from tile to tile
 

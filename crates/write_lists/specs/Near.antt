@@ -62,9 +62,10 @@ narrowColumns = 8
 
 -- ---- what the writer's functions tell each other
 
--- the paths lent have passed their checks: there are not too many, and no box has a row from the limit on
+-- the paths lent have passed their checks: there are not too many, no box ends left of its start, and none has a row from the limit on
 pub record Boxed (ws : List ℕ) : Type 0 where
   pub few : pathCount ws ≤ mostPaths
+  pub across : (p : ℕ) → p < pathCount ws → pathAt ws p .x0 ≤ pathAt ws p .x1
   pub low : (p : ℕ) → p < pathCount ws → pathAt ws p .y1 ≤ edgeMost
 
 -- the first k numbers there are these paths, and there is room for all

@@ -47,24 +47,29 @@ pub(crate) fn nothing_held() -> Held
     }
 }
 
-// 1 for a path that is kept.
+// 1 for a path that is kept, or for an end that lies so.
 fn one_if(kept: bool) -> usize
     ensures { λ r. ⌜ r ≡ oneIf kept ⌝ }
 {
     if kept { 1 } else { 0 }
 }
 
-// Whether a box has row y, and whether it has one of the columns from .. to.
+// Whether a box has row y.
 fn has_row(p: Path, y: u32) -> bool
     ensures { λ r. ⌜ r ≡ hasRow p y ⌝ }
 {
     (p.y0 <= y) & (y < p.y1)
 }
 
-fn has_columns(p: Path, from: u32, to: u32) -> bool
-    ensures { λ r. ⌜ r ≡ hasColumns p from to ⌝ }
+// One more than m where a box has one of the columns from .. to. A box that ends before them starts
+// before their end too: so 1 is added for the start, and taken off again for the end.
+fn more_if(m: usize, p: Path, from: u32, to: u32) -> usize
+    requires { ⌜ (p .x0 ≤ p .x1) × (from < to) × (m < mostPaths) ⌝ }
+    ensures { λ r. ⌜ r ≡ m + oneIf (hasColumns p from to) ⌝ }
 {
-    (p.x0 < to) & (from < p.x1)
+    let start = one_if(p.x0 < to);
+    let end = one_if(p.x1 <= from);
+    m + start - end
 }
 
 // The paths whose box has row y: their numbers, and how many.
@@ -86,7 +91,8 @@ fn on_row(paths: &[u32], y: u32, out: &mut [u32]) -> usize
 
 // Of the first n paths listed, the ones whose box has a column from .. to.
 fn on_columns(paths: &[u32], list: &[u32], n: usize, from: u32, to: u32, out: &mut [u32]) -> usize
-    requires { ⌜ (All (λ p. p < pathCount (now paths)) (take n (now list))) × (n ≤ mostPaths) × (length (now list) ≡ mostPaths) × (length (now out) ≡ mostPaths) ⌝ }
+    requires { ⌜ (All (λ p. p < pathCount (now paths)) (take n (now list))) × (n ≤ mostPaths) × (length (now list) ≡ mostPaths) × (length (now out) ≡ mostPaths)
+        × (Boxed (now paths)) × (from < to) ⌝ }
     ensures { λ r. ⌜ Lists r (now (out .exit)) (columnPaths (now (paths .entry)) from to (take n (now (list .entry)))) ⌝ }
 {
     let mut m = 0usize;
@@ -95,7 +101,7 @@ fn on_columns(paths: &[u32], list: &[u32], n: usize, from: u32, to: u32, out: &m
         let p = list[j];
         let b = path_at(paths, p);
         out[m] = p;
-        m += one_if(has_columns(b, from, to));
+        m = more_if(m, b, from, to);
         j += 1;
     }
     m
@@ -126,7 +132,7 @@ fn block_at(
     out: &mut [u32],
 ) -> usize
     requires { ⌜ (All (λ p. p < pathCount (now paths)) (take n (now list))) × (n ≤ mostPaths) × (length (now list) ≡ mostPaths) × (length (now out) ≡ mostPaths)
-        × (0 < size) × (size ≤ mostTiles) × (x < mostTiles) × (0 < x % size → Lists m (now out) (blockPaths (now paths) size x (take n (now list)))) ⌝ }
+        × (0 < size) × (size ≤ mostTiles) × (x < mostTiles) × (0 < x % size → Lists m (now out) (blockPaths (now paths) size x (take n (now list)))) × (Boxed (now paths)) ⌝ }
     ensures { λ r. ⌜ Lists r (now (out .exit)) (blockPaths (now (paths .entry)) size x (take n (now (list .entry)))) ⌝ }
 {
     if x % size != 0 {
@@ -136,7 +142,7 @@ fn block_at(
 }
 
 // The lists for column x of row y, where they are right for the column before.
-pub(crate) fn look(
+fn look_anew(
     paths: &[u32],
     x: u32,
     y: u32,
@@ -157,4 +163,24 @@ pub(crate) fn look(
         wide: b,
         narrow: c,
     }
+}
+
+// The same: they change at the first column of a narrow block alone.
+pub(crate) fn look(
+    paths: &[u32],
+    x: u32,
+    y: u32,
+    held: Held,
+    row: &mut [u32],
+    wide: &mut [u32],
+    narrow: &mut [u32],
+) -> Held
+    requires { ⌜ (Boxed (now paths)) × (length (now row) ≡ mostPaths) × (length (now wide) ≡ mostPaths) × (length (now narrow) ≡ mostPaths) × (x < mostTiles)
+        × (0 < x → Listed (now paths) (x - 1) y held (now row) (now wide) (now narrow)) ⌝ }
+    ensures { λ r. ⌜ Listed (now (paths .entry)) x y r (now (row .exit)) (now (wide .exit)) (now (narrow .exit)) ⌝ }
+{
+    if x % NARROW != 0 {
+        return held;
+    }
+    look_anew(paths, x, y, held, row, wide, narrow)
 }

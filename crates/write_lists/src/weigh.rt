@@ -14,7 +14,7 @@ ghost use Prim.Native.Nat.{_<_, _≤_};
 ghost use lib.ListN.{length, take};
 ghost use Rattle.panel.specs.Limits.{mostPaths};
 ghost use Rattle.commands.specs.Numbers.{tileWords};
-ghost use Rattle.write_lists.specs.Pairs.{tables, tilePairs, putList};
+ghost use Rattle.write_lists.specs.Pairs.{tables, tilePairs};
 ghost use Rattle.write_lists.specs.Lists.{slotsFit};
 ghost use Rattle.write_lists.specs.Near.{Near};
 ghost use Rattle.write_lists.specs.Ready.{Ready, noWeight, weighPair, weighAll};
@@ -65,18 +65,8 @@ fn weigh_pair(w: Weight, room: u32, pair: Pair) -> Weight
     }
 }
 
-// What one path puts there.
-fn weigh_put(w: Weight, room: u32, put: Put) -> Weight
-    requires { ⌜ (w .pairs < mostPaths) × (w .jumps < mostPaths) × (w .left ≤ tileWords) ⌝ }
-    ensures { λ r. ⌜ r ≡ weighAll room (putList put) w ⌝ }
-{
-    match put {
-        Put::Nothing => w,
-        Put::Puts(pair) => weigh_pair(w, room, pair),
-    }
-}
-
-// All that the paths put on screen tile t: n paths are near.
+// All that the paths put on screen tile t: n paths are near. The weight so far is left alone where a
+// path puts nothing there: to give it back as it is, from a function, would copy it at each path.
 pub(crate) fn weigh(
     paths: &[u32],
     paints: &[u32],
@@ -104,7 +94,9 @@ pub(crate) fn weigh(
     let mut j = 0usize;
     while j < n {
         let put = on_path(paths, paints, backdrops, stored, tally, x, y, near[j]);
-        w = weigh_put(w, room, put);
+        if let Put::Puts(pair) = put {
+            w = weigh_pair(w, room, pair);
+        }
         j += 1;
     }
     w

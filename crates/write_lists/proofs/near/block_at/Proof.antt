@@ -21,7 +21,7 @@ add-on-columns c = record { fits = omega (arith, c .before .before .before .befo
 on-columns-requires : tie.Need-on-columns-requires
 on-columns-requires c κs =
     let s = c .before .before .before .before .before in
-    (s .pre .0, s .pre .1, s .pre .2, s .pre .3)
+    (s .pre .0, s .pre .1, s .pre .2, s .pre .3, s .pre .8, omega (arith, s .pre .4))
 
 same-length : tie.Need-same-length
 same-length c = search needs

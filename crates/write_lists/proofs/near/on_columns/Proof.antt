@@ -1,6 +1,6 @@
 -- `write_lists::near::on_columns` meets its contract. The loop's invariant: those kept, and those to be kept of the paths left, are those of the
 -- columns. Assumes nothing.
-use mathlib.Core.Path.{_≡_, refl, sym, ap, _∙_}
+use mathlib.Core.Path.{_≡_, refl, sym, ap, subst, _∙_}
 use mathlib.Core.List.{List, _∷_, _++_}
 use mathlib.Core.Bool.{Bool}
 use Prim.Native.Nat.{ℕ, _+_, _-_, _≤_, _<_}
@@ -51,61 +51,43 @@ slice-write-out c =
     let t = c .before .before .before in
     omega (arith, t .loop .inv .1, t .loop .inv .2, c .before .before .loop-test .taken, s .pre .1, s .pre .3)
 
-has-columns-requires : tie.Need-has-columns-requires Inv-loop μ-loop
-has-columns-requires c κs = search needs
-
-one-if-requires : tie.Need-one-if-requires Inv-loop μ-loop
-one-if-requires c κs = search needs
-
-add-m : tie.Need-add-m Inv-loop μ-loop
-add-m c =
-    let l = c .before .before .before .before .before .loop in
-    record {
-      fits = omega (
-        arith,
-        l .inv .1,
-        c .before .before .before .before .loop-test .taken,
-        c .before .before .before .before .before .before .before .before .before .pre .1,
-        small .paths,
-        c .one-if .ensures,
-        one-small
-            (c .before .has-columns .result),
-      );
-    }
+more-if-requires : tie.Need-more-if-requires Inv-loop μ-loop
+more-if-requires c κs =
+    let s = c .before .before .before .before .before .before .before in
+    let a = s .args in
+    let l = c .before .before .before .loop in
+    let there = list-there (a .list .now) (a .n) (l .j) (omega (arith, s .pre .1, s .pre .2)) (pathCount (a .paths .now)) (s .pre .0) (c .before .before .loop-test .taken) in (
+      subst (λ (q : Path). q .x0 ≤ q .x1) (sym (c .path-at .ensures)) (s .pre .4 .across (getD (a .list .now) (l .j) 0) there),
+      s .pre .5,
+      omega (arith, l .inv .1, c .before .before .loop-test .taken, s .pre .1),
+    )
 
 add-j : tie.Need-add-j Inv-loop μ-loop
-add-j c = record { fits = omega (arith, c .before .before .before .before .loop-test .taken, c .before .before .before .before .before .before .before .before .before .pre .1, small .paths) }
+add-j c =
+    let s = c .before .before .before .before .before .before .before .before in
+    record { fits = omega (arith, c .before .before .before .loop-test .taken, s .pre .1, small .paths) }
 
 loop-less : tie.Need-loop-less Inv-loop μ-loop
 loop-less c = search needs
 
 loop-again : tie.Need-loop-again Inv-loop μ-loop
 loop-again c =
-    let a = c .before .before .before .before .before .before .before .before .before .args in
-    let l = c .before .before .before .before .before .loop in
+    let s = c .before .before .before .before .before .before .before .before in
+    let a = s .args in
+    let l = c .before .before .before .before .loop in
     let f : ℕ → Bool = λ q. hasColumns (pathAt (a .paths .now) q) (a .from) (a .to) in
     let p = getD (a .list .now) (l .j) 0 in
-    let b = c .before .has-columns .result in
-    let is : b ≡ f p = c .before .has-columns .ensures ∙ ap (λ (q : Path). hasColumns q (a .from) (a .to)) (c .before .before .path-at .ensures) in
-    let there : l .m < length (l .out) = omega (
-      arith,
-      l .inv .1,
-      l .inv .2,
-      c .before .before .before .before .loop-test .taken,
-      c .before .before .before .before .before .before .before .before .before .pre .1,
-      c .before .before .before .before .before .before .before .before .before .pre .3,
-    ) in
+    let b = f p in
+    let is : c .more-if .result ≡ l .m + oneIf b =
+    c .more-if .ensures ∙ ap (λ (q : Path). l .m + oneIf (hasColumns q (a .from) (a .to))) (c .before .path-at .ensures) in
+    let there : l .m < length (l .out) = omega (arith, l .inv .1, l .inv .2, c .before .before .before .loop-test .taken, s .pre .1, s .pre .3) in
     let rest = drop (l .j + 1) (take (a .n) (a .list .now)) in (
-      omega (arith, c .before .before .before .before .loop-test .taken),
-      omega (arith, l .inv .1, c .one-if .ensures, one-small b),
+      omega (arith, c .before .before .before .loop-test .taken),
+      omega (arith, l .inv .1, is, one-small b),
       length-set (l .out) (l .m) p ∙ l .inv .2,
-      ap (λ (k : ℕ). take (l .m + k) (set (l .out) (l .m) p) ++ kept f rest) (c .one-if .ensures) ∙ keep-turn f (l .out) (l .m) p rest b is there
+      ap (λ (k : ℕ). take k (set (l .out) (l .m) p) ++ kept f rest) is ∙ keep-turn f (l .out) (l .m) p rest b refl there
           ∙ ap (λ (ps : List ℕ). take (l .m) (l .out) ++ kept f ps)
-          (sym (list-turn (a .list .now) (a .n) (l .j) (omega (
-            arith,
-            c .before .before .before .before .before .before .before .before .before .pre .1,
-            c .before .before .before .before .before .before .before .before .before .pre .2,
-          )) (c .before .before .before .before .loop-test .taken)))
+          (sym (list-turn (a .list .now) (a .n) (l .j) (omega (arith, s .pre .1, s .pre .2)) (c .before .before .before .loop-test .taken)))
           ∙ l .inv .3,
     )
 
@@ -141,9 +123,7 @@ on-columns-spec =
     path-at-requires
     mul-out
     slice-write-out
-    has-columns-requires
-    one-if-requires
-    add-m
+    more-if-requires
     add-j
     loop-less
     loop-again

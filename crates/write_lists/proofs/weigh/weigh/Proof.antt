@@ -2,6 +2,7 @@
 -- of it. Assumes nothing.
 use mathlib.Core.Path.{_≡_, refl, sym, ap, _∙_}
 use mathlib.Core.List.{List}
+use mathlib.Core.Logic.{⊎-elim}
 use Prim.Native.Nat.{ℕ, _+_, _-_, _%_, _/_, _≤_}
 use native.Mathlib.Omega.{arith}
 use borrow.Author.Needs.{needs}
@@ -11,6 +12,7 @@ use Rattle.panel.proofs.LimitLaws.{small}
 use Rattle.write_lists.specs.Pairs.{tables, pairsOf, putList}
 use Rattle.write_lists.specs.Ready.{noWeight, weighAll}
 use Rattle.write_lists.specs.declared.pairs.Pair.{Pair}
+use Rattle.write_lists.specs.declared.pairs.Put.{Put}
 use Rattle.write_lists.proofs.WeighLaws.{Light, put-light, weigh-next}
 use Rattle.write_lists.proofs.NearLaws.{list-turn, list-there, list-end}
 use Rattle.write_lists.proofs.weigh.weigh.Statement.{statement}
@@ -31,8 +33,8 @@ rem-x c = search needs
 div-y : tie.Need-div-y Inv-loop μ-loop
 div-y c = search needs
 
-sub-t16 : tie.Need-sub-t16 Inv-loop μ-loop
-sub-t16 c = search needs
+sub-t17 : tie.Need-sub-t17 Inv-loop μ-loop
+sub-t17 c = search needs
 
 loop-holds : tie.Need-loop-holds Inv-loop μ-loop
 loop-holds c = (omega arith, record { pairs = omega arith; jumps = omega arith; left = omega arith }, refl)
@@ -60,14 +62,20 @@ on-path-requires c κs =
           (c .before .before .before .before .before .before .before .before .pre .4 .there) (c .before .loop-test .taken),
     )
 
-weigh-put-requires : tie.Need-weigh-put-requires Inv-loop μ-loop
-weigh-put-requires c κs =
-    let g = c .before .before .before .loop .inv .1 in (
-      omega (arith, c .before .before .loop-test .taken, c .before .before .before .before .before .before .before .before .before .pre .2, g .pairs),
-      omega
-          (arith, c .before .before .loop-test .taken, c .before .before .before .before .before .before .before .before .before .pre .2, g .jumps),
-      g .left,
+enum-known-put : tie.Need-enum-known-put Inv-loop μ-loop
+enum-known-put c = search needs
+
+weigh-pair-requires : tie.Need-weigh-pair-requires Inv-loop μ-loop
+weigh-pair-requires c κs =
+    let l = c .before .before .before .before .before .before .loop in
+    let s = c .before .before .before .before .before .before .before .before .before .before .before .before in (
+      omega (arith, c .before .before .before .before .before .loop-test .taken, s .pre .2, l .inv .1 .pairs),
+      omega (arith, c .before .before .before .before .before .loop-test .taken, s .pre .2, l .inv .1 .jumps),
+      l .inv .1 .left,
     )
+
+enum-told : tie.Need-enum-told Inv-loop μ-loop
+enum-told c = search needs
 
 add-j : tie.Need-add-j Inv-loop μ-loop
 add-j c = record { fits = omega (arith, c .before .before .before .loop-test .taken, c .before .before .before .before .before .before .before .before .before .before .pre .2, small .paths) }
@@ -88,11 +96,15 @@ loop-again c =
       arith,
       c .before .before .before .before .before .before .before .before .before .before .pre .2,
       c .before .before .before .before .before .before .before .before .before .before .pre .3,
-    )) (c .before .before .before .loop-test .taken) in (
+    )) (c .before .before .before .loop-test .taken) in
+    let is : c .match .w ≡ weighAll (a .room) (putList put) (l .w) = ⊎-elim
+    (λ q. q .4 ∙ q .3 .ensures ∙ sym (ap (λ (h : Put). weighAll (a .room) (putList h) (l .w)) (q .1 .given .1)))
+    (λ q. q .2 ∙ sym (ap (λ (h : Put). weighAll (a .room) (putList h) (l .w)) (q .1 .given .1)))
+    (c .match .came) in (
       omega (arith, c .before .before .before .loop-test .taken),
-      rw (c .weigh-put .ensures) (put-light (a .room) (l .j) put (l .w) (l .inv .1)),
-      weigh-next s x y (getD (a .near .now) (l .j) 0) rest (drop (l .j) (take (a .n) (a .near .now))) (a .room) (putList put) (l .w) (c .weigh-put .result) e
-          (c .before .on-path .ensures) (c .weigh-put .ensures) ∙ l .inv .2,
+      rw is (put-light (a .room) (l .j) put (l .w) (l .inv .1)),
+      weigh-next s x y (getD (a .near .now) (l .j) 0) rest (drop (l .j) (take (a .n) (a .near .now))) (a .room) (putList put) (l .w) (c .match .w) e
+          (c .before .on-path .ensures) is ∙ l .inv .2,
     )
 
 returns : tie.Need-returns Inv-loop μ-loop
@@ -118,12 +130,14 @@ weigh-spec =
     μ-loop
     rem-x
     div-y
-    sub-t16
+    sub-t17
     loop-holds
     mul-on-path
     shared-slice-read-on-path
     on-path-requires
-    weigh-put-requires
+    enum-known-put
+    weigh-pair-requires
+    enum-told
     add-j
     loop-less
     loop-again
