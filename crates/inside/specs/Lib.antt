@@ -1,0 +1,2 @@
+-- A line inside its path's box. Definitions only.
+pub mod Inside
