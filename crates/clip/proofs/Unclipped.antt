@@ -1,8 +1,8 @@
 -- A walk within its path's box is not clipped: all its steps are left, and no row is marked. Assumes nothing.
-use Prim.Native.Nat.{ℕ, min, max}
+use Prim.Native.Nat.{min, max}
 use native.Mathlib.Omega.{arith}
-use mathlib.Core.Path.{_≡_, refl, sym, ap, _∙_}
-use mathlib.Core.Bool.{Bool, false}
+use mathlib.Core.Path.{_≡_, sym, _∙_}
+use mathlib.Core.Bool.{false}
 use lib.Ieee.{lt}
 use Rattle.float32.specs.Meaning.{minOf, maxOf}
 use Rattle.panel.specs.declared.kinds.Path.{Path}

@@ -11,8 +11,8 @@ use Rattle.inside.specs.declared.Inside.{Inside}
 use Rattle.inside.specs.declared.Inside.the-variants.{In, Other}
 
 -- both ends lie within the edges; a line along the right edge, or from the bottom edge on, does not
-unfoldable pub heldOf : Vec2 → Vec2 → Edges → Bool
-heldOf s0 s1 g =
+unfoldable pub inEdgesOf : Vec2 → Vec2 → Edges → Bool
+inEdgesOf s0 s1 g =
     let left = leastOf (s0 .x) (s1 .x) in
     let right = lastOf (s0 .x) (s1 .x) in
     ((le (g .left) left && lt left (g .right)) && le right (g .right))

@@ -10,7 +10,7 @@ ghost use Rattle.panel.specs.Lines.{lineAt};
 ghost use Rattle.walk.specs.Setup.{Scaled, endsOf};
 ghost use Rattle.walk.specs.Step.{Boxed};
 ghost use Rattle.inside.specs.Inside.{InsideMet};
-ghost use Rattle.inside.specs.Stages.{heldOf, pacedOf};
+ghost use Rattle.inside.specs.Stages.{inEdgesOf, pacedOf};
 use float32::pick;
 use panel::kinds::Path;
 use panel::lines::line_at;
@@ -41,12 +41,13 @@ struct Tiled {
 
 // How far a line's second point is from its first, in floats, where t is true.
 fn far_if(t: bool) -> usize
-    ensures { λ r. ⌜ r ≡ cond t 2 0 ⌝ }
+    ensures { λ r. ⌜ (r ≡ cond t 2 0) × (r ≤ 2) ⌝ }
 {
     if t { 2 } else { 0 }
 }
 
-// The ends of the line at a place. Which is the upper one can't be foretold, so its floats are found by their place, with no branch.
+// The ends of the line at a place. Which is the upper one can't be foretold, so its floats are found by their place, with
+// no branch.
 fn ends_at(coords: &[f32], place: u32) -> Tiled
     requires { ⌜ place * lineFloats + lineFloats ≤ length (now coords) ⌝ }
     ensures { λ r. ⌜ (r .s0 ≡ endsOf (lineAt (now (coords .entry)) place .p0) (lineAt (now (coords .entry)) place .p1) .s0)
@@ -68,8 +69,8 @@ fn ends_at(coords: &[f32], place: u32) -> Tiled
 }
 
 // Whether both ends lie within a box's edges.
-fn held(s0: Vec2, s1: Vec2, g: Edges) -> bool
-    ensures { λ r. ⌜ r ≡ heldOf s0 s1 g ⌝ }
+fn in_edges(s0: Vec2, s1: Vec2, g: Edges) -> bool
+    ensures { λ r. ⌜ r ≡ inEdgesOf s0 s1 g ⌝ }
 {
     let left = pick(s1.x < s0.x, s1.x, s0.x);
     let right = pick(s0.x < s1.x, s1.x, s0.x);
@@ -113,7 +114,7 @@ pub fn inside_at(coords: &[f32], place: u32, b: Path) -> Inside
     let line = line_at(coords, place);
     let t = ends_at(coords, place);
     let g = edges_of(b);
-    if !(reached(line.p0, line.p1) & held(t.s0, t.s1, g)) {
+    if !(reached(line.p0, line.p1) & in_edges(t.s0, t.s1, g)) {
         return Inside::Other;
     }
     paced(t.s0, t.s1)
