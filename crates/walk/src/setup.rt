@@ -77,7 +77,7 @@ fn span(low: f32, high: f32) -> u32
 }
 
 // Whether a line has no length, or lies along tiles' edges; `top` is the row that s0 is in.
-fn flat(s0: Vec2, s1: Vec2, top: f32) -> bool
+pub fn flat(s0: Vec2, s1: Vec2, top: f32) -> bool
     requires { ⌜ top ≡ floorOf (s0 .y) ⌝ }
     ensures { λ r. ⌜ r ≡ flatOf s0 s1 ⌝ }
 {
@@ -100,7 +100,7 @@ fn past(s0: Vec2, s1: Vec2, b: Path) -> bool
 }
 
 // How many steps the walk has, by the edges of the columns and the rows that the line is in.
-fn count_steps(left: f32, right: f32, top: f32, bottom: f32) -> Counts
+pub fn count_steps(left: f32, right: f32, top: f32, bottom: f32) -> Counts
     requires { ⌜ Spans left right × Spans top bottom ⌝ }
     ensures { λ r. ⌜ r ≡ countsBy left right top bottom ⌝ }
 {
@@ -111,7 +111,7 @@ fn count_steps(left: f32, right: f32, top: f32, bottom: f32) -> Counts
 
 // What a and b are made of, by the same edges: the first column starts at the left one, or at the right
 // one turned. What is added for x0, 0 or -1, is no branch, since x falls as often as it rises.
-fn incline(s0: Vec2, s1: Vec2, left: f32, right: f32, top: f32, bottom: f32) -> Slope
+pub fn incline(s0: Vec2, s1: Vec2, left: f32, right: f32, top: f32, bottom: f32) -> Slope
     requires { ⌜ Around s0 s1 left right top bottom ⌝ }
     ensures { λ r. ⌜ r ≡ slopeOf s0 s1 ⌝ }
 {
@@ -138,7 +138,7 @@ fn incline(s0: Vec2, s1: Vec2, left: f32, right: f32, top: f32, bottom: f32) -> 
 }
 
 // a, by a branch, since the move by ROBUST_EPSILON is rare.
-fn rise(m: Slope, k: Counts, b: f32) -> f32
+pub fn rise(m: Slope, k: Counts, b: f32) -> f32
     requires { ⌜ (k .«count_x» ≤ 2 ^ 24) × (k .count ≤ 2 ^ 24) ⌝ }
     ensures { λ r. ⌜ r ≡ aOf m k b ⌝ }
 {
