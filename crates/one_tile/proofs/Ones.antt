@@ -3,23 +3,21 @@
 use mathlib.Core.Path.{_≡_, refl, sym, ap, _∙_, subst}
 use mathlib.Core.Bool.{Bool, true, false, _||_, false≢true}
 use mathlib.Core.List.{List}
-use Prim.Native.Nat.{ℕ, _+_, _*_, _/_, _<_, _≤_}
+use Prim.Native.Nat.{ℕ, _/_, _<_}
 use native.Mathlib.Omega.{arith}
 use lib.Dec.{leb}
 use lib.ListN.{length, getD}
 use lib.Ieee.{Float}
 use borrow.Author.Tests.{leb-false}
-use Rattle.panel.specs.Kinds.{tileNoOf}
 use Rattle.panel.specs.Limits.{mostCount, mostSlots}
 use Rattle.panel.specs.Lines.{lineAt}
 use Rattle.panel.specs.declared.lines.LineEnds.{LineEnds}
-use Rattle.panel.specs.Paths.{pathAt, pathCount, pathsAnswer, tileOf, endOf}
+use Rattle.panel.specs.Paths.{pathAt, pathCount, pathsAnswer, tileOf}
 use Rattle.panel.specs.Widths.{refWords}
 use Rattle.panel.specs.declared.kinds.Answer.the-variants.{Done}
 use Rattle.panel.specs.declared.kinds.Path.{Path}
 use Rattle.panel.specs.declared.kinds.TileNo.{TileNo}
-use Rattle.panel.proofs.PathLaws.{Fits, checked}
-use Rattle.walk.specs.Lent.{walkAt}
+use Rattle.panel.proofs.PathLaws.{checked}
 use Rattle.walk.specs.Num.{float}
 use Rattle.walk.specs.Page.{lineOf}
 use Rattle.walk.specs.Step.{zAt}
@@ -27,7 +25,7 @@ use Rattle.walk.specs.declared.kinds.Walked.the-variants.{Line}
 use Rattle.walk.specs.declared.step.Step.the-variants.{Tile}
 use Rattle.walk.proofs.Boxes.{fits-boxed, tile-below}
 use Rattle.walk.proofs.Lines.{goes}
-use Rattle.spot.specs.Spot.{SpotMet, OneTile}
+use Rattle.spot.specs.Spot.{SpotMet}
 use Rattle.spot.specs.declared.Spot.{Spot}
 use Rattle.spot.specs.declared.Spot.the-variants.{In as SpotIn, Other as SpotOther}
 use Rattle.one_tile.specs.One.{Boxes, SpotAt, Alone}

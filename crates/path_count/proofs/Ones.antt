@@ -1,11 +1,11 @@
 -- A line that lies within one tile: its acts are one visit, so that visit is its outcome.
 -- Assumes nothing.
 use mathlib.Core.Path.{_≡_, refl, sym, ap, _∙_}
-use mathlib.Core.Bool.{Bool, true, false, cond, not, _&&_, _||_}
-use mathlib.Core.List.{List, [], _∷_, _++_}
-use Prim.Native.Nat.{ℕ, _+_, _-_, _*_, _/_, _<_, _≤_}
+use mathlib.Core.Bool.{Bool, false, not, _&&_, _||_}
+use mathlib.Core.List.{List, [], _∷_}
+use Prim.Native.Nat.{ℕ, _+_, _-_, _/_, _<_}
 use native.Mathlib.Omega.{arith}
-use lib.Dec.{eqb, ltb}
+use lib.Dec.{ltb}
 use lib.ListN.{length, getD, set}
 use lib.IntN.{ℤ}
 use lib.Ieee.{Float}
@@ -13,14 +13,14 @@ use borrow.Author.Tests.{lt-ltb, le-ltb}
 use Rattle.lists.specs.Run.{Step, done}
 use Rattle.panel.specs.Limits.{mostLines, mostSteps, mostSlots, mostCount}
 use Rattle.panel.specs.Refs.{packed, putRef}
-use Rattle.panel.specs.Widths.{refWords, stepRange}
+use Rattle.panel.specs.Widths.{refWords}
 use Rattle.panel.specs.declared.kinds.Path.{Path}
 use Rattle.panel.specs.declared.kinds.TileNo.{TileNo}
 use Rattle.walk.specs.Step.{lastZ}
 use Rattle.walk.specs.declared.kinds.Pace.{Pace}
 use Rattle.clip.specs.declared.Clip.{Clip}
 use Rattle.one_tile.specs.One.{Alone}
-use Rattle.acts.specs.Acts.{St, stOf, Act, visit, Hit, on, stepsActs, rowActs, visited, runActs, deltaOf}
+use Rattle.acts.specs.Acts.{St, stOf, Act, visit, Hit, on, stepsActs, visited, runActs, deltaOf}
 use Rattle.acts.specs.Line.{planActs}
 use Rattle.acts.proofs.Laws.{rows-end}
 use Rattle.path_count.specs.Steps.{hitAt}
@@ -49,11 +49,6 @@ near = refl
 
 roomy : (room made : ℕ) → made < room → made < mostSlots → (ltb room (made + (1 - 0)) || ltb mostSlots (made + (1 - 0))) ≡ false
 roomy room made h k = rw (le-ltb room (made + 1) (omega arith), le-ltb mostSlots (made + 1) (omega arith))
-
--- a reference holds step number 0
-pub first-step : 0 < stepRange
-unfolding stepRange
-first-step = omega arith
 
 -- the line's outcome, where its tile is visited at step 0 as reference number made
 pub line-one : (nos : List ℕ) (coords : List Float) (paths : List ℕ) (l k made : ℕ) (bs : List ℤ) (cs rs cs′ rs′ : List ℕ) (t : TileNo)

@@ -1,6 +1,6 @@
 -- `one_tile::one_at` meets its contract.
 -- Assumes nothing.
-use mathlib.Core.Path.{_≡_, subst}
+use mathlib.Core.Path.{subst}
 use Prim.Native.Nat.{_/_}
 use lib.ListN.{length, getD}
 use borrow.Author.Needs.{needs}

@@ -1,10 +1,9 @@
 -- `one_tile::spot_at` meets its contract.
 -- Assumes nothing.
-use mathlib.Core.Path.{_≡_, sym, subst}
+use mathlib.Core.Path.{sym, subst}
 use native.Mathlib.Omega.{arith}
 use lib.ListN.{getD}
 use borrow.Author.Needs.{needs}
-use Rattle.panel.specs.declared.kinds.Path.{Path}
 use Rattle.walk.specs.Step.{Boxed}
 use Rattle.one_tile.proofs.Ones.{met}
 use Rattle.one_tile.proofs.spot_at.Statement.{statement}

@@ -1,6 +1,6 @@
 -- `path_count::line::count_noted` meets its contract.
 -- Assumes nothing.
-use mathlib.Core.Path.{_≡_, refl, sym, ap, _∙_, subst}
+use mathlib.Core.Path.{_≡_, sym, ap, _∙_, subst}
 use mathlib.Core.Logic.{⊎-elim}
 use mathlib.Core.List.{[], _∷_}
 use Prim.Native.Nat.{ℕ, _/_}
@@ -10,7 +10,7 @@ use denote.Enum.Declared.{tagOf}
 use types.Run.{OneOf}
 use borrow.Author.Needs.{needs}
 use Rattle.lists.specs.Run.{Step}
-use Rattle.panel.specs.Widths.{refWords}
+use Rattle.panel.specs.Widths.{refWords, stepRange}
 use Rattle.walk.specs.Lent.{walkAt}
 use Rattle.walk.specs.declared.kinds.Walked.{Walked}
 use Rattle.walk.specs.declared.kinds.Walked.the-variants.{Refused as WalkRefused, Skipped, Line}
@@ -20,7 +20,7 @@ use Rattle.one_tile.specs.declared.One.{One}
 use Rattle.acts.specs.Acts.{St, stOf}
 use Rattle.path_count.specs.Count.{lineRan}
 use Rattle.path_count.proofs.Lines.{on-tiles, walkable, line-over, line-walked}
-use Rattle.path_count.proofs.Ones.{first-step, line-one}
+use Rattle.path_count.proofs.Ones.{line-one}
 use Rattle.path_count.proofs.Batches.{NoWalk, line-unwalked}
 use Rattle.path_count.proofs.line.count_noted.Statement.{statement}
 use Rattle.path_count.proofs.line.count_noted.Tie as tie
@@ -55,7 +55,8 @@ alone c =
     (length (s .args .refs .now)) r) (c .one .given .1) (c .before .before .one-at .ensures)
 
 visit-requires : tie.Need-visit-requires
-visit-requires c κs = let a = alone (c .before .before .before) in (a .lent, a .room, a .free, first-step, a .few)
+unfolding stepRange
+visit-requires c κs = let a = alone (c .before .before .before) in (a .lent, a .room, a .free, omega arith, a .few)
 
 same-length : tie.Need-same-length
 same-length c = search needs
