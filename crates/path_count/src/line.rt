@@ -22,9 +22,12 @@ use super::writes::write_notes;
 use super::writes::write_steps;
 use acts::Rows;
 use acts::check_rows;
+use acts::visit;
 use acts::write_rows;
 use clip::Clip;
 use clip::clip_to;
+use one_tile::One;
+use one_tile::one_at;
 use panel::kinds::LineNo;
 use panel::kinds::Path;
 use panel::kinds::Verdict;
@@ -245,6 +248,11 @@ pub fn count_noted(
 {
     if line.0 >= MOST_LINES {
         return Tallied::Against(LINE_NUMBER);
+    }
+    let one = one_at(place, made, path_nos, coords, paths, counts, refs);
+    if let One::In(tile) = one {
+        visit(tile, line, 0, made, counts, refs);
+        return Tallied::On(1);
     }
     let walked = walk_at(path_nos, coords, paths, place);
     let Walked::Line(walk, path) = walked else {
