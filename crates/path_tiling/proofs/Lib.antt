@@ -3,6 +3,7 @@ pub mod LookLaws
 pub mod PutLaws
 pub mod BeamLaws
 pub mod RangeLaws
+pub mod OneLaws
 pub mod RunLaws
 pub mod CallLaws
 pub mod WriteLaws

@@ -1,6 +1,7 @@
 // A segment for each reference of a range, written at its slot, with its tag beside it: path_tiling.rs.
 // docs/RULES.md, tiling's part of "When the panel says no".
 mod beams;
+mod one;
 pub mod look;
 
 ghost use mathlib.Core.Path.{_≡_};
