@@ -15,22 +15,35 @@ use Rattle.util.specs.Constants.{zero, noEdge}
 use Rattle.util.specs.Vec.{subOf}
 use Rattle.util.specs.declared.Vec2.{Vec2}
 use Rattle.panel.specs.Kinds.{slotNoOf, tileNoOf}
-use Rattle.panel.specs.Paths.{pathAt, pathCount, tileOf, beamAt}
+use Rattle.panel.specs.Limits.{edgeMost}
+use Rattle.panel.specs.Paths.{pathAt, pathCount, endOf, tileOf, beamAt, pathsAnswer}
+use Rattle.panel.specs.Pieces.{Pieces}
 use Rattle.panel.specs.Segments.{heldOf}
 use Rattle.panel.specs.Slots.{skips, slotOf}
+use Rattle.panel.specs.declared.kinds.Answer.the-variants.{Done}
 use Rattle.panel.specs.declared.kinds.Path.{Path}
+use Rattle.panel.specs.declared.kinds.TileNo.{TileNo}
+use Rattle.panel.specs.declared.lines.LineEnds.{LineEnds}
 use Rattle.panel.specs.declared.segments.Segment.{Segment}
-use Rattle.spot.specs.Spot.{OneTile}
+use Rattle.panel.proofs.PathLaws.{checked}
+use Rattle.spot.specs.Spot.{OneTile, SpotMet}
+use Rattle.spot.specs.declared.Spot.{Spot}
+use Rattle.spot.specs.declared.Spot.the-variants.{In}
 use Rattle.walk.specs.Page.{lineOf}
 use Rattle.walk.specs.Lent as Lines
 use Rattle.walk.specs.Lent.{walkAt}
-use Rattle.walk.specs.Step.{zAt, stepOf}
+use Rattle.walk.specs.Step.{Boxed, zAt, stepOf}
+use Rattle.walk.proofs.Boxes.{fits-boxed, tile-below}
 use Rattle.walk.specs.declared.kinds.Walk.{Walk}
 use Rattle.walk.specs.declared.kinds.Walked.the-variants.{Line}
 use Rattle.segment.specs.Clips.{cornerOf, makeOf, edgeOf, offOf, turnOf, firstOf, lastOf, segmentOf, pieceOf}
 use Rattle.segment.specs.declared.Piece.the-variants.{Kept, Crooked}
 use Rattle.path_tiling.specs.Look.{stepNo, sliceNo, pieceTo, wordTo, stepTo, foundTo, foundOf}
-use Rattle.path_tiling.specs.One.{Comes}
+use Rattle.path_tiling.specs.One.{Comes, PieceMet, ShortMet, PutMet, TookMet}
+use Rattle.path_tiling.specs.declared.one.Short.{Short}
+use Rattle.path_tiling.specs.declared.one.Short.the-variants as Short
+use Rattle.path_tiling.specs.declared.one.Within.{Within}
+use Rattle.path_tiling.specs.declared.one.Within.the-variants as One
 use Rattle.path_tiling.specs.declared.look.Look.the-variants.{Put}
 
 -- ---- the segment
@@ -110,11 +123,37 @@ pub comes : (ns : List ℕ) (cs : List Float) (ps stored : List ℕ) (l x y : �
     → Comes ns cs ps stored l s (getD stored (tileOf (pathAt ps (getD ns l 0)) x y) 0) (beamAt ps (getD ns l 0))
 comes ns cs ps stored l x y s h g o piece =
     record {
-      tag = refl;
+      tagged = refl;
       look =
       λ slots packed e. ap (foundTo stored slots packed) (line-found ns cs ps l x y h g o)
       ∙ step-looks stored slots packed _ _ _ x y s o piece e;
     }
+
+-- the same of what the code has at hand
+pub short-comes : (ns : List ℕ) (cs : List Float) (ps stored : List ℕ) (l : ℕ) (ends : LineEnds) (b : Path) (t : TileNo) (x y : ℕ) (s : Segment) (tag : ℕ)
+    → ends ≡ Lines.lineAt cs l → b ≡ pathAt ps (getD ns l 0) → l < length ns → getD ns l 0 < pathCount ps
+    → (t ≡ tileNoOf (tileOf b x y)) × OneTile (ends .p0) (ends .p1) b x y
+    → ((z : Float) → lineOf (ends .p0) (ends .p1) .k .count ≡ 1 → pieceOf (lineOf (ends .p0) (ends .p1)) 0 z x y ≡ Kept s)
+    → tag ≡ beamAt ps (getD ns l 0) → Comes ns cs ps stored l s (getD stored (t .0) 0) tag
+short-comes ns cs ps stored l ends b t x y s tag e f h g o piece tagged =
+    rw (o .0, f, tagged) (comes ns cs ps stored l x y s h g (rw (e, f) at (o .1)) (rw e at piece))
+
+pub path-boxed : (ps : List ℕ) (n p : ℕ) → pathsAnswer ps n ≡ Done → p < pathCount ps → Boxed (pathAt ps p) × (endOf (pathAt ps p) ≤ n)
+path-boxed ps n p e h = let c = checked ps n e in (fits-boxed (pathAt ps p) n (c .tiled) (c .fits p h), c .fits p h .within)
+
+pub spot-in : {p0 p1 : Vec2} {b : Path} {r : Spot} {t : TileNo} {x y : ℕ} → r ≡ In t x y → SpotMet p0 p1 b r → (t ≡ tileNoOf (tileOf b x y)) × OneTile p0 p1 b x y
+spot-in e h = rw e at h
+
+pub spot-fits : (p0 p1 : Vec2) (b : Path) (t : TileNo) (x y n : ℕ) → Boxed b × (endOf b ≤ n) → (t ≡ tileNoOf (tileOf b x y)) × OneTile p0 p1 b x y
+    → (t .0 < n) × (x ≤ edgeMost) × (y ≤ edgeMost)
+spot-fits p0 p1 b t x y n h o =
+    let w = o .1 .within in
+    let same : t .0 ≡ tileOf b x y = ap (λ (u : TileNo). u .0) (o .0) in
+    (omega (arith, same, tile-below b x y w .1, h .1), omega (arith, w .col-most, h .0 .wide), omega (arith, w .row-most, h .0 .high))
+
+pub piece-kept : (p0 p1 : Vec2) (x y : ℕ) {r : Within} {s : Segment} → r ≡ One.Kept s → PieceMet p0 p1 x y r
+    → (z : Float) → lineOf p0 p1 .k .count ≡ 1 → pieceOf (lineOf p0 p1) 0 z x y ≡ Kept s
+piece-kept p0 p1 x y e h = rw e at h
 
 -- ---- a slot that is there
 
@@ -122,3 +161,13 @@ pub put-fine : (slots word slice : ℕ) (s : Segment) → skips word ≡ false �
     → wordTo slots word slice (Kept s) ≡ Put (slotNoOf (slotOf word slice)) s
 unfolding wordTo pieceTo
 put-fine slots word slice s e h = let room : slotOf word slice + 1 ≤ slots = omega arith in rw (e, le-ltb _ _ room) refl
+
+pub short-in : (ns : List ℕ) (cs : List Float) (ps stored : List ℕ) (l : ℕ) {r : Short} {s : Segment} {word tag : ℕ} → r ≡ Short.In s word tag
+    → ShortMet ns cs ps stored l r → Comes ns cs ps stored l s word tag
+short-in ns cs ps stored l e h = rw e at h
+
+pub took : (ns : List ℕ) (cs : List Float) (ps stored : List ℕ) (l : ℕ) (s : Segment) (word tag slots packed : ℕ) (p : Pieces) (v : Bool) (p′ : Pieces)
+    → Comes ns cs ps stored l s word tag → PutMet slots word packed s tag p v p′ → TookMet ns cs ps stored slots l packed p v p′
+took ns cs ps stored l s word tag slots packed p true p′ c h =
+    rw (sym (c .tagged), c .look slots packed (h .0)) (h .1)
+took ns cs ps stored l s word tag slots packed p false p′ c h = h

@@ -28,7 +28,7 @@ PieceMet p0 p1 x y Odd = Unit {0}
 
 -- what a reference to step 0 of line l comes to, by its tile's word; and the line's tag
 pub record Comes (ns : List ℕ) (cs : List Float) (ps stored : List ℕ) (l : ℕ) (s : Segment) (word tag : ℕ) : Type 0 where
-  pub tag : tag ≡ beamAt ps (getD ns l 0)
+  pub tagged : tag ≡ beamAt ps (getD ns l 0)
   pub look : (slots packed : ℕ) → stepNo packed ≡ 0 → foundTo stored slots packed (foundOf ns cs ps l) ≡ wordTo slots word (sliceNo packed) (Piece.Kept s)
 
 abbrev pub ShortMet : (ns : List ℕ) (cs : List Float) (ps stored : List ℕ) (l : ℕ) → Short → Type 0

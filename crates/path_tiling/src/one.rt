@@ -92,7 +92,8 @@ fn short_at(
     let Within::Kept(s) = piece else {
         return Short::Other;
     };
-    Short::In(s, stored[tile.0 as usize], beam_at(paths, path))
+    let word = stored[tile.0 as usize];
+    Short::In(s, word, beam_at(paths, path))
 }
 
 // Its segment and its tag, written for a reference to step 0 whose tile isn't empty and whose slot is there; and whether they were.
