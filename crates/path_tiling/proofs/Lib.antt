@@ -5,6 +5,7 @@ pub mod BeamLaws
 pub mod RangeLaws
 pub mod OneLaws
 pub mod RunLaws
+pub mod NextLaws
 pub mod CallLaws
 pub mod WriteLaws
 pub mod Traces

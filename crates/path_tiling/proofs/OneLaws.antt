@@ -23,6 +23,7 @@ use Rattle.panel.specs.Slots.{skips, slotOf}
 use Rattle.panel.specs.declared.kinds.Answer.the-variants.{Done}
 use Rattle.panel.specs.declared.kinds.Path.{Path}
 use Rattle.panel.specs.declared.kinds.TileNo.{TileNo}
+use Rattle.panel.specs.declared.kinds.Verdict.the-variants.{Fine}
 use Rattle.panel.specs.declared.lines.LineEnds.{LineEnds}
 use Rattle.panel.specs.declared.segments.Segment.{Segment}
 use Rattle.panel.proofs.PathLaws.{checked}
@@ -39,6 +40,7 @@ use Rattle.walk.specs.declared.kinds.Walked.the-variants.{Line}
 use Rattle.segment.specs.Clips.{cornerOf, makeOf, edgeOf, offOf, turnOf, firstOf, lastOf, segmentOf, pieceOf}
 use Rattle.segment.specs.declared.Piece.the-variants.{Kept, Crooked}
 use Rattle.path_tiling.specs.Look.{stepNo, sliceNo, pieceTo, wordTo, stepTo, foundTo, foundOf}
+use Rattle.path_tiling.specs.Tiling.{one, oneOf}
 use Rattle.path_tiling.specs.One.{Comes, PieceMet, ShortMet, PutMet, TookMet}
 use Rattle.path_tiling.specs.declared.one.Short.{Short}
 use Rattle.path_tiling.specs.declared.one.Short.the-variants as Short
@@ -171,3 +173,11 @@ pub took : (ns : List ℕ) (cs : List Float) (ps stored : List ℕ) (l : ℕ) (s
 took ns cs ps stored l s word tag slots packed p true p′ c h =
     rw (sym (c .tagged), c .look slots packed (h .0)) (h .1)
 took ns cs ps stored l s word tag slots packed p false p′ c h = h
+
+pub took-yes : (ns : List ℕ) (cs : List Float) (ps stored : List ℕ) (slots l packed : ℕ) (p : Pieces) (v : Bool) (p′ : Pieces) → v ≡ true
+    → TookMet ns cs ps stored slots l packed p v p′ → one Fine p′ ≡ oneOf (beamAt ps (getD ns l 0)) (foundTo stored slots packed (foundOf ns cs ps l)) p
+took-yes ns cs ps stored slots l packed p v p′ e h = rw e at h
+
+pub took-no : (ns : List ℕ) (cs : List Float) (ps stored : List ℕ) (slots l packed : ℕ) (p : Pieces) (v : Bool) (p′ : Pieces) → v ≡ false
+    → TookMet ns cs ps stored slots l packed p v p′ → p′ ≡ p
+took-no ns cs ps stored slots l packed p v p′ e h = rw e at h
