@@ -2,27 +2,41 @@
 -- this: no promise of a public call does. Definitions only.
 use Prim.Native.Nat.{ℕ}
 use mathlib.Core.Path.{_≡_}
-use mathlib.Core.Bool.{Bool, true, false}
+use mathlib.Core.Bool.{Bool, true, false, _&&_}
 use mathlib.Core.List.{List}
 use lib.ListN.{getD}
-use lib.Ieee.{Float}
+use lib.Ieee.{Float, lt, le}
+use Rattle.util.specs.Constants.{zero, tileSide, noEdge}
 use Rattle.util.specs.declared.Vec2.{Vec2}
 use Rattle.panel.specs.Paths.{beamAt}
 use Rattle.panel.specs.Pieces.{Pieces}
+use Rattle.panel.specs.Segments.{heldOf}
 use Rattle.panel.specs.declared.kinds.Verdict.the-variants.{Fine}
 use Rattle.panel.specs.declared.segments.Segment.{Segment}
 use Rattle.walk.specs.Page.{lineOf}
-use Rattle.segment.specs.Clips.{pieceOf}
+use Rattle.segment.specs.Clips.{makeOf, offOf, pieceOf}
 use Rattle.segment.specs.declared.Piece.the-variants as Piece
 use Rattle.path_tiling.specs.Look.{stepNo, sliceNo, wordTo, foundTo, foundOf}
 use Rattle.path_tiling.specs.Tiling.{one, oneOf}
-use Rattle.path_tiling.specs.declared.one.Within.{Within}
-use Rattle.path_tiling.specs.declared.one.Within.the-variants.{Kept, Odd}
+use Rattle.path_tiling.specs.declared.one.Inside.{Inside}
+use Rattle.path_tiling.specs.declared.one.Inside.the-variants.{Kept, Odd}
 use Rattle.path_tiling.specs.declared.one.Short.{Short}
 use Rattle.path_tiling.specs.declared.one.Short.the-variants.{In, Other}
 
+-- an end in its tile, off the left and the top edge
+unfoldable pub innerOf : Vec2 → Bool
+innerOf p = (lt zero (p .x) && le (p .x) tileSide) && (lt zero (p .y) && le (p .y) tileSide)
+
+-- a line's ends as they are seen from the tile's corner, off whole columns
+unfoldable pub seenOf : (d0 d1 : Vec2) → Segment
+seenOf d0 d1 = makeOf (offOf d0 .x) (offOf d0 .y) (offOf d1 .x) (offOf d1 .y) noEdge
+
+abbrev pub SeenMet : (d0 d1 : Vec2) → Inside → Type 0
+SeenMet d0 d1 (Kept s) = (heldOf (offOf d0) && heldOf (offOf d1) ≡ true) × (s ≡ seenOf d0 d1)
+SeenMet d0 d1 Odd = Unit {0}
+
 -- the segment of a line whose walk has one step, whatever z is there
-abbrev pub PieceMet : (p0 p1 : Vec2) (x y : ℕ) → Within → Type 0
+abbrev pub PieceMet : (p0 p1 : Vec2) (x y : ℕ) → Inside → Type 0
 PieceMet p0 p1 x y (Kept s) = (z : Float) → lineOf p0 p1 .k .count ≡ 1 → pieceOf (lineOf p0 p1) 0 z x y ≡ Piece.Kept s
 PieceMet p0 p1 x y Odd = Unit {0}
 

@@ -4,12 +4,15 @@
 ghost use mathlib.Core.Path.{_≡_};
 ghost use Prim.Native.Nat.{_*_, _≤_};
 ghost use lib.ListN.{length};
+ghost use lib.Ieee.{eq};
+ghost use Rattle.float32.specs.Inner.{Within};
+ghost use Rattle.float32.specs.Meaning.{floorOf};
 ghost use Rattle.panel.specs.Limits.{edgeMost};
 ghost use Rattle.panel.specs.Widths.{lineFloats, segmentFloats};
 ghost use Rattle.panel.specs.Paths.{pathsAnswer};
 ghost use Rattle.panel.specs.Pieces.{pieces};
 ghost use Rattle.panel.specs.declared.kinds.Answer.the-variants.{Done};
-ghost use Rattle.path_tiling.specs.One.{PieceMet, ShortMet, PutMet, TookMet};
+ghost use Rattle.path_tiling.specs.One.{innerOf, SeenMet, PieceMet, ShortMet, PutMet, TookMet};
 use panel::kinds::LineNo;
 use panel::kinds::SlotNo;
 use panel::lines::line_at;
@@ -29,10 +32,12 @@ use segment::make;
 use segment::off_whole;
 use spot::Spot;
 use spot::spot_of;
+use util::TILE_SIDE;
 use util::Vec2;
+use whole::SHIFT;
 
 // A line's segment in its one tile; or a line to be looked at in another way.
-pub enum Within {
+pub enum Inside {
     Kept(Segment),
     Odd,
 }
@@ -43,24 +48,50 @@ pub enum Short {
     Other,
 }
 
-// The segment in the tile of column x and row y. No end may be on the tile's left edge, which has rules of its own.
-fn piece_in(p0: Vec2, p1: Vec2, x: u32, y: u32) -> Within
+// Whether an end lies in its tile, off the left and the top edge.
+fn inner(p: Vec2) -> bool
+    ensures { λ r. ⌜ r ≡ innerOf p ⌝ }
+{
+    ((p.x > 0.0) & (p.x <= TILE_SIDE)) & ((p.y > 0.0) & (p.y <= TILE_SIDE))
+}
+
+// Whether the x of such an end is whole: SHIFT added and taken off leaves a whole number, as `float32::is_whole` has it, and
+// nothing has to be asked of the size of x.
+fn on_column(x: f32) -> bool
+    requires { ⌜ Within x ⌝ }
+    ensures { λ r. ⌜ r ≡ eq x (floorOf x) ⌝ }
+{
+    x == (x + SHIFT) - SHIFT
+}
+
+// The segment of ends of which one is on a whole column: it moves.
+fn moved(d0: Vec2, d1: Vec2) -> Inside
+    ensures { λ r. ⌜ SeenMet d0 d1 r ⌝ }
+{
+    let r0 = off_whole(d0);
+    let r1 = off_whole(d1);
+    if held(r0) & held(r1) {
+        Inside::Kept(make(r0.x, r0.y, r1.x, r1.y, NO_EDGE))
+    } else {
+        Inside::Odd
+    }
+}
+
+// The segment in the tile of column x and row y: the ends as they are seen from its corner. Few ends are on a whole column.
+fn piece_in(p0: Vec2, p1: Vec2, x: u32, y: u32) -> Inside
     requires { ⌜ (x ≤ edgeMost) × (y ≤ edgeMost) ⌝ }
     ensures { λ r. ⌜ PieceMet p0 p1 x y r ⌝ }
 {
     let t = corner(x, y);
     let d0 = p0.subtract(t);
     let d1 = p1.subtract(t);
-    if (d0.x == 0.0) | (d1.x == 0.0) {
-        return Within::Odd;
+    if !(inner(d0) & inner(d1)) {
+        return Inside::Odd;
     }
-    let r0 = off_whole(d0);
-    let r1 = off_whole(d1);
-    if held(r0) & held(r1) {
-        Within::Kept(make(r0.x, r0.y, r1.x, r1.y, NO_EDGE))
-    } else {
-        Within::Odd
+    if on_column(d0.x) | on_column(d1.x) {
+        return moved(d0, d1);
     }
+    Inside::Kept(make(d0.x, d0.y, d1.x, d1.y, NO_EDGE))
 }
 
 // A line of those lent, whose path is there.
@@ -89,7 +120,7 @@ fn short_at(
         return Short::Other;
     };
     let piece = piece_in(p0, p1, x, y);
-    let Within::Kept(s) = piece else {
+    let Inside::Kept(s) = piece else {
         return Short::Other;
     };
     let word = stored[tile.0 as usize];

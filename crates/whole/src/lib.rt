@@ -7,7 +7,7 @@ ghost use Rattle.float32.specs.Inner.{Within};
 ghost use Rattle.exact.specs.Whole.{IsWhole, floorZ};
 ghost use Rattle.whole.specs.Bits.{bitsOf};
 
-const SHIFT: f32 = 12582912.0;
+pub const SHIFT: f32 = 12582912.0;
 
 // The bits of SHIFT: those of SHIFT and a whole number are so many more, or fewer.
 pub const ZERO: u32 = 0x4B40_0000;
