@@ -200,8 +200,8 @@ comes ns cs ps stored l x y s h g o piece =
     record {
       tagged = refl;
       look =
-      λ slots packed e. ap (foundTo stored slots packed) (line-found ns cs ps l x y h g o)
-      ∙ step-looks stored slots packed _ _ _ x y s o piece e;
+          λ slots packed e. ap (foundTo stored slots packed) (line-found ns cs ps l x y h g o)
+          ∙ step-looks stored slots packed _ _ _ x y s o piece e;
     }
 
 -- the same of what the code has at hand

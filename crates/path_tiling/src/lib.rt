@@ -1,8 +1,8 @@
 // A segment for each reference of a range, written at its slot, with its tag beside it: path_tiling.rs.
 // docs/RULES.md, tiling's part of "When the panel says no".
 mod beams;
-mod one;
 pub mod look;
+mod one;
 
 ghost use mathlib.Core.Path.{_≡_};
 ghost use Prim.Native.Nat.{_+_, _-_, _*_, _/_, _≤_};
@@ -144,7 +144,10 @@ fn tile_next(
     );
     if taken {
         let answer = Answer::Done;
-        return Ran { answer, next: from + 1 };
+        return Ran {
+            answer,
+            next: from + 1,
+        };
     }
     let found = look::found_at(path_nos, coords, paths, line);
     let path = beams::path_of(path_nos, line);

@@ -95,13 +95,7 @@ fn piece_in(p0: Vec2, p1: Vec2, x: u32, y: u32) -> Inside
 }
 
 // A line of those lent, whose path is there.
-fn short_at(
-    path_nos: &[u32],
-    coords: &[f32],
-    paths: &[u32],
-    stored: &[u32],
-    line: LineNo,
-) -> Short
+fn short_at(path_nos: &[u32], coords: &[f32], paths: &[u32], stored: &[u32], line: LineNo) -> Short
     requires { ⌜ (length (now «path_nos») * lineFloats ≤ length (now coords)) × (pathsAnswer (now paths) (length (now stored)) ≡ Done) ⌝ }
     ensures { λ r. ⌜ ShortMet (now («path_nos» .entry)) (now (coords .entry)) (now (paths .entry)) (now (stored .entry)) (line .0) r ⌝ }
 {

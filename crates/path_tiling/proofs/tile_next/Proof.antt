@@ -29,11 +29,12 @@ same-length-2 c = search needs
 
 returns : tie.Need-returns
 returns c =
-    let a = c .before .before .before .before .before .before .before .before .before .before .before .before .before .before .before .before .before .args in
-    let s = c .before .before .before .before .before .tile-short in
+    let t = c .before .before .before .before .before in
+    let a = t .before .before .before .before .before .before .before .before .before .before .before .before .args in
+    let s = t .tile-short in
     took-next (a .to) (lent (now (a .path-nos)) (now (a .coords)) (now (a .paths)) (now (a .stored)) (now (a .refs))) (a .slots)
     (pieces (now (a .segments)) (now (a .tags))) (a .from) _ _ (s .result) (pieces (s .last .1 .1 .1 .1 .1 .1 .1 .0) (s .last .1 .1 .1 .1 .1 .1 .1 .1 .0))
-    (c .before .before .before .before .before .before .before .before .before .before .before .before .before .before .before .before .before .pre .some) (c .before .before .before .before .before .before .before .before .before .named-at .ensures) (s .ensures) (c .before .before .before .before .before .before .before .before .packed-at .ensures) (c .if1 .taken)
+    (t .before .before .before .before .before .before .before .before .before .before .before .before .pre .some) (t .before .before .before .before .named-at .ensures) (s .ensures) (t .before .before .before .packed-at .ensures) (c .if1 .taken)
 
 found-at-requires : tie.Need-found-at-requires
 found-at-requires c κs = search needs
@@ -46,7 +47,8 @@ tag-of-requires c κs = search needs
 
 tile-run-requires : tie.Need-tile-run-requires
 tile-run-requires c κs =
-    let p = c .before .before .before .before .before .before .before .before .before .before .before .before .before .before .before .before .before .before .before .before .before .before .pre in (
+    let t = c .before .before .before .before .before .before .before .before .before .before in
+    let p = t .before .before .before .before .before .before .before .before .before .before .before .before .pre in (
       rw (c .before .before .before .before .found-at .ensures) (found-fits _ _ _ _ _ (p .paths)),
       omega (arith, p .room, c .before .before .before .before .before .before .before .before .before .segments .given),
       omega (arith, p .tagged, c .before .before .before .before .before .before .before .tags .given),
@@ -62,11 +64,12 @@ same-length-4 c = search needs
 
 returns-2 : tie.Need-returns-2
 returns-2 c =
-    let a = c .before .before .before .before .before .before .before .before .before .before .before .before .before .before .before .before .before .before .before .before .before .before .before .before .before .before .before .args in
-    let s = c .before .before .before .before .before .before .before .before .before .before .before .before .before .before .before .tile-short in
+    let t = c .before .before .before .before .before .before .before .before .before .before .before .before .before .before .before in
+    let a = t .before .before .before .before .before .before .before .before .before .before .before .before .args in
+    let s = t .tile-short in
     ran-next (a .to) (lent (now (a .path-nos)) (now (a .coords)) (now (a .paths)) (now (a .stored)) (now (a .refs))) (a .slots)
     (pieces (now (a .segments)) (now (a .tags))) (a .from) _ _ (s .result) (pieces (s .last .1 .1 .1 .1 .1 .1 .1 .0) (s .last .1 .1 .1 .1 .1 .1 .1 .1 .0))
-    (c .before .before .before .before .before .before .before .before .before .before .before .before .before .before .before .before .before .before .before .before .before .before .before .before .before .before .before .pre .some) (c .before .before .before .before .before .before .before .before .before .before .before .before .before .before .before .before .before .before .before .named-at .ensures) (s .ensures) (c .before .before .before .before .before .before .before .before .before .before .if1 .left)
+    (t .before .before .before .before .before .before .before .before .before .before .before .before .pre .some) (t .before .before .before .before .named-at .ensures) (s .ensures) (c .before .before .before .before .before .before .before .before .before .before .if1 .left)
     _ _ _ _ (c .before .before .before .before .before .before .before .before .before .found-at .ensures) (c .before .before .before .before .before .before .before .before .path-of .ensures) (c .before .before .before .before .before .before .before .tag-of .ensures) (c .before .before .before .before .tile-run .ensures)
 
 pub tile-next-spec : {M : Type 1} → statement M

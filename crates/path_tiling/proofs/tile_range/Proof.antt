@@ -44,14 +44,17 @@ enum-known-answer : tie.Need-enum-known-answer Inv-loop μ-loop
 enum-known-answer c = search needs
 
 same-length : tie.Need-same-length Inv-loop μ-loop
-same-length c = c .before .before .before .before .before .before .segments .given ∙ c .before .before .before .before .before .before .before .before .before .before .before .loop .inv .long .segments
+same-length c =
+    c .before .before .before .before .before .before .segments .given ∙ c .before .before .before .before .before .before .before .before .before .before .before .loop .inv .long .segments
 
 same-length-2 : tie.Need-same-length-2 Inv-loop μ-loop
 same-length-2 c = c .before .before .before .before .tags .given ∙ c .before .before .before .before .before .before .before .before .before .before .before .loop .inv .long .tags
 
 returns : tie.Need-returns Inv-loop μ-loop
 returns c =
-    halted _ _ _ _ _ _ _ (c .before .before .before .before .before .before .before .before .before .before .before .loop .inv) _ _ _ (c .before .before .before .before .before .before .before .tile-next .ensures) (c .before .answer .given .1) (c .before .before .before .before .before .before .before .before .before .before .before .before .slots-of .ensures)
+    halted _ _ _ _ _ _ _ (c .before .before .before .before .before .before .before .before .before .before .before .loop .inv) _ _ _
+    (c .before .before .before .before .before .before .before .tile-next .ensures) (c .before .answer .given .1)
+    (c .before .before .before .before .before .before .before .before .before .before .before .before .slots-of .ensures)
 
 enum-told : tie.Need-enum-told Inv-loop μ-loop
 enum-told c = search needs
@@ -63,7 +66,8 @@ loop-less c =
 
 loop-again : tie.Need-loop-again Inv-loop μ-loop
 loop-again c =
-    on _ _ _ _ _ _ _ (c .before .before .before .before .before .before .before .before .before .before .loop .inv) _ (c .before .before .before .before .before .before .tile-next .ensures) (c .enum-told .given .1)
+    on _ _ _ _ _ _ _ (c .before .before .before .before .before .before .before .before .before .before .loop .inv) _ (c .before .before .before .before .before .before .tile-next .ensures)
+    (c .enum-told .given .1)
 
 same-length-3 : tie.Need-same-length-3 Inv-loop μ-loop
 same-length-3 c = c .before .loop .inv .long .segments

@@ -1,9 +1,6 @@
 -- `path_tiling::one::piece_in` meets its contract: both ends are in the tile, and where none is on a whole column they stay. Assumes nothing.
-use mathlib.Core.Path.{_≡_, sym}
 use borrow.Author.Needs.{needs}
-use Rattle.segment.specs.Clips.{cornerOf}
-use Rattle.util.specs.Vec.{subOf}
-use Rattle.path_tiling.proofs.OneLaws.{Inner, ends-inner, piece-moved, piece-plain}
+use Rattle.path_tiling.proofs.OneLaws.{ends-inner, piece-moved, piece-plain}
 use Rattle.path_tiling.proofs.one.piece_in.Statement.{statement}
 use Rattle.path_tiling.proofs.one.piece_in.Tie as tie
 
@@ -18,20 +15,25 @@ on-column-requires-2 c κs = ends-inner _ _ _ _ (c .before .before .before .inne
 
 returns-2 : tie.Need-returns-2
 returns-2 c =
-    let a = c .before .before .before .before .before .before .before .before .before .before .args in
-    let i = ends-inner _ _ _ _ (c .before .before .before .before .before .before .inner .ensures) (c .before .before .before .before .before .inner2 .ensures) (c .before .before .before .before .if1 .left) in
+    let s = c .before .before .before .before in
+    let t = s .before .before .before in
+    let i = ends-inner _ _ _ _ (s .before .before .inner .ensures) (s .before .inner2 .ensures) (s .if1 .left) in
+    let a = t .before .before .before .args in
     piece-moved (a .p0) (a .p1) (a .x) (a .y) (c .moved .result)
-    (rw (c .before .before .before .before .before .before .before .before .subtract .ensures, c .before .before .before .before .before .before .before .subtract2 .ensures, c .before .before .before .before .before .before .before .before .before .corner .ensures) at i)
-    (rw (c .before .before .before .before .before .before .before .before .subtract .ensures, c .before .before .before .before .before .before .before .subtract2 .ensures, c .before .before .before .before .before .before .before .before .before .corner .ensures) at (c .moved .ensures))
+    (rw (t .before .subtract .ensures, t .subtract2 .ensures, t .before .before .corner .ensures) at i)
+    (rw (t .before .subtract .ensures, t .subtract2 .ensures, t .before .before .corner .ensures) at (c .moved .ensures))
 
 returns-3 : tie.Need-returns-3
 returns-3 c =
-    let a = c .before .before .before .before .before .before .before .before .before .before .args in
-    let i = ends-inner _ _ _ _ (c .before .before .before .before .before .before .inner .ensures) (c .before .before .before .before .before .inner2 .ensures) (c .before .before .before .before .if1 .left) in
-    rw (c .make .ensures, c .before .before .before .before .before .before .before .before .subtract .ensures, c .before .before .before .before .before .before .before .subtract2 .ensures, c .before .before .before .before .before .before .before .before .before .corner .ensures)
+    let s = c .before .before .before .before in
+    let t = s .before .before .before in
+    let i = ends-inner _ _ _ _ (s .before .before .inner .ensures) (s .before .inner2 .ensures) (s .if1 .left) in
+    let a = t .before .before .before .args in
+    rw (c .make .ensures, t .before .subtract .ensures, t .subtract2 .ensures, t .before .before .corner .ensures)
     (piece-plain (a .p0) (a .p1) (a .x) (a .y)
-    (rw (c .before .before .before .before .before .before .before .before .subtract .ensures, c .before .before .before .before .before .before .before .subtract2 .ensures, c .before .before .before .before .before .before .before .before .before .corner .ensures) at i)
-    (rw (c .before .before .before .on-column .ensures, c .before .before .on-column2 .ensures, c .before .before .before .before .before .before .before .before .subtract .ensures, c .before .before .before .before .before .before .before .subtract2 .ensures, c .before .before .before .before .before .before .before .before .before .corner .ensures) at (c .before .if2 .left)))
+    (rw (t .before .subtract .ensures, t .subtract2 .ensures, t .before .before .corner .ensures) at i)
+    (rw (c .before .before .before .on-column .ensures, c .before .before .on-column2 .ensures, t .before .subtract .ensures, t .subtract2 .ensures, t .before .before .corner .ensures)
+    at (c .before .if2 .left)))
 
 pub piece-in-spec : {M : Type 1} → statement M
 piece-in-spec =

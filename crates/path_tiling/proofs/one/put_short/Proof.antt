@@ -63,16 +63,23 @@ same-length-2 c = search needs
 returns-4 : tie.Need-returns-4
 returns-4 c =
     let a = c .before .before .before .before .before .before .before .before .before .before .before .before .before .args in
-    let room : slotOf (a .word) (sliceNo (a .packed)) < a .slots = omega (arith, c .before .before .before .before .if3 .left, c .before .before .before .before .before .before .flipped .ensures, c .before .before .before .before .before .slice-of .ensures) in
-    (
-      sym (c .before .before .before .before .before .before .before .before .before .before .step-of .ensures) ∙ c .before .before .before .before .before .before .before .before .before .if1 .left,
+    let room : slotOf (a .word) (sliceNo (a .packed)) < a .slots = omega (
+      arith,
+      c .before .before .before .before .if3 .left,
+      c .before .before .before .before .before .before .flipped
+          .ensures,
+      c .before .before .before .before .before .slice-of .ensures,
+    ) in (
+      sym (c .before .before .before .before .before .before .before .before .before .before .step-of .ensures) ∙ c .before .before .before .before .before .before .before .before .before
+          .if1 .left,
       rw (
-        put-fine (a .slots) (a .word) (sliceNo (a .packed)) (a .s) (sym (c .before .before .before .before .before .before .before .before .skips .ensures) ∙ c .before .before .before .before .before .before .before .if2 .left) room,
+        put-fine (a .slots) (a .word) (sliceNo (a .packed)) (a .s) (sym (c .before .before .before .before .before .before .before .before .skips .ensures) ∙ c .before .before .before
+            .before .before .before .before .if2 .left) room,
         c .before .before .put .ensures,
         c .before .before .before .before .before .before .flipped .ensures,
         c .before .before .before .before .before .slice-of .ensures,
       )
-      refl,
+          refl,
     )
 
 pub put-short-spec : {M : Type 1} → statement M

@@ -36,7 +36,9 @@ path-at-requires : tie.Need-path-at-requires
 path-at-requires c κs = search needs
 
 spot-of-requires : tie.Need-spot-of-requires
-spot-of-requires c κs = rw (c .path-at .ensures) (path-boxed (now (c .before .before .before .before .before .before .before .before .before .before .before .before .before .args .paths)) _ _ (c .before .before .before .before .before .before .before .before .before .before .before .before .before .pre .1) (c .before .before .before .before .if2 .left) .0)
+spot-of-requires c κs =
+    let s = c .before .before .before .before .before .before .before .before .before .before .before .before .before in
+    rw (c .path-at .ensures) (path-boxed (now (s .args .paths)) _ _ (s .pre .1) (c .before .before .before .before .if2 .left) .0)
 
 enum-known-spot : tie.Need-enum-known-spot
 enum-known-spot c = search needs
@@ -49,7 +51,9 @@ returns-3 c = search needs
 
 piece-in-requires : tie.Need-piece-in-requires
 piece-in-requires c κs =
-    let boxed = rw (sym (c .before .before .before .before .path-at .ensures)) at (path-boxed (now (c .before .before .before .before .before .before .before .before .before .before .before .before .before .before .before .before .before .args .paths)) _ _ (c .before .before .before .before .before .before .before .before .before .before .before .before .before .before .before .before .before .pre .1) (c .before .before .before .before .before .before .before .before .if2 .left)) in
+    let p = c .before .before .before .before in
+    let s = p .before .before .before .before .before .before .before .before .before .before .before .before .before in
+    let boxed = rw (sym (p .path-at .ensures)) at (path-boxed (now (s .args .paths)) _ _ (s .pre .1) (p .before .before .before .before .if2 .left)) in
     let fits = spot-fits _ _ _ _ _ _ _ boxed (spot-in (c .before .spot .given .1) (c .before .before .before .spot-of .ensures)) in
     (fits .1, fits .2)
 
@@ -70,18 +74,26 @@ mul-word c = search needs
 
 shared-slice-read-word : tie.Need-shared-slice-read-word
 shared-slice-read-word c =
-    let boxed = rw (sym (c .before .before .before .before .before .before .before .before .before .before .path-at .ensures)) at (path-boxed (now (c .before .before .before .before .before .before .before .before .before .before .before .before .before .before .before .before .before .before .before .before .before .before .before .args .paths)) _ _ (c .before .before .before .before .before .before .before .before .before .before .before .before .before .before .before .before .before .before .before .before .before .before .before .pre .1) (c .before .before .before .before .before .before .before .before .before .before .before .before .before .before .if2 .left)) in
-    spot-fits _ _ _ _ _ _ _ boxed (spot-in (c .before .before .before .before .before .before .before .spot .given .1) (c .before .before .before .before .before .before .before .before .before .spot-of .ensures)) .0
+    let q = c .before .before .before .before .before .before .before in
+    let p = q .before .before .before in
+    let s = p .before .before .before .before .before .before .before .before .before .before .before .before .before in
+    let boxed = rw (sym (p .path-at .ensures)) at (path-boxed (now (s .args .paths)) _ _ (s .pre .1) (p .before .before .before .before .if2 .left)) in
+    spot-fits _ _ _ _ _ _ _ boxed (spot-in (q .spot .given .1) (q .before .before .spot-of .ensures)) .0
 
 beam-at-requires : tie.Need-beam-at-requires
 beam-at-requires c κs = search needs
 
 returns-5 : tie.Need-returns-5
 returns-5 c =
-    let a = c .before .before .before .before .before .before .before .before .before .before .before .before .before .before .before .before .before .before .before .before .before .before .before .before .args in
-    short-comes (now (a .path-nos)) (now (a .coords)) (now (a .paths)) (now (a .stored)) (a .line .0) (c .before .before .before .before .before .before .before .before .before .before .before .before .before .before .line-at .result) (c .before .before .before .before .before .before .before .before .before .before .before .path-at .result) _ _ _ _ _
-    (c .before .before .before .before .before .before .before .before .before .before .before .before .before .before .line-at .ensures) (c .before .before .before .before .before .before .before .before .before .before .before .path-at .ensures) (c .before .before .before .before .before .before .before .before .before .before .before .before .before .before .before .before .before .before .if1 .left) (c .before .before .before .before .before .before .before .before .before .before .before .before .before .before .before .if2 .left)
-    (spot-in (c .before .before .before .before .before .before .before .before .spot .given .1) (c .before .before .before .before .before .before .before .before .before .before .spot-of .ensures)) (piece-kept _ _ _ _ (c .before .before .before .before .piece .given .1) (c .before .before .before .before .before .before .piece-in .ensures)) (c .beam-at .ensures)
+    let q = c .before .before .before .before .before .before .before .before in
+    let p = q .before .before .before in
+    let l = p .before .before .before in
+    let a = p .before .before .before .before .before .before .before .before .before .before .before .before .before .args in
+    short-comes (now (a .path-nos)) (now (a .coords)) (now (a .paths)) (now (a .stored)) (a .line .0) (l .line-at .result) (p .path-at .result) _ _ _ _ _
+    (l .line-at .ensures) (p .path-at .ensures) (l .before .before .before .before .if1 .left) (l .before .if2 .left)
+    (spot-in (q .spot .given .1) (q .before .before .spot-of .ensures))
+    (piece-kept _ _ _ _ (c .before .before .before .before .piece .given .1) (c .before .before .before .before .before .before .piece-in .ensures))
+    (c .beam-at .ensures)
 
 pub short-at-spec : {M : Type 1} → statement M
 short-at-spec =

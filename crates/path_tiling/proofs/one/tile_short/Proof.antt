@@ -33,7 +33,8 @@ returns-2 c =
     let w = c .before .before .before .before .put-short in
     took (now (a .path-nos)) (now (a .coords)) (now (a .paths)) (now (a .stored)) (a .line .0) _ _ _ (a .slots) (a .packed)
     (pieces (now (a .segments)) (now (a .tags))) (w .result) (pieces (w .last .1 .1 .1 .1 .1 .0) (w .last .1 .1 .1 .1 .1 .1 .0))
-    (short-in (now (a .path-nos)) (now (a .coords)) (now (a .paths)) (now (a .stored)) (a .line .0) (c .before .before .before .before .before .before .before .before .short .given .1) (c .before .before .before .before .before .before .before .before .before .before .short-at .ensures))
+    (short-in (now (a .path-nos)) (now (a .coords)) (now (a .paths)) (now (a .stored)) (a .line .0) (c .before .before .before .before .before .before .before .before .short .given .1)
+    (c .before .before .before .before .before .before .before .before .before .before .short-at .ensures))
     (w .ensures)
 
 pub tile-short-spec : {M : Type 1} → statement M
