@@ -3,7 +3,9 @@ pub mod LookLaws
 pub mod PutLaws
 pub mod BeamLaws
 pub mod RangeLaws
+pub mod OneLaws
 pub mod RunLaws
+pub mod NextLaws
 pub mod CallLaws
 pub mod WriteLaws
 pub mod Traces

@@ -2,7 +2,8 @@
 -- leaves them, is what the whole range comes to. Assumes nothing.
 --     turned, stopped, other, over   a turn of the loop over a run: a reference that is fine, one that is not, one of another line, none left
 --     run-range                      a range is its first run and then the rest
---     on, less, halted, done         a turn of the loop over the runs of a range
+--     next-one, next-run             what is taken of a range at once: its first reference, or its first run
+--     on, halted, done               a turn of the loop over a range
 use Prim.Native.Nat.{ℕ, zero, suc, _+_, _-_, _*_, _≤_, _<_}
 use native.Mathlib.Omega.{arith}
 use native.Mathlib.Nat.{le-refl}
@@ -22,7 +23,7 @@ use Rattle.path_tiling.specs.Look.{Lent, lineAt, packedAt, tagOf, foundO
 use Rattle.panel.specs.Paths.{beamAt}
 use Rattle.panel.specs.Pieces.{Pieces, placed}
 use Rattle.path_tiling.specs.Tiling.{Range, range, lookThen, rangeOf, One, one, oneOf, Tiled, tiled, rangeTiled, slotsOf}
-use Rattle.path_tiling.specs.Runs.{Run, run, lookOn, runOf}
+use Rattle.path_tiling.specs.Runs.{Run, run, lookOn, runOf, afterBy, after, NextMet}
 use Rattle.path_tiling.specs.declared.look.Look.{Look}
 use Rattle.path_tiling.specs.declared.look.Look.the-variants.{Put, Empty, Against}
 use Rattle.path_tiling.proofs.RangeLaws.{look-is, AsLong, long-self, long-then, long-placed, one-long, ends}
@@ -150,14 +151,6 @@ module _ (stored : List ℕ) (slots : ℕ) (refs : List ℕ) (found : Walked) (t
 
 -- ---- a range, run by run
 
--- what is left after a run up to the range's end
-abbrev afterBy : Lent → ℕ → ℕ → Answer → ℕ → Pieces → Tiled
-afterBy L slots to Done next p = rangeTiled (rangeOf L slots (to - next) next) p
-afterBy L slots to (Refused why item) next p = tiled (Refused why item) p
-
-abbrev after : Lent → ℕ → ℕ → Run → Tiled
-after L slots to r = afterBy L slots to (r .answer) (r .next) (r .pieces)
-
 module _ (L : Lent) (slots line : ℕ) where
   -- a reference of the run, and then what is left after the rest of it
   look-after : (to k tag : ℕ) → tagOf L (lineAt (L .refs) k) ≡ tag → (l : Look) (r : Range) (rest : Pieces → Run) (p : Pieces)
@@ -191,7 +184,7 @@ module _ (L : Lent) (slots line : ℕ) where
           (rangeOf L slots n (suc k)) rest p (λ q. rw same at (h q))
       go h false e = let left : k + suc n - k ≡ suc n = omega arith in rw left refl
 
--- what holds at each turn of the loop over the runs of a range
+-- what holds at each turn of the loop over a range
 pub record Going (from to : ℕ) (L : Lent) (slots : ℕ) (p₀ p : Pieces) (k : ℕ) : Type 0 where
   pub low : from ≤ k
   pub high : k ≤ to
@@ -202,46 +195,74 @@ pub record Going (from to : ℕ) (L : Lent) (slots : ℕ) (p₀ p : Pieces) (k :
 pub tagged : (nos ps : List ℕ) (l path tag : ℕ) → path ≡ getD nos l 0 → tag ≡ beamAt ps path → tag ≡ beamAt ps (getD nos l 0)
 tagged nos ps l path tag e f = f ∙ ap (beamAt ps) e
 
--- the run from reference k on, whose line was found
-module _ (from to : ℕ) (L : Lent) (slots : ℕ) (p₀ p : Pieces) (k : ℕ) (g : Going from to L slots p₀ p k) where
+-- some of the references from reference k on
+module _ (to : ℕ) (L : Lent) (slots : ℕ) (p : Pieces) (k : ℕ) where
   abbrev runAt : Run
   runAt = runOf (L .stored) slots (L .refs) (foundOf (L .pathNos) (L .coords) (L .paths) (lineAt (L .refs) k)) (tagOf L (lineAt (L .refs) k)) (lineAt (L .refs) k) (to - k) k p
 
+  -- the run of those that name its line
+  pub next-run : (r : Run) → k < to → r ≡ runAt → NextMet k to L slots p r
+  next-run r h e =
+      let found = foundOf (L .pathNos) (L .coords) (L .paths) (lineAt (L .refs) k) in
+      let tag = tagOf L (lineAt (L .refs) k) in
+      let far = run-goes (L .stored) slots (L .refs) found tag (lineAt (L .refs) k) (to - k) k p in
+      let next : r .next ≡ runAt .next = ap (λ (x : Run). x .next) e in
+      let as-long : AsLong p (r .pieces) = subst (AsLong p) (sym (ap (λ (x : Run). x .pieces) e)) (far .long) in
+      let some : r .answer ≡ Done → k < runAt .next =
+      λ a. run-some (L .stored) slots (L .refs) found tag (lineAt (L .refs) k) (to - k) k p (eq-eqb (lineAt (L .refs) k) (lineAt (L .refs) k) refl) (omega arith)
+      (sym (ap (λ (x : Run). x .answer) e) ∙ a) in
+      let end : k + (to - k) ≡ to = omega arith in
+      record {
+        less = λ a. omega (arith, next, some a);
+        high = omega (arith, far .high, next);
+        segments = as-long .segments;
+        tags = as-long .tags;
+        left = ap (after L slots to) e ∙ sym (rw end at (run-range L slots (lineAt (L .refs) k) (to - k) k p));
+      }
+
+  fine-then : (l : Look) (r : Range) (p′ : Pieces) → one Verdict.Fine p′ ≡ oneOf (tagOf L (lineAt (L .refs) k)) l p
+      → rangeTiled r p′ ≡ rangeTiled (lookThen L k l r) p
+  fine-then (Put slot s) r p′ e = ap (λ (o : One). rangeTiled r (o .pieces)) e
+  fine-then Empty r p′ e = ap (λ (o : One). rangeTiled r (o .pieces)) e
+  fine-then (Against why) r p′ e =
+      let v : Verdict.Fine ≡ Verdict.Against why = ap (λ (o : One). o .verdict) e in
+      let z : _≡_ {A = ℕ} 0 1 = cc in absurd (omega arith)
+
+  range-suc : (n : ℕ) → rangeOf L slots (suc n) k ≡ lookThen L k (lookOf L slots k) (rangeOf L slots n (suc k))
+  unfolding rangeOf
+  range-suc n = refl
+
+  -- the first alone, which is fine
+  pub next-one : (p′ : Pieces) → k < to → one Verdict.Fine p′ ≡ oneOf (tagOf L (lineAt (L .refs) k)) (lookOf L slots k) p
+      → NextMet k to L slots p (run Done (k + 1) p′)
+  next-one p′ h e =
+      let one-more : to - k ≡ suc (to - suc k) = omega arith in
+      let as-long = one-long (tagOf L (lineAt (L .refs) k)) (lookOf L slots k) Verdict.Fine p p′ e in
+      let left : rangeTiled (rangeOf L slots (to - (k + 1)) (k + 1)) p′ ≡ rangeTiled (rangeOf L slots (to - k) k) p =
+      rw (one-more, add-one, range-suc (to - suc k)) (fine-then (lookOf L slots k) (rangeOf L slots (to - suc k) (suc k)) p′ e) in
+      record { less = λ a. omega arith; high = omega arith; segments = as-long .segments; tags = as-long .tags; left = left }
+
+-- a turn of the loop over a range
+module _ (from to : ℕ) (L : Lent) (slots : ℕ) (p₀ p : Pieces) (k : ℕ) (g : Going from to L slots p₀ p k) where
   whole : slots ≡ slotsOf (length (p₀ .segments))
       → rangeTiled (rangeOf L slots (to - from) from) p₀ ≡ rangeTiled (rangeOf L (slotsOf (length (p₀ .segments))) (to - from) from) p₀
   whole s = ap (λ (n : ℕ). rangeTiled (rangeOf L n (to - from) from) p₀) s
 
-  rest : after L slots to runAt ≡ rangeTiled (rangeOf L slots (to - from) from) p₀
-  rest = let end : k + (to - k) ≡ to = omega (arith, g .high) in sym (rw end at (run-range L slots (lineAt (L .refs) k) (to - k) k p)) ∙ g .left
-
-  pub halted : (r : Run) (why item : ℕ) → r ≡ runAt → r .answer ≡ Refused why item → slots ≡ slotsOf (length (p₀ .segments))
+  pub halted : (r : Run) (why item : ℕ) → NextMet k to L slots p r → r .answer ≡ Refused why item → slots ≡ slotsOf (length (p₀ .segments))
       → tiled (Refused why item) (r .pieces) ≡ rangeTiled (rangeOf L (slotsOf (length (p₀ .segments))) (to - from) from) p₀
-  halted r why item e a s =
+  halted r why item m a s =
       let here : after L slots to r ≡ tiled (Refused why item) (r .pieces) = ap (λ (x : Answer). afterBy L slots to x (r .next) (r .pieces)) a in
-      sym here ∙ ap (after L slots to) e ∙ rest ∙ whole s
+      sym here ∙ m .left ∙ g .left ∙ whole s
 
-  pub on : (r : Run) → k < to → r ≡ runAt → r .answer ≡ Done → Going from to L slots p₀ (r .pieces) (r .next)
-  on r h e a =
-      let far = run-goes (L .stored) slots (L .refs) (foundOf (L .pathNos) (L .coords) (L .paths) (lineAt (L .refs) k)) (tagOf L (lineAt (L .refs) k)) (lineAt (L .refs) k) (to - k) k p in
-      let next : r .next ≡ runAt .next = ap (λ (x : Run). x .next) e in
+  pub on : (r : Run) → NextMet k to L slots p r → r .answer ≡ Done → Going from to L slots p₀ (r .pieces) (r .next)
+  on r m a =
       let here : after L slots to r ≡ rangeTiled (rangeOf L slots (to - r .next) (r .next)) (r .pieces) = ap (λ (x : Answer). afterBy L slots to x (r .next) (r .pieces)) a in
       record {
-        low = omega (arith, far .low, next, g .low);
-        high = omega (arith, far .high, next, g .high);
-        long = long-then (g .long) (subst (AsLong p) (sym (ap (λ (x : Run). x .pieces) e)) (far .long));
-        left = sym here ∙ ap (after L slots to) e ∙ rest;
+        low = omega (arith, m .less a, g .low);
+        high = m .high;
+        long = long-then (g .long) (record { segments = m .segments; tags = m .tags });
+        left = sym here ∙ m .left ∙ g .left;
       }
-
-  -- a run that is not refused has a reference
-  pub less : (r : Run) → k < to → r ≡ runAt → r .answer ≡ Done → k < r .next
-  less r h e a =
-      let next : r .next ≡ runAt .next = ap (λ (x : Run). x .next) e in
-      let some =
-      run-some (L .stored) slots (L .refs) (foundOf (L .pathNos) (L .coords) (L .paths) (lineAt (L .refs) k)) (tagOf L (lineAt (L .refs) k)) (lineAt (L .refs) k) (to - k) k p
-      (eq-eqb (lineAt (L .refs) k) (lineAt (L .refs) k) refl)
-      (omega arith)
-      (sym (ap (λ (x : Run). x .answer) e) ∙ a) in
-      omega (arith, next, some)
 
   pub done : to ≤ k → slots ≡ slotsOf (length (p₀ .segments)) → tiled Done p ≡ rangeTiled (rangeOf L (slotsOf (length (p₀ .segments))) (to - from) from) p₀
   done h s = sym (ends L slots to k p h) ∙ g .left ∙ whole s

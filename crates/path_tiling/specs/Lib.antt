@@ -2,3 +2,4 @@
 pub mod Look
 pub mod Tiling
 pub mod Runs
+pub mod One

@@ -1,13 +1,18 @@
 -- A run of references, tiled as long as they name one line, which was found once: how the code goes over a range. Only proofs lean on this: no
 -- promise of a public call does. Definitions only.
-use Prim.Native.Nat.{ℕ, zero, suc}
+use Prim.Native.Nat.{ℕ, zero, suc, _-_, _*_, _/_, _≤_, _<_}
+use mathlib.Core.Path.{_≡_}
 use mathlib.Core.Bool.{cond}
 use mathlib.Core.List.{List}
 use lib.Dec.{eqb}
+use lib.ListN.{length}
+use Rattle.panel.specs.Widths.{lineFloats, refWords, segmentFloats}
+use Rattle.panel.specs.Paths.{pathsAnswer}
 use Rattle.panel.specs.declared.kinds.Answer.{Answer}
 use Rattle.panel.specs.declared.kinds.Answer.the-variants.{Done, Refused}
 use Rattle.walk.specs.declared.kinds.Walked.{Walked}
-use Rattle.path_tiling.specs.Look.{lineAt, packedAt, foundTo}
+use Rattle.path_tiling.specs.Look.{Lent, lineAt, packedAt, foundTo}
+use Rattle.path_tiling.specs.Tiling.{rangeOf, Tiled, tiled, rangeTiled}
 use Rattle.panel.specs.Pieces.{Pieces, placed}
 use Rattle.path_tiling.specs.declared.Ran.{Ran}
 use Rattle.path_tiling.specs.declared.look.Look.{Look}
@@ -38,3 +43,30 @@ runOf stored slots refs found tag line (suc n) k p =
     cond (eqb (lineAt refs k) line)
     (lookOn tag k (foundTo stored slots (packedAt refs k) found) (runOf stored slots refs found tag line n (suc k)) p)
     (run Done k p)
+
+-- ---- a range, some references at once
+
+-- what is known of the lent where there is a reference left, with so many slots
+pub record Some (from to : ℕ) (L : Lent) (slots : ℕ) (p : Pieces) : Type 0 where
+  pub some : from < to
+  pub there : to ≤ length (L .refs) / refWords
+  pub lines : length (L .pathNos) * lineFloats ≤ length (L .coords)
+  pub paths : pathsAnswer (L .paths) (length (L .stored)) ≡ Done
+  pub room : slots * segmentFloats ≤ length (p .segments)
+  pub tagged : slots ≤ length (p .tags)
+
+-- what is left of a range up to `to` after some of its references
+abbrev pub afterBy : Lent → ℕ → ℕ → Answer → ℕ → Pieces → Tiled
+afterBy L slots to Done next p = rangeTiled (rangeOf L slots (to - next) next) p
+afterBy L slots to (Refused why item) next p = tiled (Refused why item) p
+
+abbrev pub after : Lent → ℕ → ℕ → Run → Tiled
+after L slots to r = afterBy L slots to (r .answer) (r .next) (r .pieces)
+
+-- some of the references from `from` up to `to`: one at least, where none is refused; what is left after them is what the range comes to
+pub record NextMet (from to : ℕ) (L : Lent) (slots : ℕ) (p : Pieces) (r : Run) : Type 0 where
+  pub less : r .answer ≡ Done → from < r .next
+  pub high : r .next ≤ to
+  pub segments : length (r .pieces .segments) ≡ length (p .segments)
+  pub tags : length (r .pieces .tags) ≡ length (p .tags)
+  pub left : after L slots to r ≡ rangeTiled (rangeOf L slots (to - from) from) p

@@ -2,6 +2,7 @@
 // docs/RULES.md, tiling's part of "When the panel says no".
 mod beams;
 pub mod look;
+mod one;
 
 ghost use mathlib.Core.Path.{_≡_};
 ghost use Prim.Native.Nat.{_+_, _-_, _*_, _/_, _≤_};
@@ -12,7 +13,7 @@ ghost use Rattle.panel.specs.Pieces.{pieces};
 ghost use Rattle.panel.specs.declared.kinds.Answer.the-variants.{Done};
 ghost use Rattle.path_tiling.specs.Look.{lent, FoundFits, foundTo};
 ghost use Rattle.path_tiling.specs.Tiling.{one, oneOf, slotsOf, wholeOf, Ready, rangeOf, tiled, rangeTiled, TileMet};
-ghost use Rattle.path_tiling.specs.Runs.{ranOf, runOf};
+ghost use Rattle.path_tiling.specs.Runs.{ranOf, runOf, Some, NextMet};
 use look::Look;
 use panel::kinds::Answer;
 use panel::kinds::LineNo;
@@ -109,7 +110,63 @@ fn tile_run(
     Ran { answer, next: k }
 }
 
-// The references from `from` up to `to`, in order, up to the first that is refused, run by run.
+// The references from `from` up to `to`, as many as are taken at once: the first, where its line lies within one tile, and
+// else those that name its line.
+fn tile_next(
+    from: u32,
+    to: u32,
+    path_nos: &[u32],
+    coords: &[f32],
+    paths: &[u32],
+    stored: &[u32],
+    refs: &[u32],
+    slots: u32,
+    segments: &mut [f32],
+    tags: &mut [u32],
+) -> Ran
+    requires { ⌜ Some from to (lent (now «path_nos») (now coords) (now paths) (now stored) (now refs)) slots (pieces (now segments) (now tags)) ⌝ }
+    ensures { λ r. ⌜ NextMet from to (lent (now («path_nos» .entry)) (now (coords .entry)) (now (paths .entry)) (now (stored .entry)) (now (refs .entry)))
+        slots (pieces (now (segments .entry)) (now (tags .entry))) (ranOf r (pieces (now (segments .exit)) (now (tags .exit)))) ⌝ }
+{
+    let named = named_at(refs, from);
+    let line = LineNo(named);
+    let packed = packed_at(refs, from);
+    let taken = one::tile_short(
+        line,
+        packed,
+        path_nos,
+        coords,
+        paths,
+        stored,
+        slots,
+        segments,
+        tags,
+    );
+    if taken {
+        let answer = Answer::Done;
+        return Ran {
+            answer,
+            next: from + 1,
+        };
+    }
+    let found = look::found_at(path_nos, coords, paths, line);
+    let path = beams::path_of(path_nos, line);
+    let tag = beams::tag_of(paths, path);
+    tile_run(
+        found,
+        tag,
+        line,
+        from,
+        to,
+        stored,
+        refs,
+        slots,
+        segments,
+        tags,
+    )
+}
+
+// The references from `from` up to `to`, in order, up to the first that is refused.
 fn tile_range(
     from: u32,
     to: u32,
@@ -129,12 +186,18 @@ fn tile_range(
     let slots = slots_of(segments.len());
     let mut k = from;
     while k < to {
-        let named = named_at(refs, k);
-        let line = LineNo(named);
-        let found = look::found_at(path_nos, coords, paths, line);
-        let path = beams::path_of(path_nos, line);
-        let tag = beams::tag_of(paths, path);
-        let ran = tile_run(found, tag, line, k, to, stored, refs, slots, segments, tags);
+        let ran = tile_next(
+            k,
+            to,
+            path_nos,
+            coords,
+            paths,
+            stored,
+            refs,
+            slots,
+            segments,
+            tags,
+        );
         let answer = ran.answer;
         if let Answer::Refused(why, item) = answer {
             return Answer::Refused(why, item);

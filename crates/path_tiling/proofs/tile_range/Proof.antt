@@ -8,8 +8,8 @@ use borrow.Author.Needs.{needs}
 use lib.ListN.{length}
 use Rattle.panel.specs.Pieces.{pieces}
 use Rattle.path_tiling.specs.Look.{lent}
-use Rattle.path_tiling.proofs.RangeLaws.{found-fits, long-self, slots-fit, slots-tagged}
-use Rattle.path_tiling.proofs.RunLaws.{Going, tagged, on, less, halted, done}
+use Rattle.path_tiling.proofs.RangeLaws.{long-self, slots-fit, slots-tagged}
+use Rattle.path_tiling.proofs.RunLaws.{Going, on, halted, done}
 use Rattle.path_tiling.proofs.tile_range.Statement.{statement}
 use Rattle.path_tiling.proofs.tile_range.Tie as tie
 
@@ -26,77 +26,47 @@ slots-of-requires c κs = search needs
 loop-holds : tie.Need-loop-holds Inv-loop μ-loop
 loop-holds c = record { low = le-refl _; high = c .before .before .before .before .before .before .before .before .pre .forward; long = long-self _; left = refl }
 
-named-at-requires : tie.Need-named-at-requires Inv-loop μ-loop
-named-at-requires c κs = omega (arith, c .before .before .before .before .before .before .before .before .before .before .pre .there, c .loop-test .taken)
-
-found-at-requires : tie.Need-found-at-requires Inv-loop μ-loop
-found-at-requires c κs = c .before .before .before .before .before .before .before .before .before .before .before .pre .lines
-
-path-of-requires : tie.Need-path-of-requires Inv-loop μ-loop
-path-of-requires c κs = search needs
-
-tag-of-requires : tie.Need-tag-of-requires Inv-loop μ-loop
-tag-of-requires c κs = search needs
-
-tile-run-requires : tie.Need-tile-run-requires Inv-loop μ-loop
-tile-run-requires c κs =
-    let s = c .before .before .before .before .before .before .before .before .before .before .before .before .before .before .before .before in
-    let g = c .before .before .before .before .before .before .before .loop .inv in
-    let n = length (s .args .segments .now) in
-    let slots = c .before .before .before .before .before .before .before .before .slots-of .ensures in (
-      rw (c .before .before .before .before .found-at .ensures) (found-fits _ _ _ _ _ (s .pre .paths)),
-      omega (arith, slots, slots-fit n, g .long .segments),
-      omega (arith, slots, slots-tagged n, s .pre .tagged, g .long .tags),
-      g .high,
-      s .pre .there,
-    )
+tile-next-requires : tie.Need-tile-next-requires Inv-loop μ-loop
+tile-next-requires c κs =
+    let p = c .before .before .before .before .before .before .before .before .before .before .before .before .pre in
+    let g = c .before .before .before .loop .inv in
+    let n = length (c .before .before .before .before .before .before .before .before .before .before .before .before .args .segments .now) in
+    record {
+      some = c .before .before .loop-test .taken;
+      there = p .there;
+      lines = p .lines;
+      paths = p .paths;
+      room = omega (arith, c .before .before .before .before .slots-of .ensures, slots-fit n, g .long .segments);
+      tagged = omega (arith, c .before .before .before .before .slots-of .ensures, slots-tagged n, p .tagged, g .long .tags);
+    }
 
 enum-known-answer : tie.Need-enum-known-answer Inv-loop μ-loop
 enum-known-answer c = search needs
 
 same-length : tie.Need-same-length Inv-loop μ-loop
-same-length c = c .before .before .before .before .before .before .segments .given
-    ∙ c .before .before .before .before .before .before .before .before .before .before .before .before .before .before .before .loop .inv .long .segments
+same-length c =
+    c .before .before .before .before .before .before .segments .given ∙ c .before .before .before .before .before .before .before .before .before .before .before .loop .inv .long .segments
 
 same-length-2 : tie.Need-same-length-2 Inv-loop μ-loop
-same-length-2 c = c .before .before .before .before .tags .given
-    ∙ c .before .before .before .before .before .before .before .before .before .before .before .before .before .before .before .loop .inv .long .tags
+same-length-2 c = c .before .before .before .before .tags .given ∙ c .before .before .before .before .before .before .before .before .before .before .before .loop .inv .long .tags
 
 returns : tie.Need-returns Inv-loop μ-loop
 returns c =
-    let s = c .before .before .before .before .before .before .before .before .before .before in
-    let t = s .before .before .before in
-    let a = c .before .before .before .before .before .before .before .before .before .before .before .before .before .before .before .before .before
-    .before .before .before .before .before .before .before .args in
-    let tag = tagged (a .path-nos .now) (a .paths .now) (t .named-at .result) _ _ (s .before .path-of .ensures) (s .tag-of .ensures) in
-    halted _ _ _ _ _ _ _ (t .before .before .loop .inv) _ _ _
-    (rw (s .before .before .found-at .ensures, tag, t .named-at .ensures) at (c .before .before .before .before .before .before .before .tile-run .ensures))
-    (c .before .answer .given .1) (t .before .before .before .slots-of .ensures)
+    halted _ _ _ _ _ _ _ (c .before .before .before .before .before .before .before .before .before .before .before .loop .inv) _ _ _
+    (c .before .before .before .before .before .before .before .tile-next .ensures) (c .before .answer .given .1)
+    (c .before .before .before .before .before .before .before .before .before .before .before .before .slots-of .ensures)
 
 enum-told : tie.Need-enum-told Inv-loop μ-loop
 enum-told c = search needs
 
 loop-less : tie.Need-loop-less Inv-loop μ-loop
 loop-less c =
-    let s = c .before .before .before .before .before .before .before .before .before in
-    let t = s .before .before .before in
-    let a = c .before .before .before .before .before .before .before .before .before .before .before .before .before .before .before .before .before
-    .before .before .before .before .before .before .args in
-    let tag = tagged (a .path-nos .now) (a .paths .now) (t .named-at .result) _ _ (s .before .path-of .ensures) (s .tag-of .ensures) in
-    let l = less _ _ _ _ _ _ _ (t .before .before .loop .inv) _ (t .before .loop-test .taken)
-    (rw (s .before .before .found-at .ensures, tag, t .named-at .ensures) at (c .before .before .before .before .before .before .tile-run .ensures))
-    (c .enum-told .given .1) in
-    omega (arith, l, t .before .loop-test .taken)
+    let m = c .before .before .before .before .before .before .tile-next .ensures in
+    omega (arith, m .less (c .enum-told .given .1), c .before .before .before .before .before .before .before .before .before .loop-test .taken)
 
 loop-again : tie.Need-loop-again Inv-loop μ-loop
 loop-again c =
-    let s = c .before .before .before .before .before .before .before .before .before in
-    let t = s .before .before .before in
-    let a = c .before .before .before .before .before .before .before .before .before .before .before .before .before .before .before .before .before
-    .before .before .before .before .before .before .args in
-    let tag = tagged (a .path-nos .now) (a .paths .now) (t .named-at .result) _ _ (s .before .path-of .ensures) (s .tag-of .ensures) in
-    on _ _ _ _ _ _ _ (t .before .before .loop .inv) _ (t .before .loop-test .taken)
-    (rw (s .before .before .found-at .ensures, tag, t .named-at .ensures) at (c .before .before .before .before .before .before .tile-run .ensures))
+    on _ _ _ _ _ _ _ (c .before .before .before .before .before .before .before .before .before .before .loop .inv) _ (c .before .before .before .before .before .before .tile-next .ensures)
     (c .enum-told .given .1)
 
 same-length-3 : tie.Need-same-length-3 Inv-loop μ-loop
@@ -116,11 +86,7 @@ tile-range-spec =
     μ-loop
     slots-of-requires
     loop-holds
-    named-at-requires
-    found-at-requires
-    path-of-requires
-    tag-of-requires
-    tile-run-requires
+    tile-next-requires
     enum-known-answer
     same-length
     same-length-2
