@@ -1,31 +1,32 @@
--- What `byte` makes of a channel, by picks and by a shift to where the floats are whole and back, is the channel's byte. Assumes nothing.
+-- What `byte` makes of a channel, by picks and by the bits of a float shifted to where the floats are whole, is the channel's byte. Assumes nothing.
 -- Of `fin s m e` the size is A / D, with A = m * up e and D = down e.
 use mathlib.Core.Path.{_≡_, refl, sym, ap, _∙_, subst}
-use mathlib.Core.Bool.{Bool, true, false, cond, false≢true}
-use Prim.Native.Nat.{ℕ, _+_, _*_, _/_, _^_, _≤_, _<_}
-use native.Mathlib.Nat.{mul-one, mul-div-cancel}
+use mathlib.Core.Bool.{Bool, true, false, not, cond}
+use Prim.Native.Nat.{ℕ, _+_, _-_, _*_, _/_, _≤_, _<_}
+use native.Mathlib.Nat.{mul-one, mul-div-cancel, lt-of-mul-lt-mul-right}
 use native.Mathlib.Omega.{arith}
-use lib.Dec.{T, ltb, le→leb, lit≤}
+use lib.Dec.{T, ltb, lit≤}
 use lib.IntN.{ℤ, pos}
-use lib.Ieee.{Float, nan, inf, fin, binary32, up, down, lt, le, neg, add, sub, mul, round, fits, ofBits, ofInt, inFloat, inSigned, toSigned, toUnsigned}
-use lib.Ieee.Back.{positive-back}
-use lib.Ieee.Fits.{down-pos, round-fits}
+use lib.Ieee.{Float, nan, inf, fin, binary32, up, down, lt, le, add, sub, sum, mul, round, fits, isNan, ofBits, toBits, toUnsigned}
+use lib.Ieee.Exact.{HasValue}
+use lib.Ieee.Fits.{down-pos, round-fits, add-fits}
 use lib.Ieee.Order.{round-mono}
 use borrow.Author.Tests.{le-ltb, ltb-true, ltb-false}
-use Rattle.float32.specs.Meaning.{whole, unit, near-div, clampOf, roundOf}
-use Rattle.float32.proofs.Halves.{even, Rounded, round-near}
-use Rattle.float32.proofs.Laws.{size-plus, round-to-fits, whole-u32}
-use Rattle.float32.proofs.Magic.{own}
+use Rattle.float32.specs.Meaning.{whole, unit, clampOf, roundOf}
+use Rattle.float32.proofs.Floors.{lt-plus, gt-plus, one-more}
+use Rattle.float32.proofs.Halves.{big, even, round-near}
+use Rattle.float32.proofs.Laws.{size-plus, whole-u32}
+use Rattle.float32.proofs.Magic.{own, grid-value, shifted-plus}
 use Rattle.float32.proofs.Nearest as halves
-use Rattle.float32.proofs.Same.{sub-zero}
-use Rattle.float32.proofs.Floors.{lt-plus, gt-plus}
-use Rattle.util.specs.Constants.{zero, half, one, minusOne, byteMost}
+use Rattle.float32.proofs.Whole.{whole-value}
+use Rattle.whole.proofs.Shifted.{value-bits, no-value-nan}
+use Rattle.util.specs.Constants.{zero, one, byteMost}
 use Rattle.coverage.proofs.Even.{shape}
-use Rattle.colours.specs.Colour.{byteMany, byteOf}
-use Rattle.colours.proofs.Bytes.{nearest-small, minus-cast, nan-byte, times, is-true}
+use Rattle.colours.specs.Colour.{byteOf}
+use Rattle.colours.proofs.Bytes.{minus-cast, nan-byte, times, is-true}
 
 -- ---- what stands on the way
--- at least 0, a NaN and -0 too; at most 1; times 255; the whole number nearest to that
+-- at least 0, a NaN and -0 too; at most 1; times 255
 abbrev pub lowest : Float → Float
 lowest v = cond (lt zero v) v zero
 
@@ -34,9 +35,6 @@ kept v = cond (lt one (lowest v)) one (lowest v)
 
 abbrev pub scaled : Float → Float
 scaled v = mul binary32 (kept v) byteMost
-
-abbrev pub stepped : Float → Float
-stepped x = sub binary32 (even x) (cond (le half (sub binary32 x (even x))) minusOne zero)
 
 -- ---- what is kept lies from +0 to 1
 record Plus (N : ℕ) (y : Float) : Type 0 where
@@ -136,43 +134,46 @@ scaled-plus v h =
     subst (Plus 255) (sym (ap (λ (z : Float). mul binary32 z byteMost) (k .is) ∙ times false (k .m) (k .e)))
     (round-plus (k .m * up (k .e) * 255) (down (k .e) * 1) (omega (arith, down-pos (k .e), mul-one (down (k .e)))) (omega (arith, k .most, mul-one (down (k .e)))))
 
--- ---- the whole number nearest to it
-minus-one : (r : Float) → sub binary32 r minusOne ≡ add binary32 r (unit false)
-unfolding sub neg ofBits
-minus-one r = refl
+-- ---- the whole number nearest to it, by the bits of 2 ^ 23 and it
+-- the bits of 2 ^ 23
+abbrev pub wholeBits : ℕ
+wholeBits = 0x4b00_0000
 
-none-off : (r : Float) → T (fits binary32 r) → sub binary32 r zero ≡ r
-unfolding ofBits
-none-off r h = sub-zero r h
+abbrev pub bits : Float → ℕ
+bits x = toBits binary32 (add binary32 x big)
 
-stepped-rounds : (x : Float) → Plus 255 x → stepped x ≡ roundOf x
-unfolding ofBits
-stepped-rounds x p = subst (λ (z : Float). stepped z ≡ roundOf z) (sym (p .is))
-    (go y (round-near (p .m) (p .e) (p .fit) (omega (arith, p .most, down-pos (p .e)))) (le (halves.half false) (sub binary32 y (even y))) refl)
-  where
-    y : Float
-    y = fin false (p .m) (p .e)
+-- what they say of x: b is x rounded
+pub record Lifted (b : ℕ) (x : Float) : Type 0 where
+  pub real : T (not (isNan (add binary32 x big)))
+  pub least : wholeBits ≤ bits x
+  pub more : le (halves.half false) (sub binary32 x (even x)) ≡ true → bits x - wholeBits + 1 ≡ b
+  pub stay : le (halves.half false) (sub binary32 x (even x)) ≡ false → bits x - wholeBits ≡ b
 
-    go : (y : Float) → Rounded y (even y) → (b : Bool) → le (halves.half false) (sub binary32 y (even y)) ≡ b → sub binary32 (even y) (cond b minusOne zero) ≡ roundOf y
-    go y w true i = minus-one (even y) ∙ w .more i
-    go y w false i = none-off (even y) (subst (λ (z : Float). T (fits binary32 z)) (sym (w .stay i)) (round-to-fits y)) ∙ w .stay i
+added : (m : ℕ) (e : ℤ) → add binary32 (fin false m e) big ≡ round binary32 false (m * up e + 8388608 * down e) (down e)
+unfolding add sum
+added m e = rw (mul-one (m * up e), mul-one (down e)) refl
 
--- ---- as a whole number
-abbrev Cast : Float → Type 0
-Cast n = T (inSigned binary32 31 n) × (toSigned 31 n ≡ pos (toUnsigned 32 n))
-
-whole-cast : (n : ℕ) → n < byteMany → Cast (whole false n)
-unfolding inFloat ofInt
-whole-cast n l =
-    let b : n ≤ 2 ^ 24 = omega arith in
-    let w = positive-back binary32 31 n (le→leb n (2 ^ 24) b) (omega arith) in
-    (w .0, w .1 ∙ ap pos (sym (whole-u32 n b)))
-
-round-cast : (x : Float) → Plus 255 x → Cast (roundOf x)
-unfolding roundOf
-round-cast x p =
-    subst (λ (z : Float). Cast (roundOf z)) (sym (p .is))
-    (whole-cast (near-div (p .m * up (p .e)) (down (p .e))) (nearest-small (p .m * up (p .e)) (down (p .e)) (down-pos (p .e)) (p .most)))
+lifted-plus : (m : ℕ) (e : ℤ) → T (fits binary32 (fin false m e)) → m * up e ≤ 255 * down e → Lifted (toUnsigned 32 (roundOf (fin false m e))) (fin false m e)
+lifted-plus m e h l =
+    let x = fin false m e in
+    let p = down-pos e in
+    let r = round-near m e h (omega arith) in
+    let w = shifted-plus 1 23 m e (lit≤ tt) (omega arith) in
+    let n = w .0 in
+    let few : n < 256 = lt-of-mul-lt-mul-right (down e) (omega (arith, w .4)) in
+    let v : HasValue (add binary32 x big) false (8388608 + n) 1 =
+    subst (λ (y : Float). HasValue y false (8388608 + n) 1) (sym (added m e))
+    (subst (λ (k : ℕ). HasValue (round binary32 false (m * up e + 8388608 * down e) (down e)) false k 1) (w .5)
+    (grid-value (m * up e + 8388608 * down e) (down e) p (omega arith) (omega arith))) in
+    let b = value-bits (add binary32 x big) (8388608 + n) (add-fits binary32 x big) v (omega arith) (omega arith) in
+    let next : add binary32 (even x) (unit false) ≡ whole false (n + 1) =
+    one-more false (even x) n (subst (λ (y : Float). HasValue y false n 1) (sym (w .1)) (whole-value false n (w .2))) in
+    record {
+      real = no-value-nan (add binary32 x big) (8388608 + n) v;
+      least = omega (arith, b);
+      more = λ i. omega (arith, b, whole-u32 (n + 1) (omega arith), ap (toUnsigned 32) (sym next ∙ r .more i));
+      stay = λ i. omega (arith, b, whole-u32 n (w .2), ap (toUnsigned 32) (sym (w .1) ∙ r .stay i));
+    }
 
 -- ---- the byte of what is kept
 pub zero-byte : toUnsigned 32 (roundOf (mul binary32 zero byteMost)) ≡ 0
@@ -219,8 +220,9 @@ kept-byte (fin false m e) h = go (lt zero (fin false m e)) refl
     go false i = subst (λ (z : Float). byteAt (cond (lt z zero) zero (cond (lt one z) one z)) ≡ byteAt zero) (is-zero i) refl
 
 -- ---- all of it
-pub byte-cast : (v : Float) → T (fits binary32 v) → T (inSigned binary32 31 (stepped (scaled v))) × (toSigned 31 (stepped (scaled v)) ≡ pos (byteOf v))
-byte-cast v h =
+pub lifted : (v x : Float) → T (fits binary32 v) → x ≡ scaled v → Lifted (byteOf v) x
+lifted v x h e =
     let p = scaled-plus v h in
-    let w = subst Cast (sym (stepped-rounds (scaled v) p)) (round-cast (scaled v) p) in
-    (w .0, w .1 ∙ ap pos (ap (toUnsigned 32) (stepped-rounds (scaled v) p) ∙ sym (kept-byte v h)))
+    subst (λ (b : ℕ). Lifted b x) (sym (kept-byte v h))
+    (subst (λ (z : Float). Lifted (toUnsigned 32 (roundOf (scaled v))) z) (sym e)
+    (subst (λ (z : Float). Lifted (toUnsigned 32 (roundOf z)) z) (sym (p .is)) (lifted-plus (p .m) (p .e) (p .fit) (p .most))))
