@@ -46,17 +46,19 @@ const WHOLE: f32 = 8388608.0;
 // The bits of WHOLE: those of WHOLE and a whole number are so many more.
 const WHOLE_BITS: u32 = 0x4B00_0000;
 
-// A channel as a byte. A NaN is 0, as is -0, so neither goes on. The bits of x + WHOLE say which whole number is nearest
-// to x, of two the even one, so that one more is due where a half was cut: as `float32::round` has it, but with no branch,
-// no sign to put back and no cast.
+// WHOLE less a half.
+const HALF_LESS: f32 = 8388607.5;
+
+// A channel as a byte. A NaN is 0, as is -0, so neither goes on. The bits of t say which whole number is nearest to x, of
+// two the even one, so that one more is due where x is that number and a half: as `float32::round` has it, but with no
+// branch, no sign to put back and no cast.
 pub fn byte(v: f32) -> u32
     ensures { λ r. ⌜ (r ≡ byteOf v) × (r < byteMany) ⌝ }
 {
     let low = pick(0.0 < v, v, 0.0);
     let x = pick(low < 1.0, low, 1.0) * 255.0;
     let t = x + WHOLE;
-    let even = t - WHOLE;
-    let step: u32 = if 0.5 <= x - even { 1 } else { 0 };
+    let step: u32 = if x < t - HALF_LESS { 0 } else { 1 };
     f32::to_bits(t) - WHOLE_BITS + step
 }
 

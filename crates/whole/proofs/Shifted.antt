@@ -122,7 +122,7 @@ added-minus m e l =
     refl
 
 -- tests of two numbers that are the same test
-same-test : (a b c d : ℕ) → (a < b → c < d) → (b ≤ a → d ≤ c) → ltb a b ≡ ltb c d
+pub same-test : (a b c d : ℕ) → (a < b → c < d) → (b ≤ a → d ≤ c) → ltb a b ≡ ltb c d
 same-test a b c d h g = go (below-or-not a b)
   where
     go : (a < b) ⊎ (b ≤ a) → ltb a b ≡ ltb c d

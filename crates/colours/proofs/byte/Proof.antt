@@ -1,4 +1,4 @@
--- `colours::byte` meets its contract: the bits of what the picks leave, 2 ^ 23 added, say the channel's byte, or one less where a half was cut (`ByShift.antt`). Assumes nothing.
+-- `colours::byte` meets its contract: the bits of what the picks leave, 2 ^ 23 added, say the channel's byte, or one less where a half is cut (`ByShift.antt`). Assumes nothing.
 use mathlib.Core.Path.{_≡_, sym, ap, _∙_, subst}
 use mathlib.Core.Bool.{true, false, cond}
 use mathlib.Core.Logic.{_⊎_, inl, inr, ⊎-elim}
@@ -6,14 +6,12 @@ use Prim.Native.Nat.{ℕ, _+_, _-_, _<_}
 use native.Mathlib.Nat.{lt-trans}
 use native.Mathlib.Omega.{arith}
 use lib.Dec.{T, lit<}
-use lib.Ieee.{Float, binary32, ofBits, lt, le, sub, mul, fits}
-use Rattle.float32.proofs.Halves.{even}
-use Rattle.float32.proofs.Nearest.{half}
+use lib.Ieee.{Float, binary32, ofBits, lt, mul, fits}
 use Rattle.float32.proofs.Tests.{yes}
 use Rattle.util.specs.Constants.{zero, one, byteMost}
 use Rattle.colours.specs.Colour.{byteMany, byteOf}
 use Rattle.colours.proofs.Bytes.{byte-small}
-use Rattle.colours.proofs.ByShift.{Lifted, wholeBits, bits, kept-by, lifted}
+use Rattle.colours.proofs.ByShift.{Lifted, wholeBits, bits, edge, kept-by, lifted}
 use borrow.Author.Needs.{needs}
 use Rattle.colours.proofs.byte.Statement.{statement}
 use Rattle.colours.proofs.byte.Tie as tie
@@ -22,12 +20,12 @@ use Rattle.colours.proofs.byte.Tie as tie
 made : (v a b : Float) → T (fits binary32 v) → a ≡ cond (lt zero v) v zero → b ≡ cond (lt a one) a one → Lifted (byteOf v) (mul binary32 b byteMost)
 made v a b h e f = lifted v (mul binary32 b byteMost) h (ap (λ (z : Float). mul binary32 z byteMost) (f ∙ ap (λ (z : Float). cond (lt z one) z one) e ∙ kept-by v h))
 
--- one more where a half was cut
+-- one more where a half is cut
 up-or-not : (b : ℕ) (x : Float) → Lifted b x → (step : ℕ)
-    → ((le (half false) (sub binary32 x (even x)) ≡ true) × (step ≡ 1)) ⊎ ((le (half false) (sub binary32 x (even x)) ≡ false) × (step ≡ 0))
+    → ((lt x (edge x) ≡ true) × (step ≡ 0)) ⊎ ((lt x (edge x) ≡ false) × (step ≡ 1))
     → bits x - wholeBits + step ≡ b
-up-or-not b x f step (inl w) = omega (arith, f .more (w .0), w .1)
-up-or-not b x f step (inr w) = omega (arith, f .stay (w .0), w .1)
+up-or-not b x f step (inl w) = omega (arith, f .stay (w .0), w .1)
+up-or-not b x f step (inr w) = omega (arith, f .more (w .0), w .1)
 
 pick-requires : tie.Need-pick-requires
 pick-requires c κs = search needs
