@@ -43,17 +43,23 @@ pub fn over(px: [f32; 4], fg: [f32; 4], ai: f32) -> [f32; 4]
 // From here up every float is a whole number.
 const WHOLE: f32 = 8388608.0;
 
-// A channel as a byte. A NaN is 0, as is -0, so neither goes on. WHOLE added to x and taken off again, the nearest whole
-// number is left, of two the even one, so that one more is due where a half was cut: as `float32::round` has it, but
-// with no branch and no sign to put back.
+// The bits of WHOLE: those of WHOLE and a whole number are so many more.
+const WHOLE_BITS: u32 = 0x4B00_0000;
+
+// WHOLE less a half.
+const HALF_LESS: f32 = 8388607.5;
+
+// A channel as a byte. A NaN is 0, as is -0, so neither goes on. The bits of t say which whole number is nearest to x, of
+// two the even one, so that one more is due where x is that number and a half: as `float32::round` has it, but with no
+// branch, no sign to put back and no cast.
 pub fn byte(v: f32) -> u32
     ensures { λ r. ⌜ (r ≡ byteOf v) × (r < byteMany) ⌝ }
 {
     let low = pick(0.0 < v, v, 0.0);
     let x = pick(low < 1.0, low, 1.0) * 255.0;
-    let even = (x + WHOLE) - WHOLE;
-    let n = even - pick(0.5 <= x - even, -1.0, 0.0);
-    (n as i32) as u32
+    let t = x + WHOLE;
+    let step: u32 = if x < t - HALF_LESS { 0 } else { 1 };
+    f32::to_bits(t) - WHOLE_BITS + step
 }
 
 // A pixel, red lowest.

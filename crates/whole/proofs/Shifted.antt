@@ -73,7 +73,7 @@ whole-bits N l u = go (below-or-not N 16777216)
     go (inl h) = bits-at (0x4b00_0000 + (N - 8388608)) N (room N h) (from-bits (N - 8388608) (less N l h) ∙ ap (whole false) (again N l))
     go (inr h) = subst (λ (n : ℕ). toBits binary32 (whole false n) ≡ 0x4b00_0000 + (n - 8388608)) (sym (ends N u h)) (bits-at 0x4b80_0000 16777216 (lit< tt) last-bits)
 
-value-bits : (y : Float) (N : ℕ) → T (fits binary32 y) → HasValue y false N 1 → 8388608 ≤ N → N ≤ 16777216 → toBits binary32 y ≡ 0x4b00_0000 + (N - 8388608)
+pub value-bits : (y : Float) (N : ℕ) → T (fits binary32 y) → HasValue y false N 1 → 8388608 ≤ N → N ≤ 16777216 → toBits binary32 y ≡ 0x4b00_0000 + (N - 8388608)
 value-bits y N f v l u = ap (toBits binary32) (whole-unique binary32 y (whole false N) false N f (whole-fits false N) v (whole-value false N u)) ∙ whole-bits N l u
 
 -- ---- what x + W is
@@ -103,7 +103,7 @@ high-end N S D p l b =
     let h : N < 16777217 = lt-of-mul-lt-mul-right D (omega arith) in
     omega arith
 
-no-value-nan : (y : Float) (N : ℕ) → HasValue y false N 1 → T (not (isNan y))
+pub no-value-nan : (y : Float) (N : ℕ) → HasValue y false N 1 → T (not (isNan y))
 unfolding isNan
 no-value-nan nan N v = absurd v
 no-value-nan (inf s) N v = absurd v
@@ -122,7 +122,7 @@ added-minus m e l =
     refl
 
 -- tests of two numbers that are the same test
-same-test : (a b c d : ℕ) → (a < b → c < d) → (b ≤ a → d ≤ c) → ltb a b ≡ ltb c d
+pub same-test : (a b c d : ℕ) → (a < b → c < d) → (b ≤ a → d ≤ c) → ltb a b ≡ ltb c d
 same-test a b c d h g = go (below-or-not a b)
   where
     go : (a < b) ⊎ (b ≤ a) → ltb a b ≡ ltb c d

@@ -1,53 +1,31 @@
--- `colours::byte` meets its contract: the picks and the shift leave the channel's byte (`ByShift.antt`), which the two casts don't change. Assumes nothing.
-use mathlib.Core.Path.{_≡_, refl, sym, ap, _∙_, subst}
-use mathlib.Core.Bool.{cond}
-use Prim.Native.Nat.{_^_, _<_}
+-- `colours::byte` meets its contract: the bits of what the picks leave, 2 ^ 23 added, say the channel's byte, or one less where a half is cut (`ByShift.antt`). Assumes nothing.
+use mathlib.Core.Path.{_≡_, sym, ap, _∙_, subst}
+use mathlib.Core.Bool.{true, false, cond}
+use mathlib.Core.Logic.{_⊎_, inl, inr, ⊎-elim}
+use Prim.Native.Nat.{ℕ, _+_, _-_, _<_}
+use native.Mathlib.Nat.{lt-trans}
 use native.Mathlib.Omega.{arith}
-use lib.Dec.{T}
-use lib.IntN.{ℤ, pos, natAbs}
-use lib.Ieee.{Float, binary32, ofBits, lt, le, add, sub, mul, fits, inSigned, toSigned}
-use lib.Signed.{nonNeg}
-use mir.Syntax.{w32}
-use mir.Val.{toZ, ofZ, Fits}
-use mir.Facts.{toZ-ofZ}
-use Rattle.float32.proofs.Halves.{even}
+use lib.Dec.{T, lit<}
+use lib.Ieee.{Float, binary32, ofBits, lt, mul, fits}
 use Rattle.float32.proofs.Tests.{yes}
-use Rattle.util.specs.Constants.{zero, half, one, minusOne, byteMost}
+use Rattle.util.specs.Constants.{zero, one, byteMost}
 use Rattle.colours.specs.Colour.{byteMany, byteOf}
 use Rattle.colours.proofs.Bytes.{byte-small}
-use Rattle.colours.proofs.ByShift.{kept, stepped, scaled, kept-by, byte-cast}
+use Rattle.colours.proofs.ByShift.{Lifted, wholeBits, bits, edge, kept-by, lifted}
 use borrow.Author.Needs.{needs}
 use Rattle.colours.proofs.byte.Statement.{statement}
 use Rattle.colours.proofs.byte.Tie as tie
 
--- what the picks leave: a, b and d
-made : (v a b d : Float) → T (fits binary32 v) → a ≡ cond (lt zero v) v zero → b ≡ cond (lt a one) a one
-    → d ≡ cond (le half (sub binary32 (mul binary32 b byteMost) (even (mul binary32 b byteMost)))) minusOne zero
-    → sub binary32 (even (mul binary32 b byteMost)) d ≡ stepped (scaled v)
-made v a b d h e f g = steps (f ∙ ap (λ (z : Float). cond (lt z one) z one) e ∙ kept-by v h) g
-  where
-    steps : b ≡ kept v
-        → d ≡ cond (le half (sub binary32 (mul binary32 b byteMost) (even (mul binary32 b byteMost)))) minusOne zero
-        → sub binary32 (even (mul binary32 b byteMost)) d ≡ stepped (scaled v)
-    steps k g = rw (g, k) refl
+-- a and b are the picks
+made : (v a b : Float) → T (fits binary32 v) → a ≡ cond (lt zero v) v zero → b ≡ cond (lt a one) a one → Lifted (byteOf v) (mul binary32 b byteMost)
+made v a b h e f = lifted v (mul binary32 b byteMost) h (ap (λ (z : Float). mul binary32 z byteMost) (f ∙ ap (λ (z : Float). cond (lt z one) z one) e ∙ kept-by v h))
 
--- a byte, through the two casts
-module _ (v n : Float) (h : T (fits binary32 v)) (e : n ≡ stepped (scaled v)) where
-  fit : T (inSigned binary32 31 n)
-  fit = subst (λ (z : Float). T (inSigned binary32 31 z)) (sym e) (byte-cast v h .0)
-
-  back : toZ w32 (ofZ w32 (toSigned 31 n)) ≡ pos (byteOf v)
-  back =
-      let small : byteOf v < 2 ^ 31 = omega (arith, byte-small v) in
-      ap (λ (z : ℤ). toZ w32 (ofZ w32 z)) (ap (toSigned 31) e ∙ byte-cast v h .1) ∙ toZ-ofZ {w = w32} {z = pos (byteOf v)} (record { sfits = small })
-
-  room : T (nonNeg (toZ w32 (ofZ w32 (toSigned 31 n)))) × Fits w32 (natAbs (toZ w32 (ofZ w32 (toSigned 31 n))))
-  room =
-      let small : byteOf v < 2 ^ 32 = omega (arith, byte-small v) in
-      subst (λ (z : ℤ). T (nonNeg z) × Fits w32 (natAbs z)) (sym back) (tt, record { fits = small })
-
-  answer : (natAbs (toZ w32 (ofZ w32 (toSigned 31 n))) ≡ byteOf v) × (natAbs (toZ w32 (ofZ w32 (toSigned 31 n))) < byteMany)
-  answer = subst (λ (z : ℤ). (natAbs z ≡ byteOf v) × (natAbs z < byteMany)) (sym back) (refl, byte-small v)
+-- one more where a half is cut
+up-or-not : (b : ℕ) (x : Float) → Lifted b x → (step : ℕ)
+    → ((lt x (edge x) ≡ true) × (step ≡ 0)) ⊎ ((lt x (edge x) ≡ false) × (step ≡ 1))
+    → bits x - wholeBits + step ≡ b
+up-or-not b x f step (inl w) = omega (arith, f .stay (w .0), w .1)
+up-or-not b x f step (inr w) = omega (arith, f .more (w .0), w .1)
 
 pick-requires : tie.Need-pick-requires
 pick-requires c κs = search needs
@@ -55,29 +33,40 @@ pick-requires c κs = search needs
 pick-requires-2 : tie.Need-pick-requires-2
 pick-requires-2 c κs = search needs
 
-pick-requires-3 : tie.Need-pick-requires-3
-pick-requires-3 c κs = search needs
+abbrev x : tie.Joined1 → Float
+x c = mul binary32 (c .before .pick2 .result) byteMost
 
-float-to-int-result : tie.Need-float-to-int-result
-unfolding ofBits
-float-to-int-result c =
-    let s = c .before .before .before .before in
-    fit (s .args .v) _ (yes (s .good .0 .1))
-    (made (s .args .v) _ _ _ (yes (s .good .0 .1)) (c .before .before .before .pick .ensures) (c .before .before .pick2 .ensures) (c .before .pick3 .ensures))
+abbrev byteFor : tie.Joined1 → ℕ
+byteFor c = byteOf (c .before .before .before .args .v)
 
-cast-result : tie.Need-cast-result
+shift : (c : tie.Joined1) → Lifted (byteFor c) (x c)
 unfolding ofBits
-cast-result c =
-    let s = c .before .before .before .before in
-    room (s .args .v) _ (yes (s .good .0 .1))
-    (made (s .args .v) _ _ _ (yes (s .good .0 .1)) (c .before .before .before .pick .ensures) (c .before .before .pick2 .ensures) (c .before .pick3 .ensures))
+shift c =
+    let s = c .before .before .before in
+    made (s .args .v) (c .before .before .pick .result) (c .before .pick2 .result) (yes (s .good .0 .1)) (c .before .before .pick .ensures) (c .before .pick2 .ensures)
+
+answer : (c : tie.Joined1) → bits (x c) - wholeBits + c .if1 .step ≡ byteFor c
+unfolding ofBits
+answer c = up-or-not (byteFor c) (x c) (shift c) (c .if1 .step) (⊎-elim (λ w. inl (w .0 .taken, w .1)) (λ w. inr (w .0 .left, w .1)) (c .if1 .came))
+
+small : (c : tie.Joined1) → bits (x c) - wholeBits + c .if1 .step < byteMany
+small c = subst (λ (n : ℕ). n < byteMany) (sym (answer c)) (byte-small (c .before .before .before .args .v))
+
+float-to-bits-result : tie.Need-float-to-bits-result
+unfolding ofBits
+float-to-bits-result c = shift c .real
+
+sub-result : tie.Need-sub-result
+unfolding ofBits
+sub-result c = shift c .least
+
+add-result : tie.Need-add-result
+unfolding ofBits
+add-result c = record { fits = lt-trans (small (c .before)) (lit< tt) }
 
 returns : tie.Need-returns
 unfolding ofBits
-returns c =
-    let s = c .before .before .before .before in
-    answer (s .args .v) _ (yes (s .good .0 .1))
-    (made (s .args .v) _ _ _ (yes (s .good .0 .1)) (c .before .before .before .pick .ensures) (c .before .before .pick2 .ensures) (c .before .pick3 .ensures))
+returns c = (answer (c .before), small (c .before))
 
 pub byte-spec : {M : Type 1} → statement M
-byte-spec = tie.close (tie.spec pick-requires pick-requires-2 pick-requires-3 float-to-int-result cast-result returns)
+byte-spec = tie.close (tie.spec pick-requires pick-requires-2 float-to-bits-result sub-result add-result returns)
