@@ -257,7 +257,16 @@ pub fn count_noted(
         return Tallied::On(1);
     }
     let direct = count_direct(
-        line, place, made, path_nos, coords, paths, notes, backs, counts, refs,
+        line,
+        place,
+        made,
+        path_nos,
+        coords,
+        paths,
+        notes,
+        backs,
+        counts,
+        refs,
     );
     if let Direct::On(n) = direct {
         return Tallied::On(n);

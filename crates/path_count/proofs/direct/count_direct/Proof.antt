@@ -79,7 +79,8 @@ quick-steps-requires c κs =
 
 write-notes-requires : tie.Need-write-notes-requires
 write-notes-requires c κs =
-    let s = c .before .before .before .before .before .before .before .before .before .before .before .before .before .before .before .before .before .before .before .before .before .before in
+    let s = c .before .before .before .before .before .before .before .before .before .before .before .before .before .before .before .before .before .before .before .before .before
+    .before in
     let u = lies (c .before .before .before .before .before .before .before .before .before .before .before .before .before) in
     let t = tests (c .before .before .before .before .before .before .before .before .before .before .before) in
     let q = c .before .before .before .before .before .before .before .quick-steps in
@@ -110,13 +111,15 @@ same-length-4 c = search needs
 
 returns-3 : tie.Need-returns-3
 returns-3 c =
-    let s = c .before .before .before .before .before .before .before .before .before .before .before .before .before .before .before .before .before .before .before .before .before .before .before .before .before .before .before .before in
+    let s = c .before .before .before .before .before .before .before .before .before .before .before .before .before .before .before .before .before .before .before .before .before
+    .before .before .before .before .before .before .before in
     let u = lies (c .before .before .before .before .before .before .before .before .before .before .before .before .before .before .before .before .before .before .before) in
     let t = tests (c .before .before .before .before .before .before .before .before .before .before .before .before .before .before .before .before .before) in
     let q = c .before .before .before .before .before .before .before .before .before .before .before .before .before .quick-steps in
     let f = q .ensures (c .before .before .before .before .before .before .before .before .before .before .if2 .taken) in
     direct-done (s .args .path-nos .now) (s .args .coords .now) (s .args .paths .now) (s .args .place) _ _ _ _ u (s .args .line .0) (s .args .made)
-    (s .args .backs .now) (s .args .counts .now) (s .args .refs .now) _ _ _ (q .last .1 .1 .1 .1 .1 .1 .1 .0) (length (s .args .backs .now)) (t .0) (t .1) (t .2) (f .1) (c .before .before .before .before .before .write-notes .ensures)
+    (s .args .backs .now) (s .args .counts .now) (s .args .refs .now) _ _ _ (q .last .1 .1 .1 .1 .1 .1 .1 .0) (length (s .args .backs .now)) (t .0) (t .1) (t .2) (f .1)
+    (c .before .before .before .before .before .write-notes .ensures)
 
 same-length-5 : tie.Need-same-length-5
 same-length-5 c = search needs

@@ -71,7 +71,8 @@ same-length-2 c = search needs
 
 returns-2 : tie.Need-returns-2
 returns-2 c =
-    let the-before = c .before .before .before .before .before .before .before .before .before .before .before .before .before .before .before .before .before .before .before .before .before in
+    let the-before = c .before .before .before .before .before .before .before .before .before .before .before .before .before .before .before .before .before .before .before .before
+    .before in
     let the-one = c .before .before .before .before .before .before .before .before in
     let s = the-before in
     let v = c .before .before .before .before .visit in
@@ -83,7 +84,9 @@ enum-told : tie.Need-enum-told
 enum-told c = search needs
 
 count-direct-requires : tie.Need-count-direct-requires
-count-direct-requires c κs = let s = c .before .before .before .before .before .before .before .before .before .before .before .before .before .before .before .before .before in (s .pre .0, s .pre .1, s .pre .2)
+count-direct-requires c κs =
+    let s = c .before .before .before .before .before .before .before .before .before .before .before .before .before .before .before .before .before in
+    (s .pre .0, s .pre .1, s .pre .2)
 
 enum-known-direct : tie.Need-enum-known-direct
 enum-known-direct c = search needs
@@ -102,33 +105,40 @@ same-length-6 c = search needs
 
 returns-3 : tie.Need-returns-3
 returns-3 c =
-    let s = c .before .before .before .before .before .before .before .before .before .before .before .before .before .before .before .before .before .before .before .before .before .before .before .before .before .before .before .before in
-    let d = c .before .before .before .before .before .before .before .before .before .before .count-direct in
+    let s = c .before .before .before .before .before .before .before .before .before .before .before .before .before .before .before .before .before .before .before .before .before
+    .before .before .before .before .before .before .before in
+    let a = c .before .before .before .before .before .before .before .before .before .before in
+    let d = a .count-direct in
     let t = stOf (s .args .backs .now) (s .args .counts .now) (s .args .refs .now) (s .args .made) in
     subst (λ (r : Direct). DirectMet (walkAt (s .args .path-nos .now) (s .args .coords .now) (s .args .paths .now) (s .args .place)) (length (s .args .refs .now) / refWords)
     (s .args .line .0) (s .args .made) (s .args .backs .now) (s .args .counts .now) (s .args .refs .now) (d .last .1 .1 .1 .1 .1 .1 .1 .0) (d .last .1 .1 .1 .1 .1 .1 .1 .1 .0)
     (d .last .1 .1 .1 .1 .1 .1 .1 .1 .1 .0) r) (c .before .direct .given .1) (d .ensures)
     ∙ ap (λ (o : Step St ℕ). lineRan o t)
     (sym (line-walked (s .args .path-nos .now) (s .args .coords .now) (s .args .paths .now) (length (s .args .refs .now) / refWords) (s .args .line .0) (s .args .place) t _
-    (c .before .before .before .before .before .before .before .before .before .before .before .before .before .before .before .before .before .before .before .before .if1 .left) refl))
+    (a .before .before .before .before .before .before .before .before .before .before .if1 .left) refl))
 
 enum-told-2 : tie.Need-enum-told-2
 enum-told-2 c = search needs
 
 -- what is lent is as it was
 same : (c : tie.After-enum-told2) →
-    let s = c .before .before .before .before .before .before .before .before .before .before .before .before .before .before .before .before .before .before .before .before .before .before .before .before .before .before .before in
-    let d = c .before .before .before .before .before .before .before .before .before .count-direct in (d .last .1 .1 .1 .1 .1 .1 .1 .0 ≡ s .args .backs .now) × (d .last .1 .1 .1 .1 .1 .1 .1 .1 .0 ≡ s .args .counts .now)
-    × (d .last .1 .1 .1 .1 .1 .1 .1 .1 .1 .0 ≡ s .args .refs .now)
+    let s = c .before .before .before .before .before .before .before .before .before .before .before .before .before .before .before .before .before .before .before .before .before
+    .before .before .before .before .before .before in
+    let d = c .before .before .before .before .before .before .before .before .before .count-direct in
+    (d .last .1 .1 .1 .1 .1 .1 .1 .0 ≡ s .args .backs .now) × (d .last .1 .1 .1 .1 .1 .1 .1 .1 .0 ≡ s .args .counts .now) × (d .last .1 .1 .1 .1 .1 .1 .1 .1 .1 .0 ≡ s .args .refs .now)
 same c =
-    let s = c .before .before .before .before .before .before .before .before .before .before .before .before .before .before .before .before .before .before .before .before .before .before .before .before .before .before .before in
+    let s = c .before .before .before .before .before .before .before .before .before .before .before .before .before .before .before .before .before .before .before .before .before
+    .before .before .before .before .before .before in
     let d = c .before .before .before .before .before .before .before .before .before .count-direct in
     subst (λ (r : Direct). DirectMet (walkAt (s .args .path-nos .now) (s .args .coords .now) (s .args .paths .now) (s .args .place)) (length (s .args .refs .now) / refWords)
     (s .args .line .0) (s .args .made) (s .args .backs .now) (s .args .counts .now) (s .args .refs .now) (d .last .1 .1 .1 .1 .1 .1 .1 .0) (d .last .1 .1 .1 .1 .1 .1 .1 .1 .0)
     (d .last .1 .1 .1 .1 .1 .1 .1 .1 .1 .0) r) (c .enum-told2 .given .1) (d .ensures)
 
 walk-at-requires : tie.Need-walk-at-requires
-walk-at-requires c κs = let s = c .before .before .before .before .before .before .before .before .before .before .before .before .before .before .before .before .before .before .before .before .before .before .before .before .before .before .before in (s .pre .1 .numbered, s .pre .1 .whole)
+walk-at-requires c κs =
+    let s = c .before .before .before .before .before .before .before .before .before .before .before .before .before .before .before .before .before .before .before .before .before
+    .before .before .before .before .before .before in
+    (s .pre .1 .numbered, s .pre .1 .whole)
 
 enum-known-walked : tie.Need-enum-known-walked
 enum-known-walked c = search needs
@@ -156,51 +166,73 @@ no-walk (Line w b) k = ⊎-elim (λ e. absurd (omega (arith, e))) (λ e. absurd 
 
 returns-4 : tie.Need-returns-4
 returns-4 c =
-    let s = c .before .before .before .before .before .before .before .before .before .before .before .before .before .before .before .before .before .before .before .before .before .before .before .before .before .before .before .before .before .before in
-    same-tally _ _ _ _ _ _ (same (c .before .before .before)) (c .unwalked .result) (s .args .made) _
+    let s = c .before .before .before .before .before .before .before .before .before .before .before .before .before .before .before .before .before .before .before .before .before
+    .before .before .before .before .before .before .before .before .before in
+    let d = c .before .before .before in
+    let w = c .before .before .walk-at in
+    let h = d .before .before .before .before .before .before .before .before .before .before .before .before .before .before .before .before .before .before .before .if1 .left in
+    same-tally _ _ _ _ _ _ (same d) (c .unwalked .result) (s .args .made) _
     (line-unwalked (s .args .path-nos .now) (s .args .coords .now) (s .args .paths .now) (length (s .args .refs .now) / refWords) (s .args .line .0) (s .args .place)
     (s .args .backs .now) (s .args .counts .now) (s .args .refs .now) (s .args .made)
-    (c .before .before .walk-at .result) (c .unwalked .result) (c .before .before .before .before .before .before .before .before .before .before .before .before .before .before .before .before .before .before .before .before .before .before .if1 .left)
-    (sym (c .before .before .walk-at .ensures)) (no-walk (c .before .before .walk-at .result) (c .before .match3 .keys2)) (c .unwalked .ensures))
+    (w .result) (c .unwalked .result) h (sym (w .ensures)) (no-walk (w .result) (c .before .match3 .keys2)) (c .unwalked .ensures))
 
 -- the line has a walk
 line : (c : tie.After-walked) →
-    let s = c .before .before .before .before .before .before .before .before .before .before .before .before .before .before .before .before .before .before .before .before .before .before .before .before .before .before .before .before .before .before in walkAt (s .args .path-nos .now)
+    let s = c .before .before .before .before .before .before .before .before .before .before .before .before .before .before .before .before .before .before .before .before .before
+    .before .before .before .before .before .before .before .before .before in walkAt (s .args .path-nos .now)
     (s .args .coords .now) (s .args .paths .now) (s .args .place) ≡ Line (c .walked .given .0 .0) (c .walked .given .0 .1 .0)
 line c = sym (c .before .before .walk-at .ensures) ∙ c .walked .given .1
 
 count-walk-requires : tie.Need-count-walk-requires
 count-walk-requires c κs =
-    let s = c .before .before .before .before .before .before .before .before .before .before .before .before .before .before .before .before .before .before .before .before .before .before .before .before .before .before .before .before .before .before .before .before .before .before .before in
-    let d = c .before .before .before .before .before .before .before .before .before .before .before .before .before .before .before .before .before .count-direct in
-    let e = same (c .before .before .before .before .before .before .before .before) in
-    let w = line (c .before .before .before .before .before) in (
-      subst₂ (OnTiles (c .before .before .before .before .before .walked .given .0 .1 .0)) (sym (ap length (e .0))) (sym (ap length (e .1)))
-          (on-tiles (s .args .path-nos .now) (s .args .coords .now) (s .args .paths .now) (s .args .place) _ _ w _ _ (s .pre .0)),
-      walkable (s .args .path-nos .now) (s .args .coords .now) (s .args .paths .now) (s .args .place) _ _ w _ _ (s .pre .0),
-      d .kept .1 .1 .1 .1 .1 .1 .0 ∙ s .pre .2,
+    let s = c .before .before .before .before .before .before .before .before .before .before .before .before .before .before .before .before .before .before .before .before .before
+    .before .before .before .before .before .before .before .before .before .before .before .before .before .before in
+    let w = c .before .before .before .before .before in
+    let d = w .before .before .before in
+    let e = same d in (
+      subst₂ (OnTiles (w .walked .given .0 .1 .0)) (sym (ap length (e .0))) (sym (ap length (e .1)))
+          (on-tiles (s .args .path-nos .now) (s .args .coords .now) (s .args .paths .now) (s .args .place) _ _ (line w) _ _ (s .pre .0)),
+      walkable (s .args .path-nos .now) (s .args .coords .now) (s .args .paths .now) (s .args .place) _ _ (line w) _ _ (s .pre .0),
+      d .before .before .before .before .before .before .before .before .before .count-direct .kept .1 .1 .1 .1 .1 .1 .0 ∙ s .pre .2,
     )
 
 same-length-11 : tie.Need-same-length-11
-same-length-11 c = c .before .before .before .before .before .before .before .count-walk .kept .1 .1 .1 .1 .0 ∙ c .before .before .before .before .before .before .before .before .before .before .before .before .before .before .before .before .before .before .before .before .before .before .before .before .before .count-direct .kept .1 .1 .1 .1 .1 .1 .0
+same-length-11 c =
+    let w = c .before .before .before .before .before .before .before in
+    let d = w .before .before .before .before .before .before .before .before .before .before .before .before .before .before .before .before .before .before .count-direct in
+    w .count-walk .kept .1 .1 .1 .1 .0 ∙ d .kept .1 .1 .1 .1 .1 .1 .0
 
 same-length-12 : tie.Need-same-length-12
-same-length-12 c = c .before .before .before .before .before .before .before .count-walk .kept .1 .1 .1 .1 .1 .0 ∙ c .before .before .before .before .before .before .before .before .before .before .before .before .before .before .before .before .before .before .before .before .before .before .before .before .before .count-direct .kept .1 .1 .1 .1 .1 .1 .1 .0
+same-length-12 c =
+    let w = c .before .before .before .before .before .before .before in
+    let d = w .before .before .before .before .before .before .before .before .before .before .before .before .before .before .before .before .before .before .count-direct in
+    w .count-walk .kept .1 .1 .1 .1 .1 .0 ∙ d .kept .1 .1 .1 .1 .1 .1 .1 .0
 
 same-length-13 : tie.Need-same-length-13
-same-length-13 c = c .before .before .before .before .before .before .before .count-walk .kept .1 .1 .1 .1 .1 .1 .0 ∙ c .before .before .before .before .before .before .before .before .before .before .before .before .before .before .before .before .before .before .before .before .before .before .before .before .before .count-direct .kept .1 .1 .1 .1 .1 .1 .1 .1 .0
+same-length-13 c =
+    let w = c .before .before .before .before .before .before .before in
+    let d = w .before .before .before .before .before .before .before .before .before .before .before .before .before .before .before .before .before .before .count-direct in
+    w .count-walk .kept .1 .1 .1 .1 .1 .1 .0 ∙ d .kept .1 .1 .1 .1 .1 .1 .1 .1 .0
 
 same-length-14 : tie.Need-same-length-14
-same-length-14 c = c .before .before .before .before .before .before .before .count-walk .kept .1 .1 .1 .1 .1 .1 .1 .0 ∙ c .before .before .before .before .before .before .before .before .before .before .before .before .before .before .before .before .before .before .before .before .before .before .before .before .before .count-direct .kept .1 .1 .1 .1 .1 .1 .1 .1 .1 .0
+same-length-14 c =
+    let w = c .before .before .before .before .before .before .before in
+    let d = w .before .before .before .before .before .before .before .before .before .before .before .before .before .before .before .before .before .before .count-direct in
+    w .count-walk .kept .1 .1 .1 .1 .1 .1 .1 .0 ∙ d .kept .1 .1 .1 .1 .1 .1 .1 .1 .1 .0
 
 returns-5 : tie.Need-returns-5
 returns-5 c =
-    let s = c .before .before .before .before .before .before .before .before .before .before .before .before .before .before .before .before .before .before .before .before .before .before .before .before .before .before .before .before .before .before .before .before .before .before .before .before .before .before .before .before .before .before .before in
+    let s = c .before .before .before .before .before .before .before .before .before .before .before .before .before .before .before .before .before .before .before .before .before
+    .before .before .before .before .before .before .before .before .before .before .before .before .before .before .before .before .before .before .before .before .before .before in
+    let w = c .before .before .before .before .before .before .before .before .before .before .before .before .before in
+    let d = w .before .before .before in
+    let h = d .before .before .before .before .before .before .before .before .before .before .before .before .before .before .before .before .before .before .before .if1 .left in
+    let r = c .before .before .before .before .before .before .before .count-walk in
     let t = stOf (s .args .backs .now) (s .args .counts .now) (s .args .refs .now) (s .args .made) in
-    same-walk _ _ _ _ _ _ (same (c .before .before .before .before .before .before .before .before .before .before .before .before .before .before .before .before)) (s .args .line .0) (s .args .made) (c .before .before .before .before .before .before .before .before .before .before .before .before .before .walked .given .0 .0) (c .before .before .before .before .before .before .before .before .before .before .before .before .before .walked .given .0 .1 .0) _ (c .before .before .before .before .before .before .before .count-walk .ensures)
+    same-walk _ _ _ _ _ _ (same d) (s .args .line .0) (s .args .made) (w .walked .given .0 .0) (w .walked .given .0 .1 .0) _ (r .ensures)
     ∙ ap (λ (o : Step St ℕ). lineRan o t)
     (sym (line-walked (s .args .path-nos .now) (s .args .coords .now) (s .args .paths .now) (length (s .args .refs .now) / refWords) (s .args .line .0) (s .args .place) t _
-    (c .before .before .before .before .before .before .before .before .before .before .before .before .before .before .before .before .before .before .before .before .before .before .before .before .before .before .before .before .before .before .before .before .before .before .before .if1 .left) (line (c .before .before .before .before .before .before .before .before .before .before .before .before .before))))
+    h (line w)))
 
 pub count-noted-spec : {M : Type 1} → statement M
 count-noted-spec =
