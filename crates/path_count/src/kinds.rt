@@ -22,6 +22,12 @@ pub enum Quick {
     Other,
 }
 
+// A line inside its path's box counted, with the number of its references; or one to be walked.
+pub enum Direct {
+    On(u32),
+    Other,
+}
+
 // A line counted, with the number of its references; or the number of its refusal.
 pub enum Tallied {
     On(u32),

@@ -2,6 +2,7 @@
 // A line is checked first and then written, so that a refused line changes nothing.
 mod call;
 mod checks;
+mod direct;
 mod kinds;
 mod line;
 mod quick;

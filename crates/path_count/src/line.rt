@@ -15,6 +15,8 @@ ghost use Rattle.path_count.specs.Steps.{hitAt};
 ghost use Rattle.path_count.specs.Notes.{noteWords, notedTo, Notes, OnTiles};
 ghost use Rattle.path_count.specs.Count.{rowsBy, planBy, planOf, lineRan, tallyRan, unwalkedOf, lineStep, Clipped, Walkable, Lent, There};
 use super::checks::check_steps;
+use super::direct::count_direct;
+use super::kinds::Direct;
 use super::kinds::NOTE_WORDS;
 use super::kinds::Tallied;
 use super::quick::note_steps;
@@ -253,6 +255,21 @@ pub fn count_noted(
     if let One::In(tile) = one {
         visit(tile, line, 0, made, counts, refs);
         return Tallied::On(1);
+    }
+    let direct = count_direct(
+        line,
+        place,
+        made,
+        path_nos,
+        coords,
+        paths,
+        notes,
+        backs,
+        counts,
+        refs,
+    );
+    if let Direct::On(n) = direct {
+        return Tallied::On(n);
     }
     let walked = walk_at(path_nos, coords, paths, place);
     let Walked::Line(walk, path) = walked else {

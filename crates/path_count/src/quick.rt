@@ -58,7 +58,7 @@ fn quick_step(
 }
 
 // Whether all steps from .. to pass so; then each has its note.
-fn quick_steps(
+pub fn quick_steps(
     pace: Pace,
     path: Path,
     up: bool,

@@ -1,6 +1,6 @@
 -- `path_count::line::count_noted` meets its contract.
 -- Assumes nothing.
-use mathlib.Core.Path.{_≡_, sym, ap, _∙_, subst}
+use mathlib.Core.Path.{_≡_, refl, sym, ap, _∙_, subst, subst₂}
 use mathlib.Core.Logic.{⊎-elim}
 use mathlib.Core.List.{[], _∷_}
 use Prim.Native.Nat.{ℕ, _/_}
@@ -18,9 +18,13 @@ use Rattle.walk.proofs.kinds.Walked.{the-type}
 use Rattle.one_tile.specs.One.{Alone, OneMet}
 use Rattle.one_tile.specs.declared.One.{One}
 use Rattle.acts.specs.Acts.{St, stOf}
+use Rattle.path_count.specs.Notes.{OnTiles}
 use Rattle.path_count.specs.Count.{lineRan}
+use Rattle.path_count.specs.Direct.{DirectMet}
+use Rattle.path_count.specs.declared.kinds.Direct.{Direct}
 use Rattle.path_count.proofs.Lines.{on-tiles, walkable, line-over, line-walked}
 use Rattle.path_count.proofs.Ones.{line-one}
+use Rattle.path_count.proofs.Directs.{same-tally, same-walk}
 use Rattle.path_count.proofs.Batches.{NoWalk, line-unwalked}
 use Rattle.path_count.proofs.line.count_noted.Statement.{statement}
 use Rattle.path_count.proofs.line.count_noted.Tie as tie
@@ -28,6 +32,7 @@ use Rattle.path_count.proofs.line.count_noted.Reads as reads
 use Rattle.path_count.proofs.line.count_noted.Lts as lts
 use Rattle.acts.proofs.visit.Reads as visit-reads
 use Rattle.one_tile.proofs.one_at.Reads as one-at-reads
+use Rattle.path_count.proofs.direct.count_direct.Reads as count-direct-reads
 use Rattle.path_count.proofs.line.count_walk.Reads as count-walk-reads
 use Rattle.path_count.proofs.line.unwalked.Reads as unwalked-reads
 use Rattle.walk.proofs.setup.walk_at.Reads as walk-at-reads
@@ -66,7 +71,8 @@ same-length-2 c = search needs
 
 returns-2 : tie.Need-returns-2
 returns-2 c =
-    let the-before = c .before .before .before .before .before .before .before .before .before .before .before .before .before .before .before .before .before .before .before .before .before in
+    let the-before = c .before .before .before .before .before .before .before .before .before .before .before .before .before .before .before .before .before .before .before .before
+    .before in
     let the-one = c .before .before .before .before .before .before .before .before in
     let s = the-before in
     let v = c .before .before .before .before .visit in
@@ -77,14 +83,13 @@ returns-2 c =
 enum-told : tie.Need-enum-told
 enum-told c = search needs
 
-walk-at-requires : tie.Need-walk-at-requires
-walk-at-requires c κs = search needs
+count-direct-requires : tie.Need-count-direct-requires
+count-direct-requires c κs =
+    let s = c .before .before .before .before .before .before .before .before .before .before .before .before .before .before .before .before .before in
+    (s .pre .0, s .pre .1, s .pre .2)
 
-enum-known-walked : tie.Need-enum-known-walked
-enum-known-walked c = search needs
-
-unwalked-requires : tie.Need-unwalked-requires
-unwalked-requires c κs = search needs
+enum-known-direct : tie.Need-enum-known-direct
+enum-known-direct c = search needs
 
 same-length-3 : tie.Need-same-length-3
 same-length-3 c = search needs
@@ -92,40 +97,54 @@ same-length-3 c = search needs
 same-length-4 : tie.Need-same-length-4
 same-length-4 c = search needs
 
--- a value of the first two variants, by its tag, has no walk
-no-walk : (x : Walked) → OneOf (0 ∷ 1 ∷ []) (tagOf the-type x) → NoWalk x
-no-walk (WalkRefused n) k = tt
-no-walk Skipped k = tt
-no-walk (Line w b) k = ⊎-elim (λ e. absurd (omega (arith, e))) (λ e. absurd (omega (arith, e))) k
-
-returns-3 : tie.Need-returns-3
-returns-3 c =
-    let the-before = c .before .before .before .before .before .before .before .before .before .before .before .before .before .before .before .before in
-    let s = the-before in
-    line-unwalked (s .args .path-nos .now) (s .args .coords .now) (s .args .paths .now) (length (s .args .refs .now) / refWords) (s .args .line .0) (s .args .place) _ _ _ _
-    (c .before .before .walk-at .result) (c .unwalked .result) (c .before .before .before .before .before .before .before .before .if1 .left)
-    (sym (c .before .before .walk-at .ensures)) (no-walk (c .before .before .walk-at .result) (c .before .match2 .keys2)) (c .unwalked .ensures)
-
--- the line has a walk
-line : (c : tie.After-walked) →
-    let s = c .before .before .before .before .before .before .before .before .before .before .before .before .before .before .before .before in walkAt (s .args .path-nos .now)
-    (s .args .coords .now) (s .args .paths .now) (s .args .place) ≡ Line (c .walked .given .0 .0) (c .walked .given .0 .1 .0)
-line c = sym (c .before .before .walk-at .ensures) ∙ c .walked .given .1
-
-count-walk-requires : tie.Need-count-walk-requires
-count-walk-requires c κs =
-    let s = c .before .before .before .before .before .before .before .before .before .before .before .before .before .before .before
-    .before .before .before .before .before .before in (
-      on-tiles (s .args .path-nos .now) (s .args .coords .now) (s .args .paths .now) (s .args .place) _ _ (line (c .before .before .before .before .before)) _ _ (s .pre .0),
-      walkable (s .args .path-nos .now) (s .args .coords .now) (s .args .paths .now) (s .args .place) _ _ (line (c .before .before .before .before .before)) _ _ (s .pre .0),
-      s .pre .2,
-    )
-
 same-length-5 : tie.Need-same-length-5
 same-length-5 c = search needs
 
 same-length-6 : tie.Need-same-length-6
 same-length-6 c = search needs
+
+returns-3 : tie.Need-returns-3
+returns-3 c =
+    let s = c .before .before .before .before .before .before .before .before .before .before .before .before .before .before .before .before .before .before .before .before .before
+    .before .before .before .before .before .before .before in
+    let a = c .before .before .before .before .before .before .before .before .before .before in
+    let d = a .count-direct in
+    let t = stOf (s .args .backs .now) (s .args .counts .now) (s .args .refs .now) (s .args .made) in
+    subst (λ (r : Direct). DirectMet (walkAt (s .args .path-nos .now) (s .args .coords .now) (s .args .paths .now) (s .args .place)) (length (s .args .refs .now) / refWords)
+    (s .args .line .0) (s .args .made) (s .args .backs .now) (s .args .counts .now) (s .args .refs .now) (d .last .1 .1 .1 .1 .1 .1 .1 .0) (d .last .1 .1 .1 .1 .1 .1 .1 .1 .0)
+    (d .last .1 .1 .1 .1 .1 .1 .1 .1 .1 .0) r) (c .before .direct .given .1) (d .ensures)
+    ∙ ap (λ (o : Step St ℕ). lineRan o t)
+    (sym (line-walked (s .args .path-nos .now) (s .args .coords .now) (s .args .paths .now) (length (s .args .refs .now) / refWords) (s .args .line .0) (s .args .place) t _
+    (a .before .before .before .before .before .before .before .before .before .before .if1 .left) refl))
+
+enum-told-2 : tie.Need-enum-told-2
+enum-told-2 c = search needs
+
+-- what is lent is as it was
+same : (c : tie.After-enum-told2) →
+    let s = c .before .before .before .before .before .before .before .before .before .before .before .before .before .before .before .before .before .before .before .before .before
+    .before .before .before .before .before .before in
+    let d = c .before .before .before .before .before .before .before .before .before .count-direct in
+    (d .last .1 .1 .1 .1 .1 .1 .1 .0 ≡ s .args .backs .now) × (d .last .1 .1 .1 .1 .1 .1 .1 .1 .0 ≡ s .args .counts .now) × (d .last .1 .1 .1 .1 .1 .1 .1 .1 .1 .0 ≡ s .args .refs .now)
+same c =
+    let s = c .before .before .before .before .before .before .before .before .before .before .before .before .before .before .before .before .before .before .before .before .before
+    .before .before .before .before .before .before in
+    let d = c .before .before .before .before .before .before .before .before .before .count-direct in
+    subst (λ (r : Direct). DirectMet (walkAt (s .args .path-nos .now) (s .args .coords .now) (s .args .paths .now) (s .args .place)) (length (s .args .refs .now) / refWords)
+    (s .args .line .0) (s .args .made) (s .args .backs .now) (s .args .counts .now) (s .args .refs .now) (d .last .1 .1 .1 .1 .1 .1 .1 .0) (d .last .1 .1 .1 .1 .1 .1 .1 .1 .0)
+    (d .last .1 .1 .1 .1 .1 .1 .1 .1 .1 .0) r) (c .enum-told2 .given .1) (d .ensures)
+
+walk-at-requires : tie.Need-walk-at-requires
+walk-at-requires c κs =
+    let s = c .before .before .before .before .before .before .before .before .before .before .before .before .before .before .before .before .before .before .before .before .before
+    .before .before .before .before .before .before in
+    (s .pre .1 .numbered, s .pre .1 .whole)
+
+enum-known-walked : tie.Need-enum-known-walked
+enum-known-walked c = search needs
+
+unwalked-requires : tie.Need-unwalked-requires
+unwalked-requires c κs = search needs
 
 same-length-7 : tie.Need-same-length-7
 same-length-7 c = search needs
@@ -133,19 +152,87 @@ same-length-7 c = search needs
 same-length-8 : tie.Need-same-length-8
 same-length-8 c = search needs
 
+same-length-9 : tie.Need-same-length-9
+same-length-9 c = search needs
+
+same-length-10 : tie.Need-same-length-10
+same-length-10 c = search needs
+
+-- a value of the first two variants, by its tag, has no walk
+no-walk : (x : Walked) → OneOf (0 ∷ 1 ∷ []) (tagOf the-type x) → NoWalk x
+no-walk (WalkRefused n) k = tt
+no-walk Skipped k = tt
+no-walk (Line w b) k = ⊎-elim (λ e. absurd (omega (arith, e))) (λ e. absurd (omega (arith, e))) k
+
 returns-4 : tie.Need-returns-4
 returns-4 c =
-    let the-before = c .before .before .before .before .before .before .before .before .before .before .before .before .before .before .before .before .before .before .before
-    .before .before .before .before .before .before .before .before .before .before in
-    let the-if1 = c .before .before .before .before .before .before .before .before .before .before .before .before .before .before .before .before .before .before .before .before .before .if1 in
-    let the-before2 = c .before .before .before .before .before .before .before .before .before .before .before .before .before in
-    let the-count-walk = c .before .before .before .before .before .before .before .count-walk in
-    let s = the-before in
+    let s = c .before .before .before .before .before .before .before .before .before .before .before .before .before .before .before .before .before .before .before .before .before
+    .before .before .before .before .before .before .before .before .before in
+    let d = c .before .before .before in
+    let w = c .before .before .walk-at in
+    let h = d .before .before .before .before .before .before .before .before .before .before .before .before .before .before .before .before .before .before .before .if1 .left in
+    same-tally _ _ _ _ _ _ (same d) (c .unwalked .result) (s .args .made) _
+    (line-unwalked (s .args .path-nos .now) (s .args .coords .now) (s .args .paths .now) (length (s .args .refs .now) / refWords) (s .args .line .0) (s .args .place)
+    (s .args .backs .now) (s .args .counts .now) (s .args .refs .now) (s .args .made)
+    (w .result) (c .unwalked .result) h (sym (w .ensures)) (no-walk (w .result) (c .before .match3 .keys2)) (c .unwalked .ensures))
+
+-- the line has a walk
+line : (c : tie.After-walked) →
+    let s = c .before .before .before .before .before .before .before .before .before .before .before .before .before .before .before .before .before .before .before .before .before
+    .before .before .before .before .before .before .before .before .before in walkAt (s .args .path-nos .now)
+    (s .args .coords .now) (s .args .paths .now) (s .args .place) ≡ Line (c .walked .given .0 .0) (c .walked .given .0 .1 .0)
+line c = sym (c .before .before .walk-at .ensures) ∙ c .walked .given .1
+
+count-walk-requires : tie.Need-count-walk-requires
+count-walk-requires c κs =
+    let s = c .before .before .before .before .before .before .before .before .before .before .before .before .before .before .before .before .before .before .before .before .before
+    .before .before .before .before .before .before .before .before .before .before .before .before .before .before in
+    let w = c .before .before .before .before .before in
+    let d = w .before .before .before in
+    let e = same d in (
+      subst₂ (OnTiles (w .walked .given .0 .1 .0)) (sym (ap length (e .0))) (sym (ap length (e .1)))
+          (on-tiles (s .args .path-nos .now) (s .args .coords .now) (s .args .paths .now) (s .args .place) _ _ (line w) _ _ (s .pre .0)),
+      walkable (s .args .path-nos .now) (s .args .coords .now) (s .args .paths .now) (s .args .place) _ _ (line w) _ _ (s .pre .0),
+      d .before .before .before .before .before .before .before .before .before .count-direct .kept .1 .1 .1 .1 .1 .1 .0 ∙ s .pre .2,
+    )
+
+same-length-11 : tie.Need-same-length-11
+same-length-11 c =
+    let w = c .before .before .before .before .before .before .before in
+    let d = w .before .before .before .before .before .before .before .before .before .before .before .before .before .before .before .before .before .before .count-direct in
+    w .count-walk .kept .1 .1 .1 .1 .0 ∙ d .kept .1 .1 .1 .1 .1 .1 .0
+
+same-length-12 : tie.Need-same-length-12
+same-length-12 c =
+    let w = c .before .before .before .before .before .before .before in
+    let d = w .before .before .before .before .before .before .before .before .before .before .before .before .before .before .before .before .before .before .count-direct in
+    w .count-walk .kept .1 .1 .1 .1 .1 .0 ∙ d .kept .1 .1 .1 .1 .1 .1 .1 .0
+
+same-length-13 : tie.Need-same-length-13
+same-length-13 c =
+    let w = c .before .before .before .before .before .before .before in
+    let d = w .before .before .before .before .before .before .before .before .before .before .before .before .before .before .before .before .before .before .count-direct in
+    w .count-walk .kept .1 .1 .1 .1 .1 .1 .0 ∙ d .kept .1 .1 .1 .1 .1 .1 .1 .1 .0
+
+same-length-14 : tie.Need-same-length-14
+same-length-14 c =
+    let w = c .before .before .before .before .before .before .before in
+    let d = w .before .before .before .before .before .before .before .before .before .before .before .before .before .before .before .before .before .before .count-direct in
+    w .count-walk .kept .1 .1 .1 .1 .1 .1 .1 .0 ∙ d .kept .1 .1 .1 .1 .1 .1 .1 .1 .1 .0
+
+returns-5 : tie.Need-returns-5
+returns-5 c =
+    let s = c .before .before .before .before .before .before .before .before .before .before .before .before .before .before .before .before .before .before .before .before .before
+    .before .before .before .before .before .before .before .before .before .before .before .before .before .before .before .before .before .before .before .before .before .before in
+    let w = c .before .before .before .before .before .before .before .before .before .before .before .before .before in
+    let d = w .before .before .before in
+    let h = d .before .before .before .before .before .before .before .before .before .before .before .before .before .before .before .before .before .before .before .if1 .left in
+    let r = c .before .before .before .before .before .before .before .count-walk in
     let t = stOf (s .args .backs .now) (s .args .counts .now) (s .args .refs .now) (s .args .made) in
-    the-count-walk .ensures
+    same-walk _ _ _ _ _ _ (same d) (s .args .line .0) (s .args .made) (w .walked .given .0 .0) (w .walked .given .0 .1 .0) _ (r .ensures)
     ∙ ap (λ (o : Step St ℕ). lineRan o t)
     (sym (line-walked (s .args .path-nos .now) (s .args .coords .now) (s .args .paths .now) (length (s .args .refs .now) / refWords) (s .args .line .0) (s .args .place) t _
-    (the-if1 .left) (line (the-before2))))
+    h (line w)))
 
 pub count-noted-spec : {M : Type 1} → statement M
 count-noted-spec =
@@ -159,15 +246,25 @@ count-noted-spec =
     same-length-2
     returns-2
     enum-told
+    count-direct-requires
+    enum-known-direct
+    same-length-3
+    same-length-4
+    same-length-5
+    same-length-6
+    returns-3
+    enum-told-2
     walk-at-requires
     enum-known-walked
     unwalked-requires
-    same-length-3
-    same-length-4
-    returns-3
-    count-walk-requires
-    same-length-5
-    same-length-6
     same-length-7
     same-length-8
-    returns-4)
+    same-length-9
+    same-length-10
+    returns-4
+    count-walk-requires
+    same-length-11
+    same-length-12
+    same-length-13
+    same-length-14
+    returns-5)

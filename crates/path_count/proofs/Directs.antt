@@ -1,0 +1,127 @@
+-- A line that lies inside its path's box: its acts are its steps alone, so what its words write is its outcome.
+-- Assumes nothing.
+use mathlib.Core.Path.{_≡_, refl, sym, ap, _∙_, subst}
+use mathlib.Core.Bool.{Bool, true, false, not, _&&_, _||_, false≢true}
+use mathlib.Core.List.{List}
+use Prim.Native.Nat.{ℕ, _+_, _-_, _/_, _<_, _≤_}
+use native.Mathlib.Nat.{le-refl}
+use native.Mathlib.Omega.{arith}
+use lib.Dec.{ltb}
+use lib.ListN.{length}
+use lib.IntN.{ℤ}
+use lib.Ieee.{Float}
+use borrow.Author.Tests.{ltb-false, le-ltb}
+use Rattle.lists.specs.Run.{Ran, done}
+use Rattle.panel.specs.Limits.{mostSteps, mostSlots}
+use Rattle.panel.specs.Widths.{refWords, stepRange}
+use Rattle.panel.specs.declared.kinds.Path.{Path}
+use Rattle.panel.specs.declared.kinds.Verdict.the-variants.{Fine}
+use Rattle.walk.specs.Lent.{walkAt}
+use Rattle.walk.specs.declared.kinds.Pace.{Pace}
+use Rattle.walk.specs.declared.kinds.Walk.{Walk}
+use Rattle.walk.specs.declared.kinds.Walked.{Walked}
+use Rattle.walk.proofs.Walks.{StartsAt}
+use Rattle.clip.specs.declared.Clip.{Clip}
+use Rattle.within.specs.Within.{Unclipped}
+use Rattle.acts.specs.Acts.{St, stOf, Act, stepsActs, runActs, checkNo, isDone, deltaOf}
+use Rattle.acts.specs.Line.{planActs, planStep}
+use Rattle.acts.proofs.Laws.{rows-end}
+use Rattle.acts.proofs.Plans.{plan-visits, plan-marks}
+use Rattle.acts.proofs.Lines.{plan-fine}
+use Rattle.path_count.specs.Steps.{hitAt}
+use Rattle.path_count.specs.Notes.{hitsBy, Notes, noteWords, OnTiles}
+use Rattle.path_count.specs.Count.{planBy, planOf, walkedStep, lineRan, tallyRan, Lent}
+use Rattle.path_count.specs.declared.kinds.Tallied.{Tallied}
+use Rattle.path_count.proofs.StepLaws.{apart, none-leaves, notes-acts}
+use Rattle.path_count.proofs.Lines.{on-tiles, walkable, starts, walk-done}
+
+-- three tests, none of which holds
+pub none : (a b c d e f : ℕ) → (ltb a b || ltb c d || ltb e f) ≡ false → (b ≤ a) × (d ≤ c) × (f ≤ e)
+none a b c d e f h = go (ltb a b) refl (ltb c d) refl (ltb e f) refl h
+  where
+    go : (p : Bool) → ltb a b ≡ p → (q : Bool) → ltb c d ≡ q → (r : Bool) → ltb e f ≡ r → (p || q || r) ≡ false → (b ≤ a) × (d ≤ c) × (f ≤ e)
+    go false i false j false k g = (ltb-false a b i, ltb-false c d j, ltb-false e f k)
+    go true i q j r k g = absurd (false≢true (sym g))
+    go false i true j r k g = absurd (false≢true (sym g))
+    go false i false j true k g = absurd (false≢true (sym g))
+
+-- so many steps are in range
+pub few : (n : ℕ) → n ≤ noteWords → n ≤ stepRange
+unfolding stepRange
+few n h = omega arith
+
+-- ---- its acts
+
+-- steps 0 up to n, and no row
+abbrev allSteps : Path → ℕ → Clip
+allSteps b n = record { imin = 0; imax = n; ymin = b .y0; ymax = 0 }
+
+steps-alone : (up : Bool) (w : Pace) (b : Path) (n : ℕ) → planActs (planBy up w b (allSteps b n)) ≡ stepsActs (hitAt w b) (n - 0) 0
+steps-alone up w b n = rw (rows-end (b .first) (b .y0) (b .x1 - b .x0) (b .y0) 0 (omega arith)) refl
+
+-- steps that pass their check run through
+steps-fine : (up : Bool) (w : Pace) (b : Path) (n l : ℕ) (s : St) (backs counts : ℕ) → OnTiles b backs counts → StartsAt w → b .x0 < b .x1 → n ≤ stepRange
+    → Fine ≡ checkNo (deltaOf up) (stepsActs (hitAt w b) (n - 0) 0) (s .backs) (s .counts) → isDone (runActs (deltaOf up) l (stepsActs (hitAt w b) (n - 0) 0) s) ≡ true
+steps-fine up w b n l s backs counts o g wide m q =
+    let p = planBy up w b (allSteps b n) in
+    let e = steps-alone up w b n in
+    subst (λ (xs : List Act). isDone (runActs (deltaOf up) l xs s) ≡ true) e
+    (plan-fine 0 l p s
+    (plan-marks p stepRange (apart w b g (o .boxed)) (λ h. m) (omega (arith, wide)) (le-refl (b .y0)))
+    (plan-visits p stepRange (apart w b g (o .boxed)) (λ h. m) (omega (arith, wide)))
+    Fine (q ∙ ap (λ (xs : List Act). checkNo (deltaOf up) xs (s .backs) (s .counts)) (sym e)) refl)
+
+-- ---- the line as it is lent
+
+module _ (nos : List ℕ) (coords : List Float) (paths : List ℕ) (k : ℕ) (pace : Pace) (b : Path) (n : ℕ) (up : Bool) (u : Unclipped nos coords paths k pace b n up) where
+  module _ (backs counts : ℕ) (t : Lent paths backs counts) where
+    pub on-box : OnTiles b backs counts
+    on-box = on-tiles nos coords paths k (u .w) b (u .walked) backs counts t
+
+    pub starting : StartsAt pace
+    starting = subst StartsAt (sym (u .paced)) (starts (u .w) b (walkable nos coords paths k (u .w) b (u .walked) backs counts t))
+
+    -- where its steps pass their check, those of its words run through
+    pub direct-fine : (l : ℕ) (s : St) (ks : List ℕ) (tiles : ℕ) → n ≤ noteWords → Notes (hitAt pace b) 0 (n - 0) ks tiles
+        → Fine ≡ checkNo (deltaOf up) (stepsActs (hitAt pace b) (n - 0) 0) (s .backs) (s .counts)
+        → isDone (runActs (deltaOf up) l (stepsActs (hitsBy ks 0) (n - 0) 0) s) ≡ true
+    direct-fine l s ks tiles h m q =
+        subst (λ (xs : List Act). isDone (runActs (deltaOf up) l xs s) ≡ true) (notes-acts (hitAt pace b) 0 n ks tiles m)
+        (steps-fine up pace b n l s backs counts on-box starting (walkable nos coords paths k (u .w) b (u .walked) backs counts t .wide) (few n h) q)
+
+  near : n ≤ noteWords → (ltb 0 n && ltb mostSteps n) ≡ false
+  unfolding mostSteps
+  near h = none-leaves (ltb 0 n) (ltb mostSteps n) (le-ltb mostSteps n (omega arith))
+
+  roomy : (room made : ℕ) → made + n ≤ room → made + n ≤ mostSlots → (ltb room (made + (n - 0)) || ltb mostSlots (made + (n - 0))) ≡ false
+  roomy room made h m = rw (le-ltb room (made + (n - 0)) (omega arith), le-ltb mostSlots (made + (n - 0)) (omega arith))
+
+  -- and what they leave is the line's outcome
+  pub direct-done : (l made : ℕ) (bs : List ℤ) (cs rs : List ℕ) (bs′ : List ℤ) (cs′ rs′ ks : List ℕ) (tiles : ℕ) → n ≤ noteWords
+      → made + n ≤ length rs / refWords → made + n ≤ mostSlots → Notes (hitAt pace b) 0 (n - 0) ks tiles
+      → done (stOf bs′ cs′ rs′ (made + (n - 0))) ≡ runActs (deltaOf up) l (stepsActs (hitsBy ks 0) (n - 0) 0) (stOf bs cs rs made)
+      → done (stOf bs′ cs′ rs′ (made + n)) ≡ lineRan (walkedStep (length rs / refWords) l (walkAt nos coords paths k) (stOf bs cs rs made)) (stOf bs cs rs made)
+  direct-done l made bs cs rs bs′ cs′ rs′ ks tiles h r m ts q =
+      let s = stOf bs cs rs made in
+      let w = u .w in
+      let d = not (w .e .«is_down») in
+      let same : made + n ≡ made + (n - 0) = omega arith in
+      let runs : done (stOf bs′ cs′ rs′ (made + n)) ≡ runActs (deltaOf d) l (planActs (planBy d (w .pace) b (allSteps b n))) s =
+      ap (λ (j : ℕ). done (stOf bs′ cs′ rs′ j)) same ∙ q
+      ∙ ap (λ (xs : List Act). runActs (deltaOf up) l xs s) (sym (notes-acts (hitAt pace b) 0 n ks tiles ts))
+      ∙ ap (λ (x : Bool). runActs (deltaOf x) l (stepsActs (hitAt pace b) (n - 0) 0) s) (u .turned)
+      ∙ ap (λ (x : Pace). runActs (deltaOf d) l (stepsActs (hitAt x b) (n - 0) 0) s) (u .paced)
+      ∙ ap (λ (xs : List Act). runActs (deltaOf d) l xs s) (sym (steps-alone d (w .pace) b n)) in
+      walk-done (length rs / refWords) l w b (allSteps b n) (sym (u .clipped)) s (near h) (roomy (length rs / refWords) made r m) (stOf bs′ cs′ rs′ (made + n)) runs
+      ∙ ap (λ (x : Walked). lineRan (walkedStep (length rs / refWords) l x s) s) (sym (u .walked))
+
+-- ---- where nothing is said of a line, what is lent is as it was
+
+module _ (bs bs′ : List ℤ) (cs cs′ rs rs′ : List ℕ) (e : (bs′ ≡ bs) × (cs′ ≡ cs) × (rs′ ≡ rs)) where
+  pub same-tally : (t : Tallied) (made : ℕ) (o : Ran St ℕ) → tallyRan t (stOf bs cs rs) made ≡ o → tallyRan t (stOf bs′ cs′ rs′) made ≡ o
+  same-tally t made o q = rw (e .0, e .1, e .2) q
+
+  pub same-walk : (l made : ℕ) (w : Walk) (b : Path) (o : Ran St ℕ)
+      → o ≡ lineRan (planStep (length rs′ / refWords) l (planOf w b) (stOf bs′ cs′ rs′ made)) (stOf bs′ cs′ rs′ made)
+      → o ≡ lineRan (planStep (length rs / refWords) l (planOf w b) (stOf bs cs rs made)) (stOf bs cs rs made)
+  same-walk l made w b o q = rw (e .0, e .1, e .2) at q
