@@ -1,6 +1,7 @@
 pub mod Past
 pub mod Laws
 pub mod Sizes
+pub mod Rises
 pub mod RowsLaws
 pub mod Grounds
 pub mod Crooked
