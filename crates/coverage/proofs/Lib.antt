@@ -3,6 +3,7 @@ pub mod Laws
 pub mod Sizes
 pub mod Rises
 pub mod RowsLaws
+pub mod LowLaws
 pub mod Grounds
 pub mod Crooked
 pub mod Page
