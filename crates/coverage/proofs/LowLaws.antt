@@ -25,11 +25,13 @@ use Rattle.float32.proofs.Same.{same-sign}
 use Rattle.float32.proofs.Tests.{yes, first, second}
 use Rattle.float32.proofs.Whole.{round-no-nan}
 use Rattle.lists.specs.Grid.{mapi, within}
-use Rattle.ranges.proofs.Turn.{turned-to, ended, kept}
-use Rattle.coverage.specs.Tile.{tileWidth, tileHeight, tileSize, rowStart}
+use Rattle.lists.specs.GridLaws.{within-cong}
+use Rattle.ranges.proofs.Turn.{Done, turned-to, ended, kept}
+use Rattle.coverage.specs.Tile.{tileWidth, tileHeight, tileSize, rowStart, rowEnd}
 use Rattle.coverage.specs.Row.{rowOf, stepRow, stepWay}
 use Rattle.coverage.specs.Low.{topOf, startOf, endOf, leftOf, aboveOf, belowOf, edgelessOf, onlyOf}
 use Rattle.coverage.specs.declared.row.Way.{Way}
+use Rattle.coverage.specs.declared.row.Row.{Row}
 use Rattle.coverage.proofs.Rises.{add-swap, add-rises, add-rises′, sub-rises, sub-falls, int-rises, at-most-trans}
 
 -- ---- numbers
@@ -401,3 +403,59 @@ module _ (w : Way) (yt : Float) where
           after =
               kept f nan (rowStart to) tileSize m
               (λ k x lo hi. clear k x (omega (arith, hi)) (no-rows-below (k / tileWidth) (omega (arith, lo)) (omega (arith, hi))))
+
+-- ---- one row more, of those from .. to
+module _ (w : Way) (yt : Float) (yi : ℕ) (r : Row) (e : r ≡ rowOf w yt yi) where
+  here : (k : ℕ) (x : Float) → rowStart yi ≤ k → k < rowEnd yi → stepRow w r k x ≡ stepWay w yt k x
+  unfolding stepWay
+  here k x lo hi = let q : yi ≡ k / tileWidth = omega arith in ap (λ (z : Row). stepRow w z k x) (e ∙ ap (rowOf w yt) q)
+
+  pub row-more : (a : ℕ) (l₀ l m : List Float) → a ≤ rowStart yi → Done (stepWay w yt) a (rowStart yi) l₀ l → m ≡ mapi (within (rowStart yi) (rowEnd yi) (stepRow w r)) l
+      → Done (stepWay w yt) a (rowStart (yi + 1)) l₀ m
+  row-more a l₀ l m h done q =
+      let n : rowEnd yi ≡ rowStart (yi + 1) = omega arith in
+      subst (λ (z : ℕ). Done (stepWay w yt) a z l₀ m) n
+      (turned-to (stepWay w yt) nan a (rowStart yi) (rowEnd yi) l₀ l m h (omega arith) done (q ∙ within-cong (stepRow w r) (stepWay w yt) (rowStart yi) (rowEnd yi) nan l here))
+
+-- ---- the tests of `add_segment`: the lower end is 0 or more and the higher 16 or less, some other, and no y_edge
+module _ (w : Way) (yt low high : Float) (c g : Bool)
+    (l-is : low ≡ cond (lt (add binary32 (w .y) (w .dy)) (w .y)) (add binary32 (w .y) (w .dy)) (w .y))
+    (h-is : high ≡ cond (lt (add binary32 (w .y) (w .dy)) (w .y)) (w .y) (add binary32 (w .y) (w .dy)))
+    (g-is : g ≡ edgelessOf w yt)
+    (tests : (((le Number.zero low && le high Number.tileSide) && c) && g) ≡ true) where
+  abbrev ends-in : Bool
+  ends-in = le Number.zero low && le high Number.tileSide
+
+  both-in : ends-in ≡ true
+  both-in = first ends-in c (first (ends-in && c) g tests)
+
+  low-in : le Number.zero low ≡ true
+  low-in = first (le Number.zero low) (le high Number.tileSide) both-in
+
+  high-in : le high Number.tileSide ≡ true
+  high-in = second (le Number.zero low) (le high Number.tileSide) both-in
+
+  no-left : edgelessOf w yt ≡ true
+  no-left = sym g-is ∙ second (ends-in && c) g tests
+
+  pub low-number : T (not (isNan (sub binary32 low Number.half)))
+  low-number = less-number low Number.half (le-right Number.zero low low-in) (unfold ofBits in tt)
+
+  pub high-number : T (not (isNan (add binary32 high Number.half)))
+  high-number = add-number high Number.half (le-left high Number.tileSide high-in) (unfold ofBits in tt)
+
+  finites : T (finite (w .y)) × T (finite (add binary32 (w .y) (w .dy)))
+  finites =
+      both-finite (w .y) (add binary32 (w .y) (w .dy)) (subst (λ (z : Float). le Number.zero z ≡ true) l-is low-in)
+      (subst (λ (z : Float). le z Number.tileSide ≡ true) h-is high-in)
+
+  -- and the rows that were tried
+  module _ (from to : ℕ) (only : onlyOf w yt from to ≡ true) where
+    pub tried-order : from ≤ to
+    tried-order = in-order w yt (finites .0) (finite-term (w .y) (w .dy) (finites .1)) no-left from to only
+
+    pub tried-tile : to ≤ tileHeight
+    tried-tile = in-tile w yt (finites .0) (finite-term (w .y) (w .dy) (finites .1)) no-left from to only
+
+    pub tried-few : (l m : List Float) → length l ≡ tileSize → m ≡ mapi (within (rowStart from) (rowStart to) (stepWay w yt)) l → m ≡ mapi (stepWay w yt) l
+    tried-few = few w yt (finites .0) (finite-term (w .y) (w .dy) (finites .1)) no-left from to only
