@@ -1,22 +1,22 @@
 -- Rows above one that lies above the segment, and below one that lies below it, get nothing: from row to row the segment's ends only rise, and what is left below y_edge
 -- only grows (`Rises.antt`). Assumes nothing.
 use mathlib.Core.Path.{_≡_, refl, sym, ap, subst, _∙_}
-use mathlib.Core.Bool.{Bool, true, false, not, cond, _&&_, _||_, Bool·beq, true≢false, false≢true}
+use mathlib.Core.Bool.{Bool, true, false, not, cond, _&&_, _||_, Bool·beq, false≢true}
 use mathlib.Core.List.{List}
-use mathlib.Core.Logic.{_⊎_, inl, inr, ⊎-elim}
+use mathlib.Core.Logic.{_⊎_, inl, inr}
 use Prim.Native.Nat.{ℕ, zero, suc, _+_, _-_, _*_, _/_, _%_, _≤_, _<_}
 use native.Mathlib.Nat.{mul-pos, zero-mul, mul-zero, zero-lt-suc}
 use native.Mathlib.Omega.{arith}
 use lib.Dec.{T, lit<, ltb, eqb, leb}
-use lib.IntN.{ℤ, pos}
+use lib.IntN.{pos}
 use lib.ListN.{length}
 use lib.Ieee.{Float, nan, inf, fin, binary32, up, down, unlike, round, sum, add, sub, mul, neg, lt, eq, le, ne, ofBits, ofInt, fits, isNan}
 use lib.Ieee.Back.{round-whole}
 use lib.Ieee.Exact.{HasValue}
-use lib.Ieee.Fits.{up-pos, down-pos, add-fits, sub-fits, ofInt-fits}
+use lib.Ieee.Fits.{up-pos, down-pos, add-fits, sub-fits}
 use lib.Ieee.Bits.{ofBits-fits}
 use lib.Ieee.Scale.{round-same, finite}
-use borrow.Author.Tests.{eqb-true, eqb-false, leb-true}
+use borrow.Author.Tests.{eqb-true, leb-true}
 use Rattle.util.specs.Constants as Number
 use Rattle.float32.specs.Meaning.{clampOf, signOf, whole}
 use Rattle.float32.proofs.Alike.{IsZero, unlike-zeros}

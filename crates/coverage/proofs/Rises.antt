@@ -3,13 +3,13 @@
 --     add-rises, add-rises′   in the left term, and in the right
 --     sub-rises, sub-falls    of a difference: with the left term it rises, with the right one it falls
 -- That x is at most y is said as `lt y x ≡ false`, which is so beside a NaN too: so nothing is asked of the terms.
-use mathlib.Core.Path.{_≡_, refl, sym, ap, subst, _∙_}
+use mathlib.Core.Path.{_≡_, refl, sym, ap, _∙_}
 use mathlib.Core.Bool.{Bool, true, false, not, cond, _&&_, Bool·beq, true≢false}
 use Prim.Native.Nat.{ℕ, zero, suc, _+_, _-_, _*_, _≤_, _<_}
 use native.Mathlib.Nat.{add-mul, add-comm, mul-comm, mul-right-comm, mul-pos, zero-mul, suc-mul, mul-le-mul-right, le-of-mul-le-mul-right, mul-mul-mul-comm}
 use native.Mathlib.Omega.{arith}
 use lib.Dec.{T, lit<, ltb, ltb→lt, nltb→le}
-use lib.IntN.{ℤ, pos}
+use lib.IntN.{pos}
 use lib.Ieee.{Float, nan, inf, fin, binary32, up, down, below, round, sum, add, sub, neg, lt, le, ofInt, isNan}
 use lib.Ieee.Bits.{is-true}
 use lib.Ieee.Fits.{down-pos}

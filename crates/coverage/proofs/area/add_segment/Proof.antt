@@ -1,5 +1,5 @@
 -- `coverage::area::add_segment` meets its contract: the rows that aren't gone through get nothing (`LowLaws.antt`). Assumes nothing.
-use mathlib.Core.Path.{_≡_, sym, _∙_}
+use mathlib.Core.Path.{sym, _∙_}
 use Rattle.coverage.proofs.LowLaws.{low-number, high-number, tried-order, tried-tile, tried-few}
 use borrow.Author.Needs.{needs}
 use Rattle.coverage.proofs.area.add_segment.Statement.{statement}
