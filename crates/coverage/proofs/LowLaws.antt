@@ -32,7 +32,7 @@ use Rattle.coverage.specs.Row.{rowOf, stepRow, stepWay}
 use Rattle.coverage.specs.Low.{topOf, startOf, endOf, leftOf, aboveOf, belowOf, edgelessOf, onlyOf}
 use Rattle.coverage.specs.declared.row.Way.{Way}
 use Rattle.coverage.specs.declared.row.Row.{Row}
-use Rattle.coverage.proofs.Rises.{add-swap, add-rises, add-rises′, sub-rises, sub-falls, int-rises, at-most-trans}
+use Rattle.coverage.proofs.Rises.{add-rises, add-rises′, sub-rises, sub-falls, int-rises, at-most-trans}
 
 -- ---- numbers
 -- a sum with a finite number is a number
@@ -80,7 +80,7 @@ less-number : (x c : Float) → T (not (isNan x)) → T (finite c) → T (not (i
 unfolding sub
 less-number x c n f = add-number x (neg c) n (neg-finite c f)
 
--- the terms of a sum that is finite, of a difference that is a number, and of a sum that is one
+-- a term of a sum that is finite, of a sum that is a number, and of a difference that is one
 pub finite-term : (x c : Float) → T (finite (add binary32 x c)) → T (finite c)
 unfolding add
 finite-term nan c f = absurd f
@@ -93,20 +93,6 @@ finite-term (inf s) (fin t n d) f = tt
 finite-term (fin s m e) nan f = absurd f
 finite-term (fin s m e) (inf t) f = absurd f
 finite-term (fin s m e) (fin t n d) f = tt
-
-finite-first : (x c : Float) → T (finite (sub binary32 x c)) → T (finite x)
-unfolding sub
-finite-first x c f = finite-term (neg c) x (subst (λ (z : Float). T (finite z)) (add-swap x (neg c)) f)
-
-finite-neg : (c : Float) → T (finite (neg c)) → T (finite c)
-unfolding neg
-finite-neg nan f = f
-finite-neg (inf s) f = f
-finite-neg (fin s m e) f = tt
-
-finite-second : (x c : Float) → T (finite (sub binary32 x c)) → T (finite c)
-unfolding sub
-finite-second x c f = finite-neg c (finite-term x (neg c) f)
 
 pub number-sum : (x c : Float) → T (not (isNan (add binary32 x c))) → T (not (isNan x))
 unfolding add isNan
@@ -276,16 +262,22 @@ module _ (w : Way) (yt : Float) where
       add-rises (sub binary32 (topOf yt p) (w .edge)) (sub binary32 (topOf yt q) (w .edge)) Number.one (sub-rises (topOf yt p) (topOf yt q) (w .edge) (top-rises p q h))
 
   module _ (fy : T (finite (w .y))) (fd : T (finite (w .dy))) (none-left : edgelessOf w yt ≡ true) where
-    abbrev apart : Float
-    apart = sub binary32 (w .sign) (w .edge)
+    abbrev bounded : Bool
+    bounded = finite (w .sign) && finite (w .edge)
 
-    apart-finite : T (finite apart)
+    both-bounded : bounded ≡ true
     unfolding edgelessOf
-    apart-finite = yes (first (finite apart) (le (leftOf w yt (tileHeight - 1)) Number.zero) none-left)
+    both-bounded = first bounded (le (leftOf w yt (tileHeight - 1)) Number.zero) none-left
 
     last-left : le (leftOf w yt (tileHeight - 1)) Number.zero ≡ true
     unfolding edgelessOf
-    last-left = second (finite apart) (le (leftOf w yt (tileHeight - 1)) Number.zero) none-left
+    last-left = second bounded (le (leftOf w yt (tileHeight - 1)) Number.zero) none-left
+
+    sign-finite : T (finite (w .sign))
+    sign-finite = yes (first (finite (w .sign)) (finite (w .edge)) both-bounded)
+
+    edge-finite : T (finite (w .edge))
+    edge-finite = yes (second (finite (w .sign)) (finite (w .edge)) both-bounded)
 
     yt-number : T (not (isNan yt))
     yt-number =
@@ -305,12 +297,12 @@ module _ (w : Way) (yt : Float) where
     left-number : (q : ℕ) → q < tileHeight → T (not (isNan (leftOf w yt q)))
     left-number q h =
         add-number (sub binary32 (topOf yt q) (w .edge)) Number.one
-        (less-number (topOf yt q) (w .edge) (top-number q h) (finite-second (w .sign) (w .edge) apart-finite)) (unfold ofBits in tt)
+        (less-number (topOf yt q) (w .edge) (top-number q h) edge-finite) (unfold ofBits in tt)
 
     no-edge : (q : ℕ) → q < tileHeight → eq (rowOf w yt q .edge) Number.zero ≡ true
     unfolding rowOf
     no-edge q h =
-        zero-times (w .sign) (clampOf (leftOf w yt q) Number.zero Number.one) (finite-first (w .sign) (w .edge) apart-finite)
+        zero-times (w .sign) (clampOf (leftOf w yt q) Number.zero Number.one) sign-finite
         (cut-low (leftOf w yt q) (left-number q h)
         (at-most-trans (leftOf w yt q) (leftOf w yt (tileHeight - 1)) Number.zero (le-left (leftOf w yt (tileHeight - 1)) Number.zero last-left)
         (left-rises q (tileHeight - 1) (omega arith)) (not-lt-of-le (leftOf w yt (tileHeight - 1)) Number.zero last-left)))

@@ -32,7 +32,7 @@ abbrev pub leftOf : Way → Float → ℕ → Float
 leftOf w y-tile yi = add binary32 (sub binary32 (topOf y-tile yi) (w .edge)) one
 
 unfoldable pub edgelessOf : Way → Float → Bool
-edgelessOf w y-tile = finite (sub binary32 (w .sign) (w .edge)) && le (leftOf w y-tile (tileHeight - 1)) zero
+edgelessOf w y-tile = (finite (w .sign) && finite (w .edge)) && le (leftOf w y-tile (tileHeight - 1)) zero
 
 -- whether the rows above `from`, and those from `to` on, get nothing
 unfoldable pub onlyOf : Way → Float → ℕ → ℕ → Bool

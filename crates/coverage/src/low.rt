@@ -38,7 +38,7 @@ pub fn edgeless(w: Way, yt: f32) -> bool
     ensures { λ r. ⌜ r ≡ edgelessOf w yt ⌝ }
 {
     let top = yt + ((TILE_HEIGHT - 1) as f32);
-    is_finite(w.sign - w.edge) & (top - w.edge + 1.0 <= 0.0)
+    is_finite(w.sign) & is_finite(w.edge) & (top - w.edge + 1.0 <= 0.0)
 }
 
 // A guess at the whole number nearest to y.

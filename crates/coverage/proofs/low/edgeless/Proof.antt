@@ -14,9 +14,12 @@ int-to-float-top c = small _ (search needs)
 is-finite-requires : tie.Need-is-finite-requires
 is-finite-requires c κs = search needs
 
+is-finite-requires-2 : tie.Need-is-finite-requires-2
+is-finite-requires-2 c κs = search needs
+
 returns : tie.Need-returns
 unfolding edgelessOf
 returns c = cc
 
 pub edgeless-spec : {M : Type 1} → statement M
-edgeless-spec = tie.close (tie.spec sub-top int-to-float-top is-finite-requires returns)
+edgeless-spec = tie.close (tie.spec sub-top int-to-float-top is-finite-requires is-finite-requires-2 returns)
