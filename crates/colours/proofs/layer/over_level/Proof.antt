@@ -35,7 +35,8 @@ returns c =
     let a = s .args in
     let p = s .pre in (
       changed-length (mixed _) _ _ (now (a .rgba)) _ (p .1) (c .add .ensures),
-      stays-flat (now (a .area)) (a .fg) (a .y) (now (a .flat)) (now (a .rgba)) _ (p .1) (p .0) _ (c .before .before .if1 .taken) (p .3) (c .before .before .before .before .share .ensures) (c .add .ensures),
+      stays-flat (now (a .area)) (a .fg) (a .y) (now (a .flat)) (now (a .rgba)) _ (p .1) (p .0) _ (c .before .before .if1 .taken) (p .3)
+          (c .before .before .before .before .share .ensures) (c .add .ensures),
     )
 
 returns-2 : tie.Need-returns-2
@@ -43,7 +44,8 @@ returns-2 c =
     let s = c .before .before .before .before .before .before .before in
     let a = s .args in
     let p = s .pre in
-    let e = painted (now (a .area)) (a .fg) _ (rowStart (a .y)) _ _ _ (at-level (now (a .area)) (a .fg) _ (rowStart (a .y)) (p .3) (c .before .before .before .before .share .ensures)) (c .add-row .ensures) in (
+    let l = at-level (now (a .area)) (a .fg) _ (rowStart (a .y)) (p .3) (c .before .before .before .before .share .ensures) in
+    let e = painted (now (a .area)) (a .fg) _ (rowStart (a .y)) _ _ _ l (c .add-row .ensures) in (
       changed-length (each (now (a .area)) (a .fg)) _ _ (now (a .rgba)) _ (p .1) e,
       not-flat (now (a .area)) (a .fg) (a .y) (now (a .flat)) (now (a .rgba)) _ (p .1) (p .0) (c .before .before .if1 .left) e,
     )
