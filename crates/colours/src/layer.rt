@@ -169,42 +169,51 @@ pub fn lay_on_row(
     lay_on_four(rgba, i + 12, one, fg, area);
 }
 
-// The colour over row y, which is flat: its first pixel stands for all. It stays flat where its areas are all
-// the same.
-pub fn over_flat(
+// The colour over row y, whose areas are all the same: what is added is computed once. A flat row stays flat.
+pub fn over_level(
+    rgba: &mut [[f32; 4]; TILE_SIZE],
+    flat: &[bool; TILE_HEIGHT],
+    y: usize,
+    fg: [f32; 4],
+    area: &[f32],
+)
+    requires { ⌜ (y < tileHeight) × (length (now rgba) ≡ tileSize) × (length (now area) ≡ tileSize) × Level (now area) (rowStart y) ⌝ }
+    ensures { λ _. ⌜ (length (now (rgba .exit)) ≡ tileSize)
+        × (meant (now (flat .entry)) (now (rgba .exit)) ≡ mapi (within (rowStart y) (rowEnd y) (each (now (area .entry)) fg)) (meant (now (flat .entry)) (now (rgba .entry)))) ⌝ }
+{
+    let i = TILE_WIDTH * y;
+    let more = share(fg, area[i]);
+    if flat[y] {
+        add(rgba, i, more)
+    } else {
+        add_row(rgba, i, more)
+    }
+}
+
+// The colour over row y, whose areas differ: the row is not flat then.
+pub fn over_slope(
     rgba: &mut [[f32; 4]; TILE_SIZE],
     flat: &mut [bool; TILE_HEIGHT],
     y: usize,
     fg: [f32; 4],
     area: &[f32],
 )
-    requires { ⌜ (y < tileHeight) × (length (now rgba) ≡ tileSize) × (length (now area) ≡ tileSize) × NoMinus (now area) × (getD (now flat) y false ≡ true) ⌝ }
+    requires { ⌜ (y < tileHeight) × (length (now rgba) ≡ tileSize) × (length (now area) ≡ tileSize) ⌝ }
     ensures { λ _. ⌜ (length (now (rgba .exit)) ≡ tileSize)
         × (meant (now (flat .exit)) (now (rgba .exit)) ≡ mapi (within (rowStart y) (rowEnd y) (each (now (area .entry)) fg)) (meant (now (flat .entry)) (now (rgba .entry)))) ⌝ }
 {
     let i = TILE_WIDTH * y;
-    if all_level(area, i) {
-        add(rgba, i, share(fg, area[i]))
-    } else {
+    if flat[y] {
         let one = rgba[i];
         flat[y] = false;
         lay_on_row(rgba, i, one, fg, area)
-    }
-}
-
-// The colour over a row of pixels from i on.
-pub fn over_row(rgba: &mut [[f32; 4]; TILE_SIZE], i: usize, fg: [f32; 4], area: &[f32])
-    requires { ⌜ (i + tileWidth ≤ tileSize) × (length (now area) ≡ tileSize) × NoMinus (now area) ⌝ }
-    ensures { λ _. ⌜ now (rgba .exit) ≡ mapi (within i (i + tileWidth) (each (now (area .entry)) fg)) (now (rgba .entry)) ⌝ }
-{
-    if all_level(area, i) {
-        add_row(rgba, i, share(fg, area[i]))
     } else {
         lay_row(rgba, i, fg, area)
     }
 }
 
-// The colour over row y, flat or not.
+// The colour over row y, flat or not. Whether its areas are all the same is asked first and once, so that the answer
+// goes to one branch: the compiler then compares four areas at a time.
 pub fn over_any(
     rgba: &mut [[f32; 4]; TILE_SIZE],
     flat: &mut [bool; TILE_HEIGHT],
@@ -216,10 +225,10 @@ pub fn over_any(
     ensures { λ _. ⌜ (length (now (rgba .exit)) ≡ tileSize)
         × (meant (now (flat .exit)) (now (rgba .exit)) ≡ mapi (within (rowStart y) (rowEnd y) (each (now (area .entry)) fg)) (meant (now (flat .entry)) (now (rgba .entry)))) ⌝ }
 {
-    if flat[y] {
-        over_flat(rgba, flat, y, fg, area)
+    if all_level(area, TILE_WIDTH * y) {
+        over_level(rgba, flat, y, fg, area)
     } else {
-        over_row(rgba, TILE_WIDTH * y, fg, area)
+        over_slope(rgba, flat, y, fg, area)
     }
 }
 

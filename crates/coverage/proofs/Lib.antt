@@ -1,7 +1,9 @@
 pub mod Past
 pub mod Laws
 pub mod Sizes
+pub mod Rises
 pub mod RowsLaws
+pub mod LowLaws
 pub mod Grounds
 pub mod Crooked
 pub mod Page

@@ -2,9 +2,11 @@
 --     Row, Coverage   by parts
 --     Page            the same on one page, beside fine.rs
 --     Rows            all rows of a segment at once, for the functions alone
+--     Low             the rows that a low segment has nothing for, likewise
 pub mod Tile
 pub mod Row
 pub mod Rows
+pub mod Low
 pub mod Coverage
 pub mod Page
 pub mod Ground

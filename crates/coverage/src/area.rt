@@ -1,10 +1,14 @@
 // The areas of a tile's pixels, row by row, segment by segment, and what they end as: fine.rs, lines
 // 51 to 109.
+use crate::low::edgeless;
+use crate::low::guess;
+use crate::low::only;
 use crate::row::Reach;
 use crate::row::Row;
 use crate::row::Way;
 use crate::row::added;
 use crate::row::reach_of;
+use crate::row::row_of;
 use crate::row::up_to_one;
 use crate::row::way_of;
 use crate::rows::four_clear;
@@ -18,6 +22,7 @@ use float32::of_i32;
 use float32::pick;
 use float32::round;
 use panel::segments::segment_at;
+use util::TILE_SIDE;
 ghost use mathlib.Core.Path.{_≡_};
 ghost use Prim.Native.Nat.{_+_, _*_, _≤_, _<_};
 ghost use lib.ListN.{length};
@@ -119,8 +124,8 @@ pub fn add_rows(
     }
 }
 
-// A segment: its rows' numbers first, then the rows.
-pub fn add_segment(area: &mut [f32], w: Way, yt: f32)
+// All rows of a segment: their numbers first, then the rows.
+pub fn add_all(area: &mut [f32], w: Way, yt: f32)
     requires { ⌜ length (now area) ≡ tileSize ⌝ }
     ensures { λ _. ⌜ now (area .exit) ≡ mapi (stepWay w yt) (now (area .entry)) ⌝ }
 {
@@ -131,6 +136,39 @@ pub fn add_segment(area: &mut [f32], w: Way, yt: f32)
     let mut edges = no_rows();
     rows_of(w, yt, &mut ys, &mut y0s, &mut y1s, &mut dys, &mut edges);
     add_rows(area, w, &ys, &y0s, &y1s, &dys, &edges);
+}
+
+// The rows from .. to of a segment.
+pub fn add_few(area: &mut [f32], w: Way, yt: f32, from: usize, to: usize)
+    requires { ⌜ (from ≤ to) × (to ≤ tileHeight) × (length (now area) ≡ tileSize) ⌝ }
+    ensures { λ _. ⌜ now (area .exit) ≡ mapi (within (rowStart from) (rowStart to) (stepWay w yt)) (now (area .entry)) ⌝ }
+{
+    let mut yi = from;
+    while yi < to {
+        add_row(area, w, row_of(w, yt, yi), yi);
+        yi += 1;
+    }
+}
+
+// A segment. One that is low and has no y_edge goes through its own rows only, where the guess at them is right.
+pub fn add_segment(area: &mut [f32], w: Way, yt: f32)
+    requires { ⌜ length (now area) ≡ tileSize ⌝ }
+    ensures { λ _. ⌜ now (area .exit) ≡ mapi (stepWay w yt) (now (area .entry)) ⌝ }
+{
+    let end = w.y + w.dy;
+    let low = pick(end < w.y, end, w.y);
+    let high = pick(end < w.y, w.y, end);
+    let flat = (0.0 <= low) & (high <= TILE_SIDE) & (high - low < 4.0) & edgeless(w, yt);
+    if flat {
+        let from = guess(low - 0.5);
+        let to = guess(high + 0.5);
+        let right = only(w, yt, from, to);
+        if right {
+            add_few(area, w, yt, from, to);
+            return;
+        }
+    }
+    add_all(area, w, yt)
 }
 
 // The n segments from the first on, in order.

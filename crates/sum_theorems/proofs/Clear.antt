@@ -33,7 +33,8 @@ use Rattle.errors.proofs.Relative.{closest-half}
 use Rattle.errors.proofs.Sizes.{sub-small, round-below}
 use Rattle.errors.proofs.Parts.{parts-pos, round-parts}
 use Rattle.util.specs.Constants as Number
-use Rattle.sum_theorems.proofs.Signed.{At, Place, Rd, own-at, own-rd, sub-rd, rd-order, rd-abs, rd-size, rd-number, at-order, at-plus, at-minus}
+use Rattle.coverage.proofs.Rises.{Rd, rd-order}
+use Rattle.sum_theorems.proofs.Signed.{At, Place, own-at, own-rd, sub-rd, rd-abs, rd-size, rd-number, at-order, at-plus, at-minus}
 use Rattle.sum_theorems.proofs.Tame.{of-most, sum-size, mul-small, half-small}
 use Rattle.sum_theorems.proofs.Shares.{lowOf, heldOf, shareOf, Eps, eps-of, eps-place, parts-same, parts-many, wide, taken-bound}
 use Rattle.sum_theorems.proofs.Shares.{zero-at, one-at, zero-fits, one-fits, at-finite, at-number, one-number, low-fits, low-under}

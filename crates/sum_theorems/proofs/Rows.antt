@@ -3,22 +3,22 @@
 --     reach-order            its ends in the row, from left to right
 --     added-tame             what it adds to a pixel is a NaN, or at most 2 ^ 24 in size
 use mathlib.Core.Path.{_≡_, refl, sym, ap, subst, _∙_}
-use mathlib.Core.Bool.{Bool, true, false, not, cond, Bool·beq, _&&_, _||_, true≢false, false≢true}
+use mathlib.Core.Bool.{Bool, true, false, not, Bool·beq, _||_, true≢false, false≢true}
 use mathlib.Core.Logic.{⊎-elim}
-use Prim.Native.Nat.{ℕ, zero, _+_, _-_, _*_, _^_, _≤_, _<_}
+use Prim.Native.Nat.{ℕ, zero, _+_, _*_, _^_, _≤_, _<_}
 use native.Mathlib.Nat.{mul-le-mul-right, mul-pos, zero-mul}
 use native.Mathlib.Omega.{arith}
-use lib.Dec.{T, eqb, ltb, lit<, lit≤}
+use lib.Dec.{T, eqb, lit<, lit≤}
 use lib.IntN.{ℤ, pos}
-use lib.Ieee.{Float, nan, inf, fin, binary32, up, down, unlike, round, sum, add, sub, mul, neg, lt, eq, le, fits, isNan, ofInt, ofBits}
+use lib.Ieee.{Float, nan, inf, fin, binary32, up, down, unlike, round, add, sub, mul, neg, lt, eq, le, fits, isNan, ofInt, ofBits}
 use lib.Ieee.Fits.{down-pos, add-fits, sub-fits, ofInt-fits}
 use lib.Ieee.Scale.{finite}
 use borrow.Author.Tests.{eqb-true}
+use Rattle.float32.proofs.Tests.{yes}
 use Rattle.float32.specs.Meaning.{whole, unit, minOf, maxOf, clampOf, signumOf}
 use Rattle.float32.proofs.Laws.{clamp-in, min-fits, max-fits}
 use Rattle.float32.proofs.Order.{not-lt-of-le, lt-irreflexive}
 use Rattle.float32.proofs.MinMax.{min-picks, min-of-nan, max-of-nan, min-with-nan, max-with-nan, max-left, max-right}
-use Rattle.float32.proofs.Whole.{round-no-nan}
 use Rattle.util.specs.Constants as Number
 use Rattle.panel.specs.Segments.{Straight}
 use Rattle.panel.proofs.BoolLaws.{both}
@@ -33,7 +33,9 @@ use Rattle.coverage.specs.Row.{wayOf, rowOf, reachOf, addedOf}
 use Rattle.coverage.specs.declared.row.Way.{Way}
 use Rattle.coverage.specs.declared.row.Row.{Row}
 use Rattle.sum_theorems.specs.Sums.{Tame}
-use Rattle.sum_theorems.proofs.Signed.{own-at, sub-rd, rd-order, at-order}
+use Rattle.coverage.proofs.LowLaws.{add-number as number-more}
+use Rattle.coverage.proofs.Rises.{rd-order}
+use Rattle.sum_theorems.proofs.Signed.{own-at, sub-rd, at-order}
 use Rattle.sum_theorems.proofs.Tame.{div-wild, sub-wild-left, mul-tame, add-tame}
 use Rattle.sum_theorems.proofs.Shares.{lowOf, heldOf, shareOf, shareMost, share-tame}
 
@@ -104,28 +106,7 @@ sized t (fin s m e) h = small-round (unlike t s) (1 * (m * up e)) (1 * down e) 1
 
 -- a sum with a finite number is a number
 pub add-number : (x y : Float) → T (not (isNan x)) → finite y ≡ true → T (not (isNan (add binary32 x y)))
-unfolding add sum isNan
-add-number nan y n f = absurd n
-add-number (inf s) nan n f = absurd (false≢true f)
-add-number (inf s) (inf t) n f = absurd (false≢true f)
-add-number (inf s) (fin t m e) n f = tt
-add-number (fin s m e) nan n f = absurd (false≢true f)
-add-number (fin s m e) (inf t) n f = absurd (false≢true f)
-add-number (fin s m e) (fin t k d) n f = go (Bool·beq s t) (ltb A B)
-  where
-    A : ℕ
-    A = m * up e * down d
-
-    B : ℕ
-    B = k * up d * down e
-
-    c : ℕ
-    c = down e * down d
-
-    go : (u v : Bool) → T (not (isNan (cond u (round binary32 s (A + B) c) (cond v (round binary32 t (B - A) c) (round binary32 (s && ltb B A) (A - B) c)))))
-    go true v = round-no-nan s (A + B) c
-    go false true = round-no-nan t (B - A) c
-    go false false = round-no-nan (s && ltb B A) (A - B) c
+add-number x y n f = number-more x y n (yes f)
 
 neg-finite : (x : Float) → finite x ≡ true → finite (neg x) ≡ true
 unfolding neg

@@ -30,7 +30,8 @@ use Rattle.errors.proofs.Parts.{parts-pos}
 use Rattle.errors.proofs.Rounds.{round-error}
 use Rattle.util.specs.Constants as Number
 use Rattle.sum_theorems.specs.Sums.{Tame}
-use Rattle.sum_theorems.proofs.Signed.{At, Place, Rd, Between, own-at, own-rd, sub-rd, add-rd, mul-rd, neg-at, rd-order, rd-abs, at-order, at-plus, at-minus, squeeze}
+use Rattle.coverage.proofs.Rises.{Rd, rd-order}
+use Rattle.sum_theorems.proofs.Signed.{At, Place, Between, own-at, own-rd, sub-rd, add-rd, mul-rd, neg-at, rd-abs, at-order, at-plus, at-minus, squeeze}
 use Rattle.sum_theorems.proofs.Tame.{speck, div-wild, div-under, div-wide, sub-wild-left, sub-wild-right, mul-small, half-small}
 
 -- a, of the segment's ends in the row, taken from the pixel's left side

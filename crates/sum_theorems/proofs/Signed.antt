@@ -1,29 +1,25 @@
 -- Floats of either sign as whole numbers of parts, 2 ^ -149 each. Assumes nothing.
 --     own-at             a finite `f32` is p parts, or n parts below 0
 --     add-rd, mul-rd     a sum and a product are the exact fraction (p - n) / c, rounded once
---     rd-order           rounding keeps the order, whatever the signs
 --     at-order           the order of two floats is that of their parts
 use mathlib.Core.Path.{_≡_, refl, sym, ap, _∙_, subst}
-use mathlib.Core.Bool.{Bool, true, false, not, cond, true≢false}
-use Prim.Native.Nat.{ℕ, suc, zero, _+_, _-_, _*_, _^_, _≤_, _<_}
+use mathlib.Core.Bool.{Bool, true, false, not, true≢false}
+use Prim.Native.Nat.{ℕ, suc, zero, _+_, _-_, _*_, _≤_, _<_}
 use native.Mathlib.Nat.{le-of-eq, add-mul, mul-assoc, mul-comm, mul-pos, zero-mul, mul-right-comm, le-of-mul-le-mul-right}
 use native.Mathlib.Omega.{arith}
-use lib.Dec.{T, ltb, ltb→lt, nltb→le}
+use lib.Dec.{T}
 use lib.IntN.{ℤ}
-use lib.Ieee.{Float, nan, inf, fin, binary32, up, down, round, sum, add, sub, mul, neg, lt, le, fits, isNan}
-use lib.Ieee.Bits.{is-true}
+use lib.Ieee.{Float, nan, inf, fin, binary32, up, down, round, sum, add, sub, mul, neg, lt, fits, isNan}
 use lib.Ieee.Fits.{down-pos}
-use lib.Ieee.Order.{round-mono, transfer}
+use lib.Ieee.Order.{transfer}
 use lib.Ieee.Scale.{round-same, finite}
 use borrow.Author.Tests.{ltb-false}
-use Rattle.float32.specs.Meaning.{absOf, signed, signOf}
-use Rattle.float32.proofs.Order.{not-lt-of-le}
+use Rattle.float32.specs.Meaning.{absOf, signOf}
 use Rattle.float32.proofs.Same.{round-own}
 use Rattle.float32.proofs.Whole.{round-no-nan}
-use Rattle.exact.proofs.Exact.{round-signed}
-use Rattle.errors.specs.Sizes.{parts, Zero}
+use Rattle.coverage.proofs.Rises.{Gap, Rd, pl, mi, sum-rd, nought, rd-order}
+use Rattle.errors.specs.Sizes.{parts}
 use Rattle.errors.proofs.Sizes.{abs-round}
-use Rattle.errors.proofs.Signs.{round-none}
 use Rattle.errors.proofs.Parts.{parts-pos, own-parts}
 
 -- x is finite, p parts where its sign is plus, and n parts below 0 where it is minus
@@ -51,45 +47,7 @@ own-at (fin true m e) h f =
     let w = own-parts (fin false m e) (fits-sign true false m e h) tt (unfold signOf in refl) in
     record { p = 0; n = w .0; at = (w .1 .1, refl) }
 
--- ---- (p - n) / c, rounded
-
--- k is p - n, or with a minus sign n - p
-abbrev pub Gap : Bool → ℕ → ℕ → ℕ → Type 0
-Gap false k p n = p ≡ n + k
-Gap true k p n = n ≡ p + k
-
-pub record Rd (y : Float) (p n c : ℕ) : Type 0 where
-  pub s : Bool
-  pub k : ℕ
-  pub is : y ≡ round binary32 s k c
-  pub gap : Gap s k p n
-
--- a with the sign s: what is above 0, and what is below
-abbrev pub pl : Bool → ℕ → ℕ
-pl false a = a
-pl true a = 0
-
-abbrev pub mi : Bool → ℕ → ℕ
-mi false a = 0
-mi true a = a
-
-pub sum-rd : (s : Bool) (a : ℕ) (t : Bool) (b c : ℕ) → Rd (sum binary32 s a t b c) (pl s a + pl t b) (mi s a + mi t b) c
-unfolding sum
-sum-rd false a false b c = record { s = false; k = a + b; is = refl; gap = omega arith }
-sum-rd true a true b c = record { s = true; k = a + b; is = refl; gap = omega arith }
-sum-rd false a true b c = go (ltb a b) (ltb→lt a b) (nltb→le a b)
-  where
-    go : (u : Bool) → (T u → a < b) → (T (not u) → b ≤ a) → Rd (cond u (round binary32 true (b - a) c) (round binary32 false (a - b) c)) (a + 0) (0 + b) c
-    go true h l = record { s = true; k = b - a; is = refl; gap = let q = h tt in omega (arith, q) }
-    go false h l = record { s = false; k = a - b; is = refl; gap = let q = l tt in omega (arith, q) }
-sum-rd true a false b c = go (ltb a b) (ltb→lt a b) (nltb→le a b) (ltb b a) (ltb→lt b a) (nltb→le b a)
-  where
-    go : (u : Bool) → (T u → a < b) → (T (not u) → b ≤ a) → (v : Bool) → (T v → b < a) → (T (not v) → a ≤ b)
-        → Rd (cond u (round binary32 false (b - a) c) (round binary32 v (a - b) c)) (0 + b) (a + 0) c
-    go true h l v x y = record { s = false; k = b - a; is = refl; gap = let q = h tt in omega (arith, q) }
-    go false h l true x y = record { s = true; k = a - b; is = refl; gap = let q = l tt in omega (arith, q) }
-    go false h l false x y = record { s = false; k = a - b; is = refl; gap = let q = l tt in let r = y tt in omega (arith, q, r) }
-
+-- ---- (p - n) / c, rounded: `Rd` of coverage's Rises.antt, by which rounding keeps the order
 -- over another denominator
 scaled : (y : Float) (p n c q m d : ℕ) → 0 < c → 0 < d → p * d ≡ q * c → n * d ≡ m * c → Rd y p n c → Rd y q m d
 scaled y p n c q m d C D h l r = go (r .s) (r .k) (r .is) (r .gap)
@@ -170,74 +128,6 @@ own-rd (fin true m e) p n f h = record {
 }
 
 -- ---- the order
-lt-turned : (x y : Float) → lt (signed true x) (signed true y) ≡ lt (signed false y) (signed false x)
-unfolding lt signed
-lt-turned nan nan = refl
-lt-turned nan (inf t) = refl
-lt-turned nan (fin t n d) = refl
-lt-turned (inf s) nan = refl
-lt-turned (inf s) (inf t) = refl
-lt-turned (inf s) (fin t n d) = refl
-lt-turned (fin s m e) nan = refl
-lt-turned (fin s m e) (inf t) = refl
-lt-turned (fin s m e) (fin t n d) = refl
-
-lt-minus : (x y : Float) → lt (signed false x) (signed true y) ≡ false
-unfolding lt signed
-lt-minus nan y = refl
-lt-minus (inf s) nan = refl
-lt-minus (inf s) (inf t) = refl
-lt-minus (inf s) (fin t n d) = refl
-lt-minus (fin s m e) nan = refl
-lt-minus (fin s m e) (inf t) = refl
-lt-minus (fin s m e) (fin t n d) = refl
-
-lt-zeros : (x y : Float) → Zero x → Zero y → lt x y ≡ false
-unfolding lt
-lt-zeros nan y h k = absurd h
-lt-zeros (inf s) y h k = absurd h
-lt-zeros (fin s m e) nan h k = absurd k
-lt-zeros (fin s m e) (inf t) h k = absurd k
-lt-zeros (fin s m e) (fin t n d) h k = rw (h, k, zero-mul (up e), zero-mul (up d), zero-mul (down d), zero-mul (down e)) (each s t)
-  where
-    each : (s t : Bool) → lib.Ieee.below s 0 t 0 ≡ false
-    each false false = refl
-    each false true = refl
-    each true false = refl
-    each true true = refl
-
--- a product of whole numbers that is 0
-pub nought : (k c : ℕ) → 0 < c → k * c ≤ 0 → k ≡ 0
-nought zero c C h = refl
-nought (suc k) c C h = let z : suc k * c ≡ k * c + c = native.Mathlib.Nat.suc-mul k c in absurd (omega (arith, z, C, h))
-
-pub rd-order : (y : Float) (p n c : ℕ) (z : Float) (q m d : ℕ) → 0 < c → 0 < d → Rd y p n c → Rd z q m d → p * d + m * c ≤ q * c + n * d → lt z y ≡ false
-rd-order y p n c z q m d C D r w l = go (r .s) (r .k) (r .is) (r .gap) (w .s) (w .k) (w .is) (w .gap)
-  where
-    dist : (k u v w : ℕ) → u ≡ v + w → u * k ≡ v * k + w * k
-    dist k u v w e = ap (λ (z : ℕ). z * k) e ∙ add-mul v w k
-
-    -- the larger of two sizes is rounded to the larger
-    sized : (a b x y : ℕ) → 0 < b → 0 < y → a * y ≤ x * b → lt (round binary32 false x y) (round binary32 false a b) ≡ false
-    sized a b x y B Y h =
-        not-lt-of-le (round binary32 false a b) (round binary32 false x y) (is-true (le (round binary32 false a b) (round binary32 false x y)) (round-mono binary32 a b x y B Y h))
-
-    go : (s : Bool) (k : ℕ) → y ≡ round binary32 s k c → Gap s k p n → (t : Bool) (j : ℕ) → z ≡ round binary32 t j d → Gap t j q m → lt z y ≡ false
-    go false k e g false j f h =
-        rw (e, f) (sized k c j d C D (omega (arith, dist d p n k g, dist c q m j h, l)))
-    go true k e g true j f h =
-        let o : lt (round binary32 false k c) (round binary32 false j d) ≡ false = sized j d k c D C (omega (arith, dist d n p k g, dist c m q j h, l)) in
-        rw (e, f, round-signed true k c, round-signed true j d)
-        (lt-turned (round binary32 false j d) (round binary32 false k c)
-        ∙ sym (ap (λ (x : Float). lt x (signed false (round binary32 false j d))) (round-signed false k c))
-        ∙ sym (ap (λ (x : Float). lt (round binary32 false k c) x) (round-signed false j d)) ∙ o)
-    go true k e g false j f h =
-        rw (e, f, round-signed true k c, round-signed false j d) (lt-minus (round binary32 false j d) (round binary32 false k c))
-    go false k e g true j f h =
-        let o : k * d + j * c ≤ 0 = omega (arith, dist d p n k g, dist c m q j h, l) in
-        rw (e, f)
-        (lt-zeros (round binary32 true j d) (round binary32 false k c) (round-none true j d D (nought j c C (omega (arith, o)))) (round-none false k c C (nought k d D (omega (arith, o)))))
-
 pub at-order : (x y : Float) (p n q m : ℕ) → At x p n → At y q m → lt y x ≡ false → p + m ≤ q + n
 unfolding lt
 at-order nan y p n q m h k l = absurd h

@@ -22,7 +22,8 @@ use Rattle.errors.proofs.Signs.{round-none}
 use Rattle.errors.proofs.Relative.{grid-high}
 use Rattle.errors.proofs.Parts.{parts-pos, round-parts, one-over}
 use Rattle.util.specs.Constants as Number
-use Rattle.sum_theorems.proofs.Signed.{At, Place, Rd, Gap, Between, own-at, own-rd, add-rd, sub-rd, mul-rd, neg-at, rd-order, at-order, at-plus, at-minus, squeeze, nought}
+use Rattle.coverage.proofs.Rises.{Rd, Gap, rd-order, nought}
+use Rattle.sum_theorems.proofs.Signed.{At, Place, Between, own-at, own-rd, add-rd, sub-rd, mul-rd, neg-at, at-order, at-plus, at-minus, squeeze}
 use Rattle.sum_theorems.proofs.Shares.{zero-at, one-at, zero-fits, one-fits, plus-at, minus-at, at-finite}
 use Rattle.sum_theorems.proofs.Clear.{zero-one}
 

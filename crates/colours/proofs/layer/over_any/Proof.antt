@@ -1,42 +1,33 @@
 -- `colours::layer::over_any` meets its contract. Assumes nothing.
-use denote.Ref.{now}
-use Rattle.colours.specs.Layer.{each}
-use Rattle.colours.proofs.FlatLaws.{not-flat, changed-length}
 use borrow.Author.Needs.{needs}
 use Rattle.colours.proofs.layer.over_any.Statement.{statement}
 use Rattle.colours.proofs.layer.over_any.Tie as tie
 
-element-copy-out-if1 : tie.Need-element-copy-out-if1
-element-copy-out-if1 c = search needs
+mul-all-level : tie.Need-mul-all-level
+mul-all-level c = search needs
 
-over-flat-requires : tie.Need-over-flat-requires
-over-flat-requires c κs = search needs
+all-level-requires : tie.Need-all-level-requires
+all-level-requires c κs = search needs
 
-mul-over-row : tie.Need-mul-over-row
-mul-over-row c = search needs
+over-level-requires : tie.Need-over-level-requires
+over-level-requires c κs = (search needs, search needs, search needs, c .before .before .before .all-level .ensures (c .before .before .if1 .taken))
 
-over-row-requires : tie.Need-over-row-requires
-over-row-requires c κs = search needs
+over-slope-requires : tie.Need-over-slope-requires
+over-slope-requires c κs = search needs
 
 returns : tie.Need-returns
 returns c = search needs
 
 returns-2 : tie.Need-returns-2
-returns-2 c =
-    let s = c .before .before .before .before .before in
-    let a = s .args in
-    let p = s .pre in (
-      changed-length (each (now (a .area)) (a .fg)) _ _ (now (a .rgba)) _ (p .1) (c .over-row .ensures),
-      not-flat (now (a .area)) (a .fg) (a .y) (now (a .flat)) (now (a .rgba)) _ (p .1) (p .0) (c .before .before .if1 .left) (c .over-row .ensures),
-    )
+returns-2 c = search needs
 
 pub over-any-spec : {M : Type 1} → statement M
 over-any-spec =
     tie.close
     (tie.spec
-    element-copy-out-if1
-    over-flat-requires
-    mul-over-row
-    over-row-requires
+    mul-all-level
+    all-level-requires
+    over-level-requires
+    over-slope-requires
     returns
     returns-2)

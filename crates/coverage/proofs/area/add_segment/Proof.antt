@@ -1,61 +1,78 @@
--- `coverage::area::add_segment` meets its contract: the lists that `rows_of` leaves have each row in its place. Assumes nothing.
-use mathlib.Core.Path.{_≡_, ap, _∙_}
-use mathlib.Core.List.{List}
-use lib.Ieee.{Float}
-use Rattle.coverage.specs.Rows.{column}
-use Rattle.coverage.specs.declared.row.Row.{Row}
-use Rattle.coverage.proofs.RowsLaws.{all-rows}
+-- `coverage::area::add_segment` meets its contract: the rows that aren't gone through get nothing (`LowLaws.antt`). Assumes nothing.
+use mathlib.Core.Path.{sym, _∙_}
+use Rattle.coverage.proofs.LowLaws.{low-number, high-number, tried-order, tried-tile, tried-few}
 use borrow.Author.Needs.{needs}
 use Rattle.coverage.proofs.area.add_segment.Statement.{statement}
 use Rattle.coverage.proofs.area.add_segment.Tie as tie
 
-no-rows-requires : tie.Need-no-rows-requires
-no-rows-requires c κs = search needs
+pick-requires : tie.Need-pick-requires
+pick-requires c κs = search needs
 
-no-rows-requires-2 : tie.Need-no-rows-requires-2
-no-rows-requires-2 c κs = search needs
+pick-requires-2 : tie.Need-pick-requires-2
+pick-requires-2 c κs = search needs
 
-no-rows-requires-3 : tie.Need-no-rows-requires-3
-no-rows-requires-3 c κs = search needs
+edgeless-requires : tie.Need-edgeless-requires
+edgeless-requires c κs = search needs
 
-no-rows-requires-4 : tie.Need-no-rows-requires-4
-no-rows-requires-4 c κs = search needs
+guess-requires : tie.Need-guess-requires
+guess-requires c κs =
+    let s = c in
+    let a = s .before .before .before .before .before .before .before .before .args in
+    low-number (a .w) (a .yt) _ _ _ _ (s .before .before .before .before .pick .ensures) (s .before .before .pick2 .ensures) (s .before .edgeless .ensures) (s .if1 .taken)
 
-no-rows-requires-5 : tie.Need-no-rows-requires-5
-no-rows-requires-5 c κs = search needs
+guess-requires-2 : tie.Need-guess-requires-2
+guess-requires-2 c κs =
+    let s = c .before in
+    let a = s .before .before .before .before .before .before .before .before .args in
+    high-number (a .w) (a .yt) _ _ _ _ (s .before .before .before .before .pick .ensures) (s .before .before .pick2 .ensures) (s .before .edgeless .ensures) (s .if1 .taken)
 
-rows-of-requires : tie.Need-rows-of-requires
-rows-of-requires c κs = search needs
+only-requires : tie.Need-only-requires
+only-requires c κs = search needs
 
-add-rows-requires : tie.Need-add-rows-requires
-add-rows-requires c κs = search needs
+add-few-requires : tie.Need-add-few-requires
+add-few-requires c κs =
+    let s = c .before .before .before .before .before in
+    let a = s .before .before .before .before .before .before .before .before .args in
+    let o = sym (c .before .before .only .ensures) ∙ c .before .if2 .taken in (
+      tried-order (a .w) (a .yt) _ _ _ _ (s .before .before .before .before .pick .ensures) (s .before .before .pick2 .ensures) (s .before .edgeless .ensures) (s .if1 .taken) _ _ o,
+      tried-tile (a .w) (a .yt) _ _ _ _ (s .before .before .before .before .pick .ensures) (s .before .before .pick2 .ensures) (s .before .edgeless .ensures) (s .if1 .taken) _ _ o,
+      search needs,
+    )
 
 same-length : tie.Need-same-length
 same-length c = search needs
 
 returns : tie.Need-returns
 returns c =
-    let s = c .before .before .before .before .before .before .before .before .before .before .before .before .before .before .before in
-    let a = s .before .before .before .before .before .before .args in
-    let t = c .before .before .before .before .before .before .before .before .before .rows-of .ensures in
-    all-rows (a .w) (a .yt) _ _ _ _ _
-    (t .0 ∙ ap (column (λ (r : Row). r .y) (a .w) (a .yt)) (s .before .before .before .before .no-rows .ensures))
-    (t .1 ∙ ap (column (λ (r : Row). r .y0) (a .w) (a .yt)) (s .before .before .before .no-rows2 .ensures))
-    (t .2 ∙ ap (column (λ (r : Row). r .y1) (a .w) (a .yt)) (s .before .before .no-rows3 .ensures))
-    (t .3 ∙ ap (column (λ (r : Row). r .dy) (a .w) (a .yt)) (s .before .no-rows4 .ensures))
-    (t .4 ∙ ap (column (λ (r : Row). r .edge) (a .w) (a .yt)) (s .no-rows5 .ensures))
-    _ _ (s .before .before .before .before .before .before .pre) (c .before .before .add-rows .ensures)
+    let s = c .before .before .before .before .before .before .before .before in
+    let t = s .before .before .before .before .before .before .before .before in
+    let a = t .args in
+    let o = sym (c .before .before .before .before .before .only .ensures) ∙ c .before .before .before .before .if2 .taken in
+    tried-few (a .w) (a .yt) _ _ _ _ (s .before .before .before .before .pick .ensures) (s .before .before .pick2 .ensures) (s .before .edgeless .ensures) (s .if1 .taken) _ _ o _ _
+    (t .pre) (c .before .before .add-few .ensures)
+
+add-all-requires : tie.Need-add-all-requires
+add-all-requires c κs = search needs
+
+same-length-2 : tie.Need-same-length-2
+same-length-2 c = search needs
+
+returns-2 : tie.Need-returns-2
+returns-2 c = search needs
 
 pub add-segment-spec : {M : Type 1} → statement M
 add-segment-spec =
     tie.close
     (tie.spec
-    no-rows-requires
-    no-rows-requires-2
-    no-rows-requires-3
-    no-rows-requires-4
-    no-rows-requires-5
-    rows-of-requires
-    add-rows-requires
+    pick-requires
+    pick-requires-2
+    edgeless-requires
+    guess-requires
+    guess-requires-2
+    only-requires
+    add-few-requires
     same-length
-    returns)
+    returns
+    add-all-requires
+    same-length-2
+    returns-2)

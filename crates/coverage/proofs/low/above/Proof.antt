@@ -1,0 +1,16 @@
+-- `coverage::low::above` meets its contract. Assumes nothing.
+use Rattle.coverage.specs.Low.{aboveOf}
+use Rattle.coverage.proofs.Laws.{small}
+use borrow.Author.Needs.{needs}
+use Rattle.coverage.proofs.low.above.Statement.{statement}
+use Rattle.coverage.proofs.low.above.Tie as tie
+
+int-to-float-y : tie.Need-int-to-float-y
+int-to-float-y c = small _ (search needs)
+
+returns : tie.Need-returns
+unfolding aboveOf
+returns c = cc
+
+pub above-spec : {M : Type 1} → statement M
+above-spec = tie.close (tie.spec int-to-float-y returns)

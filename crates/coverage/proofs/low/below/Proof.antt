@@ -1,0 +1,16 @@
+-- `coverage::low::below` meets its contract. Assumes nothing.
+use Rattle.coverage.specs.Low.{belowOf}
+use Rattle.coverage.proofs.Laws.{small}
+use borrow.Author.Needs.{needs}
+use Rattle.coverage.proofs.low.below.Statement.{statement}
+use Rattle.coverage.proofs.low.below.Tie as tie
+
+int-to-float-y : tie.Need-int-to-float-y
+int-to-float-y c = small _ (search needs)
+
+returns : tie.Need-returns
+unfolding belowOf
+returns c = cc
+
+pub below-spec : {M : Type 1} → statement M
+below-spec = tie.close (tie.spec int-to-float-y returns)
