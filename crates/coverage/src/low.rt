@@ -3,6 +3,7 @@
 // gets nothing no row gets anything, so that the rest are passed over unseen.
 use crate::row::Way;
 use crate::tile::TILE_HEIGHT;
+use float32::SHIFT;
 use float32::is_finite;
 ghost use mathlib.Core.Path.{_≡_};
 ghost use mathlib.Core.Bool.{not};
@@ -11,9 +12,6 @@ ghost use lib.Dec.{T};
 ghost use lib.Ieee.{isNan};
 ghost use Rattle.coverage.specs.Tile.{tileHeight};
 ghost use Rattle.coverage.specs.Low.{aboveOf, belowOf, edgelessOf, onlyOf};
-
-// 3 * 2^22: a float below 2^22 in size, SHIFT added, has the nearest whole number in its last bits.
-const SHIFT: f32 = 12582912.0;
 
 // Whether row yi lies above the segment: then so do the rows above it.
 fn above(w: Way, yt: f32, yi: usize) -> bool
@@ -41,7 +39,7 @@ pub fn edgeless(w: Way, yt: f32) -> bool
     is_finite(w.sign) & is_finite(w.edge) & (top - w.edge + 1.0 <= 0.0)
 }
 
-// A guess at the whole number nearest to y.
+// A guess at the whole number nearest to y: SHIFT added, it stands in the last bits.
 pub fn guess(y: f32) -> usize
     requires { ⌜ T (not (isNan y)) ⌝ }
     ensures { λ r. ⌜ r < 32 ⌝ }

@@ -124,7 +124,7 @@ pub fn trunc(x: f32) -> f32
 // bits and no shift.
 const NEAR: f32 = 4194304.0;
 
-const SHIFT: f32 = 12582912.0;
+pub const SHIFT: f32 = 12582912.0;
 
 // The largest whole number that is at most x, at any size.
 fn floor_far(x: f32) -> f32

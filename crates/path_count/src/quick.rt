@@ -1,6 +1,7 @@
 // The check of a line's first steps in whole numbers, with their notes. It refuses nothing itself: where a step is
-// outside, or its tile or its mark at a limit, or its z out of the ordinary, the steps are gone through one by one as
-// in `checks.rt`, which says what becomes of them. Nothing is written but notes.
+// outside, or its tile or its mark at a limit, or its z out of the ordinary, it says no. A line inside its box is then
+// walked (`direct.rt`); the steps of a walk are gone through one by one as in `checks.rt`, which says what becomes of
+// them. Nothing is written but notes.
 ghost use mathlib.Core.Path.{_≡_};
 ghost use mathlib.Core.Bool.{true};
 ghost use Prim.Native.Nat.{_-_, _<_, _≤_};

@@ -13,6 +13,7 @@ ghost use Rattle.panel.specs.Paths.{pathsAnswer};
 ghost use Rattle.panel.specs.Pieces.{pieces};
 ghost use Rattle.panel.specs.declared.kinds.Answer.the-variants.{Done};
 ghost use Rattle.path_tiling.specs.One.{innerOf, SeenMet, PieceMet, ShortMet, PutMet, TookMet};
+use float32::SHIFT;
 use panel::kinds::LineNo;
 use panel::kinds::SlotNo;
 use panel::lines::line_at;
@@ -34,7 +35,6 @@ use spot::Spot;
 use spot::spot_of;
 use util::TILE_SIDE;
 use util::Vec2;
-use whole::SHIFT;
 
 // A line's segment in its one tile; or a line to be looked at in another way.
 pub enum Inside {

@@ -6,7 +6,6 @@ use Rattle.util.specs.declared.Vec2.{Vec2}
 use Rattle.panel.specs.Kinds.{tileNoOf}
 use Rattle.panel.specs.Paths.{tileOf}
 use Rattle.panel.specs.declared.kinds.Path.{Path}
-use Rattle.panel.specs.declared.kinds.TileNo.{TileNo}
 use Rattle.walk.specs.Num.{float}
 use Rattle.walk.specs.Page.{lineOf}
 use Rattle.walk.specs.Lent.{Reached, walkedOf}

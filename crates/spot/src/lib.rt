@@ -4,13 +4,13 @@ ghost use mathlib.Core.Path.{_≡_};
 ghost use Rattle.walk.specs.Step.{Boxed};
 ghost use Rattle.spot.specs.Spot.{SpotMet};
 ghost use Rattle.spot.specs.Tests.{shiftedOf, stretchOf, betweenOf, longOf, heldOf, AtMet, Real};
+use float32::SHIFT;
 use float32::pick;
 use panel::kinds::Path;
 use panel::kinds::TileNo;
 use util::TILE_SCALE;
 use util::Vec2;
 use walk::step::tile_at;
-use whole::SHIFT;
 use whole::ZERO;
 
 // 2^-20. A line that is shorter, in tiles, across and down together, is left to `walk`; 1 divided by a longer one's length
