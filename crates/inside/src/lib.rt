@@ -1,7 +1,7 @@
 // A line that lies inside its path's box: its walk is not clipped and passes no row left of the box, so that its pace and
 // the number of its steps say all. Where it says nothing, the line is left to `walk` and `clip`.
 ghost use mathlib.Core.Path.{_≡_};
-ghost use mathlib.Core.Bool.{cond, false};
+ghost use mathlib.Core.Bool.{false};
 ghost use Prim.Native.Nat.{_+_, _*_, _≤_};
 ghost use lib.ListN.{length};
 ghost use lib.Ieee.{lt};
@@ -13,8 +13,8 @@ ghost use Rattle.inside.specs.Inside.{InsideMet};
 ghost use Rattle.inside.specs.Stages.{inEdgesOf, pacedOf};
 use float32::pick;
 use panel::kinds::Path;
+use panel::lines::end_at;
 use panel::lines::line_at;
-use panel::widths::LINE_FLOATS;
 use util::TILE_SCALE;
 use util::Vec2;
 use walk::edges::Edges;
@@ -39,13 +39,6 @@ struct Tiled {
     s1: Vec2,
 }
 
-// How far a line's second point is from its first, in floats, where t is true.
-fn far_if(t: bool) -> usize
-    ensures { λ r. ⌜ (r ≡ cond t 2 0) × (r ≤ 2) ⌝ }
-{
-    if t { 2 } else { 0 }
-}
-
 // The ends of the line at a place. Which is the upper one can't be foretold, so its floats are found by their place, with
 // no branch.
 fn ends_at(coords: &[f32], place: u32) -> Tiled
@@ -53,18 +46,10 @@ fn ends_at(coords: &[f32], place: u32) -> Tiled
     ensures { λ r. ⌜ (r .s0 ≡ endsOf (lineAt (now (coords .entry)) place .p0) (lineAt (now (coords .entry)) place .p1) .s0)
         × (r .s1 ≡ endsOf (lineAt (now (coords .entry)) place .p0) (lineAt (now (coords .entry)) place .p1) .s1) ⌝ }
 {
-    let at = (place as usize) * LINE_FLOATS;
-    let is_down = coords[at + 3] >= coords[at + 1];
-    let from = at + far_if(!is_down);
-    let to = at + far_if(is_down);
-    let s0 = Vec2 {
-        x: coords[from] * TILE_SCALE,
-        y: coords[from + 1] * TILE_SCALE,
-    };
-    let s1 = Vec2 {
-        x: coords[to] * TILE_SCALE,
-        y: coords[to + 1] * TILE_SCALE,
-    };
+    let line = line_at(coords, place);
+    let is_down = line.p1.y >= line.p0.y;
+    let s0 = end_at(coords, place, !is_down).scale(TILE_SCALE);
+    let s1 = end_at(coords, place, is_down).scale(TILE_SCALE);
     Tiled { s0, s1 }
 }
 

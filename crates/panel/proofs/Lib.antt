@@ -1,6 +1,7 @@
 pub mod BoolLaws
 pub mod SignLaws
 pub mod LimitLaws
+pub mod LineLaws
 pub mod CheckLaws
 pub mod PathLaws
 pub mod KindLaws

@@ -1,5 +1,6 @@
 // A line as it is lent: its two points, read and written.
 ghost use mathlib.Core.Path.{_≡_};
+ghost use mathlib.Core.Bool.{cond};
 ghost use Prim.Native.Nat.{_+_, _*_, _≤_};
 ghost use lib.ListN.{length};
 ghost use lib.Seq.{sets};
@@ -28,6 +29,26 @@ pub fn line_at(coords: &[f32], line_no: u32) -> LineEnds
         y: coords[at + 3],
     };
     LineEnds { p0, p1 }
+}
+
+// How far a line's second point is from its first, in floats, where t is true.
+fn far_if(t: bool) -> usize
+    ensures { λ r. ⌜ (r ≡ cond t 2 0) × (r ≤ 2) ⌝ }
+{
+    if t { 2 } else { 0 }
+}
+
+// One of a line's points: the second where t is true, else the first. Its floats are found by their place, with no branch,
+// where which of the two it is can't be foretold.
+pub fn end_at(coords: &[f32], line_no: u32, t: bool) -> Vec2
+    requires { ⌜ «line_no» * lineFloats + lineFloats ≤ length (now coords) ⌝ }
+    ensures { λ r. ⌜ r ≡ cond t (lineAt (now (coords .entry)) «line_no» .p1) (lineAt (now (coords .entry)) «line_no» .p0) ⌝ }
+{
+    let at = (line_no as usize) * LINE_FLOATS + far_if(t);
+    Vec2 {
+        x: coords[at],
+        y: coords[at + 1],
+    }
 }
 
 // A line's floats, from a place on; and the place after them.

@@ -2,7 +2,7 @@
 use mathlib.Core.Path.{_≡_, refl, sym, ap, _∙_, subst}
 use mathlib.Core.Bool.{Bool, true, false, _&&_, _||_}
 use mathlib.Core.Logic.{_⊎_, inl, inr}
-use Prim.Native.Nat.{ℕ, _+_, _^_, _≤_, min, max}
+use Prim.Native.Nat.{ℕ, _+_, _^_, _≤_}
 use native.Mathlib.Omega.{arith}
 use lib.Dec.{eqb}
 use lib.Ieee.{Float, binary32, add, sub, lt, le, eq}
@@ -18,8 +18,8 @@ use Rattle.walk.specs.Setup.{slopeOf}
 use Rattle.walk.specs.Skip.{flatOf, pastOf}
 use Rattle.walk.specs.Step.{Boxed, Within}
 use Rattle.walk.specs.declared.kinds.Walk.{Walk}
-use Rattle.clip.specs.Clip.{firstStepOf, lastStepOf, rowsOf, byLeftOf, byRightOf, colsOf, clipOf}
-use Rattle.clip.specs.Page.{clippedOf, by-parts}
+use Rattle.clip.specs.Page.{clippedOf}
+use Rattle.clip.proofs.Unclipped.{Unclipped, clip-inside}
 use Rattle.spot.proofs.InTile.{not-before, not-past, not-from, off-edge}
 use Rattle.spot.proofs.Slope.{Spotted, total-stands, stands-some}
 
@@ -106,15 +106,14 @@ module _ (s0 s1 : Vec2) (x y : ℕ) (h : Spotted s0 s1 x y) (b : Path) (k : Boxe
   bottom-clear = not-past (s1 .y) y (h .end-y) (b .y1) bottom y1-few
 
   module _ (v : Walk) (e0 : v .e .s0 ≡ s0) (e1 : v .e .s1 ≡ s1) (n : v .k .count ≡ 1) where
-    parts-clear : clipOf v b ≡ record { imin = 0; imax = 1; ymin = b .y0; ymax = 0 }
-    unfolding clipOf rowsOf colsOf byLeftOf byRightOf firstStepOf lastStepOf
-    parts-clear = rw (e0, e1, top-clear, bottom-clear, left-max, left-min, right-max, n, low (b .y0), none (b .y1)) refl
-      where
-        low : (m : ℕ) → max 0 m ≡ m
-        low m = omega arith
-
-        none : (m : ℕ) → min 0 m ≡ 0
-        none m = omega arith
+    inside : Unclipped v b
+    inside = record {
+      from-top = rw e0 top-clear;
+      to-bottom = rw e1 bottom-clear;
+      from-left = rw (e0, e1) left-min;
+      to-right = rw (e0, e1) right-max;
+      not-left = rw (e0, e1) left-max;
+    }
 
     pub not-clipped : clippedOf v b ≡ record { imin = 0; imax = 1; ymin = b .y0; ymax = 0 }
-    not-clipped = sym (by-parts v b) ∙ parts-clear
+    not-clipped = clip-inside v b inside ∙ ap (λ (m : ℕ). record { imin = 0; imax = m; ymin = b .y0; ymax = 0 }) n

@@ -1,104 +1,43 @@
 -- `inside::ends_at` meets its contract. Assumes nothing.
 use borrow.Author.Needs.{needs}
 use denote.Ref.{now}
+use Rattle.panel.specs.Lines.{lineAt}
 use Rattle.inside.proofs.Places.{upper-end, lower-end}
 use Rattle.inside.proofs.ends_at.Statement.{statement}
 use Rattle.inside.proofs.ends_at.Tie as tie
 
-mul-at : tie.Need-mul-at
-mul-at c = search needs
+line-at-requires : tie.Need-line-at-requires
+line-at-requires c κs = search needs
 
-add-is-down : tie.Need-add-is-down
-add-is-down c = search needs
+end-at-requires : tie.Need-end-at-requires
+end-at-requires c κs = search needs
 
-mul-is-down : tie.Need-mul-is-down
-mul-is-down c = search needs
+scale-requires : tie.Need-scale-requires
+scale-requires c κs = search needs
 
-shared-slice-read-is-down : tie.Need-shared-slice-read-is-down
-shared-slice-read-is-down c = search needs
+end-at-requires-2 : tie.Need-end-at-requires-2
+end-at-requires-2 c κs = search needs
 
-add-is-down-2 : tie.Need-add-is-down-2
-add-is-down-2 c = search needs
-
-mul-is-down-2 : tie.Need-mul-is-down-2
-mul-is-down-2 c = search needs
-
-shared-slice-read-is-down-2 : tie.Need-shared-slice-read-is-down-2
-shared-slice-read-is-down-2 c = search needs
-
-far-if-requires : tie.Need-far-if-requires
-far-if-requires c κs = search needs
-
-add-from : tie.Need-add-from
-add-from c = search needs
-
-far-if-requires-2 : tie.Need-far-if-requires-2
-far-if-requires-2 c κs = search needs
-
-add-to : tie.Need-add-to
-add-to c = search needs
-
-mul-t13 : tie.Need-mul-t13
-mul-t13 c = search needs
-
-shared-slice-read-t16 : tie.Need-shared-slice-read-t16
-shared-slice-read-t16 c = search needs
-
-add-t9 : tie.Need-add-t9
-add-t9 c = search needs
-
-mul-t10 : tie.Need-mul-t10
-mul-t10 c = search needs
-
-shared-slice-read-t20 : tie.Need-shared-slice-read-t20
-shared-slice-read-t20 c = search needs
-
-mul-t14 : tie.Need-mul-t14
-mul-t14 c = search needs
-
-shared-slice-read-t21 : tie.Need-shared-slice-read-t21
-shared-slice-read-t21 c = search needs
-
-add-t10 : tie.Need-add-t10
-add-t10 c = search needs
-
-mul-t9 : tie.Need-mul-t9
-mul-t9 c = search needs
-
-shared-slice-read-t12 : tie.Need-shared-slice-read-t12
-shared-slice-read-t12 c = search needs
+scale-requires-2 : tie.Need-scale-requires-2
+scale-requires-2 c κs = search needs
 
 returns : tie.Need-returns
 returns c =
-    let f = c .before .before .before .before in
-    let s = f .before .before .before .before .before in (
-      rw (f .before .far-if .ensures .0) (upper-end (now (s .args .coords)) (s .args .place)),
-      rw (f .far-if2 .ensures .0) (lower-end (now (s .args .coords)) (s .args .place)),
+    let first = c .before .before in
+    let l = first .before .before .before in
+    let s = l .before .before in
+    let e = lineAt (now (s .args .coords)) (s .args .place) in (
+      rw (first .scale .ensures, first .before .end-at .ensures, l .line-at .ensures) (upper-end (e .p0) (e .p1)),
+      rw (c .scale2 .ensures, c .before .end-at2 .ensures, l .line-at .ensures) (lower-end (e .p0) (e .p1)),
     )
 
 pub ends-at-spec : {M : Type 1} → statement M
 ends-at-spec =
     tie.close
     (tie.spec
-    mul-at
-    add-is-down
-    mul-is-down
-    shared-slice-read-is-down
-    add-is-down-2
-    mul-is-down-2
-    shared-slice-read-is-down-2
-    far-if-requires
-    add-from
-    far-if-requires-2
-    add-to
-    mul-t13
-    shared-slice-read-t16
-    add-t9
-    mul-t10
-    shared-slice-read-t20
-    mul-t14
-    shared-slice-read-t21
-    add-t10
-    mul-t9
-    shared-slice-read-t12
+    line-at-requires
+    end-at-requires
+    scale-requires
+    end-at-requires-2
+    scale-requires-2
     returns)
