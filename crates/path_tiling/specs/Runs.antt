@@ -1,8 +1,8 @@
 -- A run of references, tiled as long as they name one line, which was found once: how the code goes over a range. Only proofs lean on this: no
 -- promise of a public call does. Definitions only.
-use Prim.Native.Nat.{ℕ, zero, suc, _-_, _*_, _/_, _≤_, _<_}
+use Prim.Native.Nat.{ℕ, zero, suc, _+_, _-_, _*_, _/_, _≤_, _<_}
 use mathlib.Core.Path.{_≡_}
-use mathlib.Core.Bool.{cond}
+use mathlib.Core.Bool.{Bool, true, cond, not}
 use mathlib.Core.List.{List}
 use lib.Dec.{eqb}
 use lib.ListN.{length}
@@ -45,6 +45,10 @@ runOf stored slots refs found tag line (suc n) k p =
     (run Done k p)
 
 -- ---- a range, some references at once
+
+-- reference k names another line than the one after it, or is the last before `to`
+unfoldable pub aloneOf : (refs : List ℕ) (k to : ℕ) → Bool
+aloneOf refs k to = cond (eqb (k + 1) to) true (not (eqb (lineAt refs k) (lineAt refs (k + 1))))
 
 -- what is known of the lent where there is a reference left, with so many slots
 pub record Some (from to : ℕ) (L : Lent) (slots : ℕ) (p : Pieces) : Type 0 where

@@ -5,7 +5,7 @@ pub mod look;
 mod one;
 
 ghost use mathlib.Core.Path.{_≡_};
-ghost use Prim.Native.Nat.{_+_, _-_, _*_, _/_, _≤_};
+ghost use Prim.Native.Nat.{_+_, _-_, _*_, _/_, _≤_, _<_};
 ghost use lib.ListN.{length};
 ghost use Rattle.panel.specs.Widths.{refWords, segmentFloats};
 ghost use Rattle.panel.specs.Paths.{pathsAnswer};
@@ -13,7 +13,7 @@ ghost use Rattle.panel.specs.Pieces.{pieces};
 ghost use Rattle.panel.specs.declared.kinds.Answer.the-variants.{Done};
 ghost use Rattle.path_tiling.specs.Look.{lent, FoundFits, foundTo};
 ghost use Rattle.path_tiling.specs.Tiling.{one, oneOf, slotsOf, wholeOf, Ready, rangeOf, tiled, rangeTiled, TileMet};
-ghost use Rattle.path_tiling.specs.Runs.{ranOf, runOf, Some, NextMet};
+ghost use Rattle.path_tiling.specs.Runs.{ranOf, runOf, aloneOf, Some, NextMet};
 use look::Look;
 use panel::kinds::Answer;
 use panel::kinds::LineNo;
@@ -110,6 +110,20 @@ fn tile_run(
     Ran { answer, next: k }
 }
 
+// Whether the reference after `from` names another line, or there is none up to `to`: a line within one tile has one
+// reference alone.
+fn alone(refs: &[u32], from: u32, to: u32) -> bool
+    requires { ⌜ (from < to) × (to ≤ length (now refs) / refWords) ⌝ }
+    ensures { λ r. ⌜ r ≡ aloneOf (now (refs .entry)) from to ⌝ }
+{
+    if from + 1 == to {
+        return true;
+    }
+    let named = named_at(refs, from);
+    let after = named_at(refs, from + 1);
+    named != after
+}
+
 // The references from `from` up to `to`, as many as are taken at once: the first, where its line lies within one tile, and
 // else those that name its line.
 fn tile_next(
@@ -131,7 +145,9 @@ fn tile_next(
     let named = named_at(refs, from);
     let line = LineNo(named);
     let packed = packed_at(refs, from);
+    let tried = alone(refs, from, to);
     let taken = one::tile_short(
+        tried,
         line,
         packed,
         path_nos,

@@ -149,8 +149,9 @@ fn put_short(
     true
 }
 
-// A reference to a line, by its second word: whether it was written here.
+// A reference to a line, by its second word, where it is to be tried so: whether it was written here.
 pub(crate) fn tile_short(
+    tried: bool,
     line: LineNo,
     packed: u32,
     path_nos: &[u32],
@@ -166,6 +167,9 @@ pub(crate) fn tile_short(
     ensures { λ r. ⌜ TookMet (now («path_nos» .entry)) (now (coords .entry)) (now (paths .entry)) (now (stored .entry)) slots (line .0) packed
         (pieces (now (segments .entry)) (now (tags .entry))) r (pieces (now (segments .exit)) (now (tags .exit))) ⌝ }
 {
+    if !tried {
+        return false;
+    }
     let short = short_at(path_nos, coords, paths, stored, line);
     let Short::In(s, word, tag) = short else {
         return false;
