@@ -1,44 +1,26 @@
--- What `byte` makes of a channel, by picks and by the bits of a float shifted to where the floats are whole, is the channel's byte. Assumes nothing.
+-- What `byte` makes of a channel, by picks and by the bits of two sums (`TwoSums.antt`), is the channel's byte. Assumes nothing.
 -- Of `fin s m e` the size is A / D, with A = m * up e and D = down e.
 use mathlib.Core.Path.{_≡_, refl, sym, ap, _∙_, subst}
-use mathlib.Core.Bool.{Bool, true, false, not, cond, true≢false}
-use Prim.Native.Nat.{ℕ, suc, _+_, _-_, _*_, _/_, _%_, _^_, _≤_, _<_, compare, Ordering, Ordering·lt, Ordering·eq, Ordering·gt}
-use native.Mathlib.Nat.{
-  le-of-lt,
-  lt-trans,
-  lt-of-lt-of-le,
-  mul-one,
-  one-mul,
-  mul-assoc,
-  add-mul,
-  mod-lt,
-  div-add-mod',
-  mul-div-cancel,
-  mul-le-mul-right,
-  lt-of-mul-lt-mul-right,
-  le-of-mul-le-mul-right,
-}
+use mathlib.Core.Bool.{Bool, true, false, not, cond}
+use Prim.Native.Nat.{ℕ, _-_, _*_, _/_, _≤_, _<_}
+use native.Mathlib.Nat.{le-of-lt, lt-trans, mul-one, mul-div-cancel}
 use native.Mathlib.Omega.{arith}
-use lib.Dec.{T, isLe, isEq, ltb, leb→le, eqb→eq, nleb→lt, lit<, lit≤}
-use lib.Pow.{shl-lt}
-use lib.IntN.{ℤ, pos, negsuc}
-use lib.Ieee.{Float, nan, inf, fin, binary32, up, down, nearest, lt, le, add, sub, sum, mul, round, fits, isNan, ofBits, toBits, toUnsigned}
-use lib.Ieee.Exact.{HasValue, round-exact}
-use lib.Ieee.Fits.{down-pos, add-fits}
-use lib.Ieee.Nearest.{closest}
+use lib.Dec.{T, ltb, lit<, lit≤}
+use lib.IntN.{ℤ, pos}
+use lib.Ieee.{Float, nan, inf, fin, binary32, up, down, lt, le, mul, round, fits, isNan, ofBits, toUnsigned}
+use lib.Ieee.Fits.{down-pos, mul-fits}
 use lib.Ieee.Order.{round-mono}
-use lib.Ieee.Scale.{round-same}
 use borrow.Author.Tests.{le-ltb, ltb-true, ltb-false}
 use Rattle.float32.specs.Meaning.{whole, near-div, clampOf, roundOf}
 use Rattle.float32.proofs.Floors.{lt-plus, gt-plus}
-use Rattle.float32.proofs.Halves.{big}
 use Rattle.float32.proofs.Laws.{size-plus, whole-u32}
-use Rattle.float32.proofs.Magic.{own, div-is, grid-value, shifted-plus}
-use Rattle.whole.proofs.Shifted.{value-bits, no-value-nan, same-test}
+use Rattle.float32.proofs.Magic.{own, div-is}
 use Rattle.util.specs.Constants.{zero, one, byteMost}
 use Rattle.coverage.proofs.Even.{shape}
-use Rattle.colours.specs.Colour.{byteOf}
+use Rattle.colours.specs.Colour.{byteMany, byteOf}
 use Rattle.colours.proofs.Bytes.{nearest-small, minus-cast, nan-byte, times, is-true}
+use Rattle.colours.proofs.BitOrder.{plain}
+use Rattle.colours.proofs.TwoSums.{partedBits, lift, bits, lift-plain, bits-low, bits-high}
 
 -- ---- what stands on the way
 -- at least 0, a NaN and -0 too; at most 1; times 255
@@ -146,107 +128,30 @@ scaled-plus v =
     subst (Plus 255) (sym (ap (λ (z : Float). mul binary32 z byteMost) (k .is) ∙ times false (k .m) (k .e)))
     (round-plus (k .m * up (k .e) * 255) (down (k .e) * 1) (omega (arith, down-pos (k .e), mul-one (down (k .e)))) (omega (arith, k .most, mul-one (down (k .e)))))
 
--- ---- the whole number nearest to it, by the bits of 2 ^ 23 and it
--- the bits of 2 ^ 23
-abbrev pub wholeBits : ℕ
-wholeBits = 0x4b00_0000
-
-abbrev pub bits : Float → ℕ
-bits x = toBits binary32 (add binary32 x big)
-
--- 2 ^ 23 less a half, taken off again: a half more than the whole number
-abbrev pub edge : Float → Float
-edge x = sub binary32 (add binary32 x big) (fin false 16777215 (negsuc 0))
-
+-- ---- the whole number nearest to it, by the bits of two sums
 -- what they say of x: b is x rounded
 pub record Lifted (b : ℕ) (x : Float) : Type 0 where
-  pub real : T (not (isNan (add binary32 x big)))
-  pub least : wholeBits ≤ bits x
-  pub stay : lt x (edge x) ≡ true → bits x - wholeBits ≡ b
-  pub more : lt x (edge x) ≡ false → bits x - wholeBits + 1 ≡ b
+  pub real : T (not (isNan (lift x)))
+  pub least : partedBits ≤ bits x
+  pub is : (bits x - partedBits) / byteMany ≡ b
 
-added : (m : ℕ) (e : ℤ) → add binary32 (fin false m e) big ≡ round binary32 false (m * up e + 8388608 * down e) (down e)
-unfolding add sum
-added m e = rw (mul-one (m * up e), mul-one (down e)) refl
+no-nan : (y : Float) → T (plain y) → T (not (isNan y))
+unfolding isNan
+no-nan nan p = absurd p
+no-nan (inf s) p = absurd p
+no-nan (fin s m e) p = tt
 
--- the closest whole number is at most a half away
-closest-half : (a D : ℕ) → 0 < D → (a * 2 ≤ closest a D * D * 2 + D) × (closest a D * D * 2 ≤ a * 2 + D)
-closest-half a D p =
-    go (a / D) (a % D) (div-add-mod' a D) (mod-lt a p) (compare (a % D * 2) D) (leb→le (a % D * 2) D) (eqb→eq (a % D * 2) D) (nleb→lt (a % D * 2) D)
-  where
-    go : (q r : ℕ) → q * D + r ≡ a → r < D → (o : Ordering) → (T (isLe o) → r * 2 ≤ D) → (T (isEq o) → r * 2 ≡ D) → (T (not (isLe o)) → D < r * 2)
-        → (a * 2 ≤ nearest q o * D * 2 + D) × (nearest q o * D * 2 ≤ a * 2 + D)
-    go q r i l Ordering·lt f g h = (omega (arith, f tt), omega arith)
-    go q r i l Ordering·eq f g h =
-        let z : q % 2 * D ≤ 1 * D = mul-le-mul-right D (omega arith) in
-        let j : (q + q % 2) * D ≡ q * D + q % 2 * D = add-mul q (q % 2) D in
-        (omega (arith, g tt), omega (arith, g tt))
-    go q r i l Ordering·gt f g h =
-        let j : suc q * D ≡ q * D + D = omega (arith, add-mul q 1 D, one-mul D) in
-        (omega (arith, h tt), omega (arith, h tt))
-
--- n and a half, exactly
-half-value : (n : ℕ) → n < 256 → HasValue (round binary32 false (n * 2 + 1) 2) false (n * 2 + 1) 2
-half-value n l =
-    let q : n * 2 + 1 < 2 ^ 24 = omega arith in
-    round-exact binary32 false (n * 2 + 1) 2 (n * 2 + 1) 148 (lit< tt) q (lt-of-lt-of-le (shl-lt 24 148 q) (lit≤ tt)) (sym (mul-assoc (n * 2 + 1) (2 ^ 148) 2))
-
-edge-at : (P d n : ℕ) → 0 < d → n < 256 → P * 1 ≡ (8388608 + n) * d → HasValue (sum binary32 false (P * 2) true (16777215 * d) (d * 2)) false (n * 2 + 1) 2
-unfolding sum
-edge-at P d n p l e =
-    let i : P ≡ 8388608 * d + n * d = omega (arith, e, add-mul 8388608 n d) in
-    let c : 16777215 * d ≤ P * 2 = omega arith in
-    let j : (P * 2 - 16777215 * d) * 2 ≡ (n * 2 + 1) * (d * 2) = omega arith in
-    rw (le-ltb (P * 2) (16777215 * d) c, round-same binary32 false (P * 2 - 16777215 * d) (d * 2) (n * 2 + 1) 2 (omega arith) (lit< tt) j) (half-value n l)
-
-edge-value : (y : Float) (n : ℕ) → n < 256 → HasValue y false (8388608 + n) 1 → HasValue (sub binary32 y (fin false 16777215 (negsuc 0))) false (n * 2 + 1) 2
-unfolding sub
-edge-value nan n l h = absurd h
-edge-value (inf s) n l h = absurd h
-edge-value (fin true k d) n l h = absurd (true≢false (h .0))
-edge-value (fin false k d) n l h = edge-at (k * up d) (down d) n (down-pos d) l (h .1)
-
--- x against n and a half
-below-half : (m : ℕ) (e : ℤ) (y : Float) (n : ℕ) → HasValue y false (n * 2 + 1) 2 → lt (fin false m e) y ≡ ltb (m * up e * 2) ((n * 2 + 1) * down e)
-unfolding lt
-below-half m e nan n h = absurd h
-below-half m e (inf s) n h = absurd h
-below-half m e (fin true k d) n h = absurd (true≢false (h .0))
-below-half m e (fin false k d) n h = go (m * up e) (down e) (k * up d) (down d) (n * 2 + 1) (down-pos d) (h .1)
-  where
-    go : (A D P d N : ℕ) → 0 < d → P * 2 ≡ N * d → ltb (A * d) (P * D) ≡ ltb (A * 2) (N * D)
-    go A D P d N p e =
-        let i : P * 2 * D ≡ N * d * D = ap (λ (z : ℕ). z * D) e in
-        same-test (A * d) (P * D) (A * 2) (N * D) (λ h. lt-of-mul-lt-mul-right d (omega arith)) (λ h. le-of-mul-le-mul-right {k = d} (omega arith) p)
-
--- n is A / D rounded, or one less
-near-is : (A D n : ℕ) → 0 < D → (A + 8388608 * D) * 2 ≤ (8388608 + n) * D * 2 + D → (8388608 + n) * D * 2 ≤ (A + 8388608 * D) * 2 + D
-    → (A * 2 < (n * 2 + 1) * D → near-div A D ≡ n) × ((n * 2 + 1) * D ≤ A * 2 → near-div A D ≡ n + 1)
-near-is A D n p a b = (λ h. div-is (A * 2 + D) (D * 2) n (omega arith) (omega arith), λ h. div-is (A * 2 + D) (D * 2) (n + 1) (omega arith) (omega arith))
-
-lifted-plus : (m : ℕ) (e : ℤ) → m * up e ≤ 255 * down e → Lifted (toUnsigned 32 (roundOf (fin false m e))) (fin false m e)
+lifted-plus : (m : ℕ) (e : ℤ) → T (fits binary32 (fin false m e)) → m * up e ≤ 255 * down e → Lifted (toUnsigned 32 (roundOf (fin false m e))) (fin false m e)
 unfolding roundOf
-lifted-plus m e l =
-    let x = fin false m e in
-    let A = m * up e in
-    let D = down e in
-    let p = down-pos e in
-    let w = shifted-plus 1 23 m e (lit≤ tt) (omega arith) in
-    let n = w .0 in
-    let few : n < 256 = lt-of-mul-lt-mul-right D (omega (arith, w .4)) in
-    let v : HasValue (add binary32 x big) false (8388608 + n) 1 =
-    subst (λ (y : Float). HasValue y false (8388608 + n) 1) (sym (added m e))
-    (subst (λ (k : ℕ). HasValue (round binary32 false (A + 8388608 * D) D) false k 1) (w .5) (grid-value (A + 8388608 * D) D p (omega arith) (omega arith))) in
-    let b = value-bits (add binary32 x big) (8388608 + n) (add-fits binary32 x big) v (omega arith) (omega arith) in
-    let u = whole-u32 (near-div A D) (le-of-lt (lt-trans (nearest-small A D p l) (lit< tt))) in
-    let h = subst (λ (k : ℕ). ((A + 8388608 * D) * 2 ≤ k * D * 2 + D) × (k * D * 2 ≤ (A + 8388608 * D) * 2 + D)) (w .5) (closest-half (A + 8388608 * D) D p) in
-    let r = near-is A D n p (h .0) (h .1) in
-    let t = below-half m e (edge x) n (edge-value (add binary32 x big) n few v) in
+lifted-plus m e f l =
+    let n = near-div (m * up e) (down e) in
+    let lo = bits-low m e f l in
+    let hi = bits-high m e f l in
+    let u = whole-u32 n (le-of-lt (lt-trans (nearest-small (m * up e) (down e) (down-pos e) l) (lit< tt))) in
     record {
-      real = no-value-nan (add binary32 x big) (8388608 + n) v;
-      least = omega (arith, b);
-      stay = λ i. omega (arith, b, u, r .0 (ltb-true (A * 2) ((n * 2 + 1) * D) (sym t ∙ i)));
-      more = λ i. omega (arith, b, u, r .1 (ltb-false (A * 2) ((n * 2 + 1) * D) (sym t ∙ i)));
+      real = no-nan (lift (fin false m e)) (lift-plain m e f l);
+      least = omega (arith, lo);
+      is = div-is (bits (fin false m e) - partedBits) byteMany n (omega (arith, lo)) (omega (arith, lo, hi)) ∙ sym u;
     }
 
 -- ---- the byte of what is kept
@@ -297,6 +202,7 @@ kept-byte (fin false m e) h = go (lt zero (fin false m e)) refl
 pub lifted : (v x : Float) → T (fits binary32 v) → x ≡ scaled v → Lifted (byteOf v) x
 lifted v x h e =
     let p = scaled-plus v in
+    let f = subst (λ (z : Float). T (fits binary32 z)) (p .is) (mul-fits binary32 (kept v) byteMost) in
     subst (λ (b : ℕ). Lifted b x) (sym (kept-byte v h))
     (subst (λ (z : Float). Lifted (toUnsigned 32 (roundOf (scaled v))) z) (sym e)
-    (subst (λ (z : Float). Lifted (toUnsigned 32 (roundOf z)) z) (sym (p .is)) (lifted-plus (p .m) (p .e) (p .most))))
+    (subst (λ (z : Float). Lifted (toUnsigned 32 (roundOf z)) z) (sym (p .is)) (lifted-plus (p .m) (p .e) f (p .most))))

@@ -1,4 +1,6 @@
 pub mod Bytes
+pub mod BitOrder
+pub mod TwoSums
 pub mod ByShift
 pub mod Traces
 pub mod LayerLaws

@@ -40,26 +40,28 @@ pub fn over(px: [f32; 4], fg: [f32; 4], ai: f32) -> [f32; 4]
     ]
 }
 
-// From here up every float is a whole number.
-const WHOLE: f32 = 8388608.0;
+// 1/2 less 1/512 and 1/2^25: the two roundings of `byte` make up for what is missing.
+const NEARLY_HALF: f32 = 0.498046845;
 
-// The bits of WHOLE: those of WHOLE and a whole number are so many more.
-const WHOLE_BITS: u32 = 0x4B00_0000;
+// From here to twice as much a float's last bit is worth one part of 256.
+const PARTED: f32 = 32768.0;
 
-// WHOLE less a half.
-const HALF_LESS: f32 = 8388607.5;
+// The bits of PARTED: those of PARTED and so many parts are so many more.
+const PARTED_BITS: u32 = 0x4700_0000;
 
-// A channel as a byte. A NaN is 0, as is -0, so neither goes on. The bits of t say which whole number is nearest to x, of
-// two the even one, so that one more is due where x is that number and a half: as `float32::round` has it, but with no
-// branch, no sign to put back and no cast.
+// How many parts 1 has.
+const PARTS: u32 = 0x100;
+
+// A channel as a byte. A NaN is 0, as is -0, so neither goes on. Nearly a half is added, and what is whole of the sum is
+// the byte. The bits of t say how many parts the sum has, the nearest number of them: so x goes down where it is below a
+// whole number and a half, and up from there on.
 pub fn byte(v: f32) -> u32
     ensures { λ r. ⌜ (r ≡ byteOf v) × (r < byteMany) ⌝ }
 {
     let low = pick(0.0 < v, v, 0.0);
     let x = pick(low < 1.0, low, 1.0) * 255.0;
-    let t = x + WHOLE;
-    let step: u32 = if x < t - HALF_LESS { 0 } else { 1 };
-    f32::to_bits(t) - WHOLE_BITS + step
+    let t = x + NEARLY_HALF + PARTED;
+    (f32::to_bits(t) - PARTED_BITS) / PARTS
 }
 
 // A pixel, red lowest.
