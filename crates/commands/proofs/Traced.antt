@@ -21,7 +21,7 @@ use Rattle.reader.specs.declared.Look.the-variants.{Word, Past}
 use Rattle.commands.specs.Numbers.{endNo}
 use Rattle.commands.specs.Moves.{opOf, moveOf, Trace, ends, does, onLook, onMove, traceOf, endOf}
 use Rattle.commands.specs.Pixel.{cover, paint, point, pointOf, coverAll, paintAll, Ran, ran}
-use Rattle.commands.specs.Alike.{sameArea, runFrom}
+use Rattle.commands.specs.Alike.{sameArea, runFrom, left}
 use Rattle.commands.specs.declared.steps.Op.{Op}
 use Rattle.commands.specs.declared.steps.Act.{Act}
 use Rattle.commands.specs.declared.steps.Move.{Move}
@@ -72,10 +72,6 @@ module _ (ws : List ℕ) (segs : List Float) (at : ℕ) where
       trace-goes a next f = moved ∙ ap (λ (x : Move). onMove x (λ a next. does a (traceOf n ws segs next))) f
 
 -- ---- the pixels
--- what is left to do, from these areas and colours
-abbrev pub left : List Float → Trace → List Float → List (List Float) → Ran
-left segs t area rgba = ran (endOf t) (mapi (λ k c. pointOf segs k t (point (getD area k nan) c) .colour) rgba)
-
 module _ (segs : List Float) where
   pub left-ends : (v : Verdict) (area : List Float) (rgba : List (List Float)) → left segs (ends v) area rgba ≡ ran v rgba
   unfolding pointOf

@@ -1,4 +1,6 @@
 // A tile's commands carried out: on areas of its own, and on the colours lent.
+use crate::numbers::COLOR;
+use crate::numbers::COLOR_WORDS;
 use crate::numbers::END;
 use crate::numbers::FILL;
 use crate::steps::Act;
@@ -12,7 +14,6 @@ use coverage::area::fill_path;
 use coverage::area::set_all;
 use coverage::tile::TILE_HEIGHT;
 use coverage::tile::TILE_SIZE;
-use panel::kinds::Verdict;
 use panel::limits::MOST_COMMANDS;
 use panel::refusals::PAST_END;
 use panel::refusals::TOO_LONG;
@@ -28,8 +29,8 @@ ghost use Rattle.panel.specs.Limits.{mostCommands};
 ghost use Rattle.coverage.specs.Tile.{tileSize};
 ghost use Rattle.colours.specs.Layer.{meant, NoMinus};
 ghost use Rattle.commands.specs.Moves.{traceOf};
-ghost use Rattle.commands.specs.Pixel.{signedOf, Within, paint, coverAll, paintAll, ran};
-ghost use Rattle.commands.specs.Alike.{alike, coverOne, sameArea, sameColour, runFrom, endsHere};
+ghost use Rattle.commands.specs.Pixel.{signedOf, Within, paint, coverAll, paintAll};
+ghost use Rattle.commands.specs.Alike.{alike, coverOne, sameArea, sameColour, runFrom, left, stopped, endsHere};
 
 // A word's 32 bits as a signed number.
 pub fn signed(w: u32) -> i32
@@ -164,42 +165,53 @@ pub fn ends_at(words: &[u32], at: usize) -> bool
     }
 }
 
-// The commands from the word `start` on, after `gone` others, where all pixels have the area a: up to
-// END or the first that is refused. END passes where as many as may be have been carried out; any other
-// is refused with 15 there.
+// How far a tile's commands were carried out: to END, to one that is refused, or to a last COLOR, of this word,
+// that END follows.
+pub enum Stop {
+    End,
+    Against(u32),
+    Last(u32),
+}
+
+// The commands from the word `start` on, after `gone` others, from these areas: up to END, the first that is
+// refused or a COLOR that END follows. END passes where as many as may be have been carried out; any other is
+// refused with 15 there.
 pub fn run(
     words: &[u32],
     segments: &[f32],
     start: usize,
     gone: u32,
-    a: f32,
+    area: &mut [f32],
     rgba: &mut [[f32; 4]; TILE_SIZE],
     flat: &mut [bool; TILE_HEIGHT],
-) -> Verdict
-    requires { ⌜ (length (now rgba) ≡ tileSize) × (gone ≤ mostCommands) × (signOf a ≡ false) ⌝ }
-    ensures { λ r. ⌜ (length (now (rgba .exit)) ≡ tileSize)
-        × (ran r (meant (now (flat .exit)) (now (rgba .exit)))
-        ≡ runFrom (now (segments .entry)) (traceOf (mostCommands - gone) (now (words .entry)) (now (segments .entry)) start) a (meant (now (flat .entry)) (now (rgba .entry)))) ⌝ }
+) -> Stop
+    requires { ⌜ (length (now area) ≡ tileSize) × (length (now rgba) ≡ tileSize) × (gone ≤ mostCommands) × NoMinus (now area) ⌝ }
+    ensures { λ r. ⌜ (length (now (area .exit)) ≡ tileSize) × (length (now (rgba .exit)) ≡ tileSize) × NoMinus (now (area .exit))
+        × (stopped r (now (area .exit)) (meant (now (flat .exit)) (now (rgba .exit)))
+        ≡ left (now (segments .entry)) (traceOf (mostCommands - gone) (now (words .entry)) (now (segments .entry)) start) (now (area .entry)) (meant (now (flat .entry)) (now (rgba .entry)))) ⌝ }
 {
-    let mut area = same_area(a);
     let mut at = start;
     let mut count = gone;
     loop {
         let Look::Word(tag) = peek_from(words, at) else {
-            return Verdict::Against(PAST_END);
+            return Stop::Against(PAST_END);
         };
         if tag == END {
-            return Verdict::Fine;
+            return Stop::End;
         }
         if count == MOST_COMMANDS {
-            return Verdict::Against(TOO_LONG);
+            return Stop::Against(TOO_LONG);
+        }
+        if (tag == COLOR) & ends_at(words, at + COLOR_WORDS) {
+            let word = words[at + 1];
+            return Stop::Last(word);
         }
         match move_at(words, segments, at, op_of(tag)) {
             Move::Refused(no) => {
-                return Verdict::Against(no);
+                return Stop::Against(no);
             }
             Move::Goes(act, next) => {
-                carry_out(act, segments, &mut area, rgba, flat);
+                carry_out(act, segments, area, rgba, flat);
                 at = next;
             }
         }

@@ -1,11 +1,16 @@
 // A screen tile: its commands run on colours of its own, which go to the screen only where none is
 // refused; and a range of tiles.
+use colours::colour;
+use colours::layer::all_level;
+use colours::over;
 use colours::pack;
 use commands::numbers::LIST_START;
 use commands::numbers::TILE_WORDS;
+use commands::run::Stop;
 use commands::run::begin;
 use commands::run::ends_at;
 use commands::run::run;
+use commands::run::same_area;
 use coverage::tile::TILE_HEIGHT;
 use coverage::tile::TILE_SIZE;
 use coverage::tile::TILE_WIDTH;
@@ -18,9 +23,10 @@ ghost use Rattle.lists.specs.Grid.{mapi, within};
 ghost use Rattle.lists.specs.Sums as Numbers;
 ghost use Rattle.panel.specs.Limits.{mostTiles};
 ghost use Rattle.coverage.specs.Tile.{tileWidth, tileHeight, tileSize};
-ghost use Rattle.colours.specs.Layer.{meant};
+ghost use Rattle.colours.specs.Colour.{compositeOf};
+ghost use Rattle.colours.specs.Layer.{meant, NoMinus};
 ghost use Rattle.commands.specs.Alike.{sameColour};
-ghost use Rattle.fine.specs.Screen.{noColour, allFlat, oneWord, rowAt, fromList, putTile, endsAt, tilePixels};
+ghost use Rattle.fine.specs.Screen.{noColour, allFlat, oneWord, rowAt, fromList, fromOne, Below, putTile, endsAt, tilePixels};
 ghost use Rattle.fine.specs.Fine.{shown, tilesOf, shownOf};
 
 // A flag for each row: all are flat.
@@ -129,6 +135,115 @@ pub fn put_tile(
     }
 }
 
+// Row y of the tile, where it is flat: the colour fg over its one colour, pixel by pixel by the area, packed at once.
+pub fn put_slope(
+    pixels: &mut [u32],
+    width: usize,
+    tx: usize,
+    ty: usize,
+    y: usize,
+    one: [f32; 4],
+    fg: [f32; 4],
+    area: &[f32],
+)
+    requires { ⌜ (tx < mostTiles) × (ty < mostTiles) × (y < tileHeight) × (tileWidth * tx + tileWidth ≤ width) × (rowAt width tx ty y + tileWidth ≤ length (now pixels))
+        × (length (now area) ≡ tileSize) ⌝ }
+    ensures { λ _. ⌜ now (pixels .exit) ≡ mapi (within (rowAt width tx ty y) (rowAt width tx ty y + tileWidth) (fromOne (now (area .entry)) fg one width)) (now (pixels .entry)) ⌝ }
+{
+    let base = width * (TILE_HEIGHT * ty + y) + TILE_WIDTH * tx;
+    let first = TILE_WIDTH * y;
+    let mut x = 0usize;
+    while x < TILE_WIDTH {
+        let px = over(one, fg, area[first + x]);
+        let packed = pack(px);
+        let at = base + x;
+        pixels[at] = packed;
+        x += 1;
+    }
+}
+
+// Row y of the tile, where it isn't flat: the colour fg over each pixel's own, by the area, packed at once.
+pub fn put_own(
+    pixels: &mut [u32],
+    width: usize,
+    tx: usize,
+    ty: usize,
+    y: usize,
+    rgba: &[[f32; 4]; TILE_SIZE],
+    fg: [f32; 4],
+    area: &[f32],
+)
+    requires { ⌜ (tx < mostTiles) × (ty < mostTiles) × (y < tileHeight) × (tileWidth * tx + tileWidth ≤ width) × (rowAt width tx ty y + tileWidth ≤ length (now pixels))
+        × (length (now area) ≡ tileSize) ⌝ }
+    ensures { λ _. ⌜ now (pixels .exit) ≡ mapi (within (rowAt width tx ty y) (rowAt width tx ty y + tileWidth) (fromOwn (now (area .entry)) fg (now (rgba .entry)) width)) (now (pixels .entry)) ⌝ }
+{
+    let base = width * (TILE_HEIGHT * ty + y) + TILE_WIDTH * tx;
+    let first = TILE_WIDTH * y;
+    let mut x = 0usize;
+    while x < TILE_WIDTH {
+        let one = rgba[first + x];
+        let px = over(one, fg, area[first + x]);
+        let packed = pack(px);
+        let at = base + x;
+        pixels[at] = packed;
+        x += 1;
+    }
+}
+
+// Row y of the tile, with the colour fg laid over it, whose pixels are not stored as colours before they are packed.
+// Of a flat row the first pixel stands for all; where its areas are all the same too, it has one word.
+pub fn put_over(
+    pixels: &mut [u32],
+    width: usize,
+    tx: usize,
+    ty: usize,
+    y: usize,
+    rgba: &[[f32; 4]; TILE_SIZE],
+    flat: &[bool; TILE_HEIGHT],
+    fg: [f32; 4],
+    area: &[f32],
+)
+    requires { ⌜ (tx < mostTiles) × (ty < mostTiles) × (y < tileHeight) × (tileWidth * tx + tileWidth ≤ width) × (rowAt width tx ty y + tileWidth ≤ length (now pixels))
+        × (length (now rgba) ≡ tileSize) × (length (now area) ≡ tileSize) × NoMinus (now area) ⌝ }
+    ensures { λ _. ⌜ now (pixels .exit)
+        ≡ mapi (within (rowAt width tx ty y) (rowAt width tx ty y + tileWidth) (fromList (compositeOf (now (area .entry)) fg (meant (now (flat .entry)) (now (rgba .entry)))) width)) (now (pixels .entry)) ⌝ }
+{
+    let i = TILE_WIDTH * y;
+    if flat[y] {
+        let one = rgba[i];
+        if all_level(area, i) {
+            fill_row(pixels, width, tx, ty, y, pack(over(one, fg, area[i])))
+        } else {
+            put_slope(pixels, width, tx, ty, y, one, fg, area)
+        }
+    } else {
+        put_own(pixels, width, tx, ty, y, rgba, fg, area)
+    }
+}
+
+// All rows of the tile, with the colour fg laid over them.
+pub fn put_last(
+    pixels: &mut [u32],
+    width: usize,
+    tx: usize,
+    ty: usize,
+    rgba: &[[f32; 4]; TILE_SIZE],
+    flat: &[bool; TILE_HEIGHT],
+    fg: [f32; 4],
+    area: &[f32],
+)
+    requires { ⌜ (tx < mostTiles) × (ty < mostTiles) × (tileWidth * tx + tileWidth ≤ width) × (width * (tileHeight * ty + tileHeight) ≤ length (now pixels)) × (length (now rgba) ≡ tileSize)
+        × (length (now area) ≡ tileSize) × NoMinus (now area) ⌝ }
+    ensures { λ _. ⌜ now (pixels .exit)
+        ≡ putTile (fromList (compositeOf (now (area .entry)) fg (meant (now (flat .entry)) (now (rgba .entry)))) width) width tx ty (now (pixels .entry)) ⌝ }
+{
+    let mut y = 0usize;
+    while y < TILE_HEIGHT {
+        put_over(pixels, width, tx, ty, y, rgba, flat, fg, area);
+        y += 1;
+    }
+}
+
 // All rows of the tile.
 pub fn fill_tile(pixels: &mut [u32], width: usize, tx: usize, ty: usize, word: u32)
     requires { ⌜ (tx < mostTiles) × (ty < mostTiles) × (tileWidth * tx + tileWidth ≤ width) × (width * (tileHeight * ty + tileHeight) ≤ length (now pixels)) ⌝ }
@@ -168,13 +283,18 @@ pub fn tile(
     }
     start_rows(rgba, px);
     let mut flat = all_flat();
-    let v = run(words, segments, o.at, o.count, o.area, rgba, &mut flat);
+    let mut area = same_area(o.area);
+    let v = run(words, segments, o.at, o.count, &mut area, rgba, &mut flat);
     match v {
-        Verdict::Fine => {
+        Stop::End => {
             put_tile(pixels, width, tx, ty, rgba, &flat);
             Verdict::Fine
         }
-        Verdict::Against(no) => Verdict::Against(no),
+        Stop::Last(word) => {
+            put_last(pixels, width, tx, ty, rgba, &flat, colour(word), &area);
+            Verdict::Fine
+        }
+        Stop::Against(no) => Verdict::Against(no),
     }
 }
 

@@ -10,22 +10,18 @@ use Rattle.panel.specs.declared.kinds.Verdict.{Verdict}
 use Rattle.coverage.specs.Tile.{tileSize}
 use Rattle.commands.specs.Moves.{Trace, ends, does, traceOf}
 use Rattle.commands.specs.Pixel.{coverAll, paintAll, Ran, ran}
-use Rattle.commands.specs.Alike.{sameArea, runFrom}
+use Rattle.commands.specs.Alike.{left}
 use Rattle.commands.specs.declared.steps.Act.{Act}
 use Rattle.commands.proofs.Acts.{length-cover, move-within}
-use Rattle.commands.proofs.Traced.{found, more, trace-past, trace-end, trace-full, trace-stop, trace-goes, left, left-ends, left-does, left-starts}
-use Rattle.commands.proofs.AlikeLaws.{same-area-length}
+use Rattle.commands.proofs.Traced.{found, more, trace-past, trace-end, trace-full, trace-stop, trace-goes, left-ends, left-does}
+use Rattle.commands.proofs.Lasts.{word-room, is-last, last-left}
 use Rattle.colours.specs.Layer.{meant, NoMinus}
 use Rattle.colours.proofs.FlatLaws.{meant-length}
-use Rattle.commands.proofs.Signs.{all-alike, all-covered}
+use Rattle.commands.proofs.Signs.{all-covered}
 use native.Mathlib.Omega.{arith}
 use borrow.Author.Needs.{needs}
 use Rattle.commands.proofs.run.run.Statement.{statement}
 use Rattle.commands.proofs.run.run.Tie as tie
-
-begins : (segs : List Float) (t : Trace) (a : Float) (rgba : List (List Float)) (area : List Float) → length rgba ≡ tileSize → area ≡ sameArea a
-    → left segs t area rgba ≡ runFrom segs t a rgba
-begins segs t a rgba area h e = ap (λ (l : List Float). left segs t l rgba) e ∙ left-starts segs t a rgba h
 
 module _ (ws : List ℕ) (segs : List Float) (all : Ran) (area : List Float) (rgba : List (List Float)) (at count : ℕ)
     (inv : left segs (traceOf (mostCommands - count) ws segs at) area rgba ≡ all) where
@@ -46,28 +42,16 @@ area-length : (a : Act) (segs area area′ : List Float) → area′ ≡ coverAl
 area-length a segs area area′ p m = ap length p ∙ length-cover a segs area ∙ m
 
 abbrev Inv-loop : tie.InvT-loop
-Inv-loop words segments start gone a rgba₀ flat₀ area₀ at₀ count₀ rgba flat area at count = (count ≤ mostCommands) × (length area ≡ tileSize) × (length rgba ≡ tileSize) ×
+Inv-loop words segments start gone area₀ rgba₀ flat₀ at₀ count₀ area rgba flat at count = (count ≤ mostCommands) × (length area ≡ tileSize) × (length rgba ≡ tileSize) ×
     (left segments (traceOf (mostCommands - count) words segments at) area (meant flat rgba)
-    ≡ runFrom segments (traceOf (mostCommands - gone) words segments start) a (meant flat₀ rgba₀))
+    ≡ left segments (traceOf (mostCommands - gone) words segments start) area₀ (meant flat₀ rgba₀))
     × NoMinus area
 
 abbrev μ-loop : tie.MeasureT-loop
-μ-loop words segments start gone a rgba₀ flat₀ area₀ at₀ count₀ rgba flat area at count = mostCommands - count
-
-same-area-requires : tie.Need-same-area-requires Inv-loop μ-loop
-same-area-requires c κs = search needs
+μ-loop words segments start gone area₀ rgba₀ flat₀ at₀ count₀ area rgba flat at count = mostCommands - count
 
 loop-holds : tie.Need-loop-holds Inv-loop μ-loop
-loop-holds c =
-    let s = c .before .before .before in
-    let t = traceOf (mostCommands - s .args .gone) (now (s .args .words)) (now (s .args .segments)) (s .args .start) in (
-      s .pre .1,
-      ap length (c .same-area .ensures) ∙ same-area-length (s .args .a),
-      s .pre .0,
-      begins (now (s .args .segments)) t (s .args .a)
-          (meant (now (s .args .flat)) (now (s .args .rgba))) _ (meant-length _ _ ∙ s .pre .0) (c .same-area .ensures),
-      all-alike (s .args .a) _ (c .same-area .ensures) (s .pre .2),
-    )
+loop-holds c = (c .before .before .before .pre .2, c .before .before .before .pre .0, c .before .before .before .pre .1, refl, c .before .before .before .pre .3)
 
 peek-from-requires : tie.Need-peek-from-requires Inv-loop μ-loop
 peek-from-requires c κs = search needs
@@ -78,74 +62,123 @@ enum-known-tag c = search needs
 enum-told : tie.Need-enum-told Inv-loop μ-loop
 enum-told c = search needs
 
+same-length : tie.Need-same-length Inv-loop μ-loop
+same-length c = c .before .before .before .loop .inv .1 ∙ sym (c .before .before .before .before .before .before .before .pre .0)
+
 returns : tie.Need-returns Inv-loop μ-loop
 returns c =
-    let s = c .before .before .before .before .before .before .before in
+    let a = c .before .before .before .before .before .before .before .args in
     let l = c .before .before .before .loop in (
+      l .inv .1,
       l .inv .2,
-      stop (now (s .args .words)) (now (s .args .segments)) _ (l .area) (meant (l .flat) (l .rgba)) (l .at) (l .count) (l .inv .3) _ _ refl
-          (trace-past (now (s .args .words)) (now (s .args .segments)) (l .at) _ (sym (c .before .before .peek-from .ensures) ∙ c .enum-told .given .1)),
+      l .inv .4,
+      stop (now (a .words)) (now (a .segments)) _ (l .area) (meant (l .flat) (l .rgba)) (l .at) (l .count) (l .inv .3) _ _ refl
+          (trace-past (now (a .words)) (now (a .segments)) (l .at) _ (sym (c .before .before .peek-from .ensures) ∙ c .enum-told .given .1)),
     )
+
+same-length-2 : tie.Need-same-length-2 Inv-loop μ-loop
+same-length-2 c = c .before .before .before .before .before .loop .inv .1 ∙ sym (c .before .before .before .before .before .before .before .before .before .pre .0)
 
 returns-2 : tie.Need-returns-2 Inv-loop μ-loop
 returns-2 c =
-    let s = c .before .before .before .before .before .before .before .before .before in
+    let a = c .before .before .before .before .before .before .before .before .before .args in
     let l = c .before .before .before .before .before .loop in (
+      l .inv .1,
       l .inv .2,
-      stop (now (s .args .words)) (now (s .args .segments)) _ (l .area) (meant (l .flat) (l .rgba)) (l .at) (l .count) (l .inv .3) _ _ refl
-          (trace-end (now (s .args .words)) (now (s .args .segments)) (l .at) _
-          (sym (c .before .before .before .before .peek-from .ensures) ∙ c .before .before .tag .given .1) _ (c .if1 .taken)),
+      l .inv .4,
+      stop (now (a .words)) (now (a .segments)) _ (l .area) (meant (l .flat) (l .rgba)) (l .at) (l .count) (l .inv .3) _ _ refl
+          (trace-end (now (a .words)) (now (a .segments)) (l .at) _ (sym (c .before .before .before .before .peek-from .ensures) ∙ c .before .before .tag .given .1) _ (c .if1 .taken)),
     )
+
+same-length-3 : tie.Need-same-length-3 Inv-loop μ-loop
+same-length-3 c = c .before .before .before .before .before .before .loop .inv .1 ∙ sym (c .before .before .before .before .before .before .before .before .before .before .pre .0)
 
 returns-3 : tie.Need-returns-3 Inv-loop μ-loop
 returns-3 c =
-    let s = c .before .before .before .before .before .before .before .before .before .before in
+    let a = c .before .before .before .before .before .before .before .before .before .before .args in
     let l = c .before .before .before .before .before .before .loop in (
+      l .inv .1,
       l .inv .2,
-      stop (now (s .args .words)) (now (s .args .segments)) _ (l .area) (meant (l .flat) (l .rgba)) (l .at) (l .count) (l .inv .3) 0 _ (omega arith)
-          (trace-full (now (s .args .words)) (now (s .args .segments)) (l .at) _
-          (sym (c .before .before .before .before .before .peek-from .ensures) ∙ c .before .before .before .tag .given .1) (c .before .if1 .left)),
+      l .inv .4,
+      stop (now (a .words)) (now (a .segments)) _ (l .area) (meant (l .flat) (l .rgba)) (l .at) (l .count) (l .inv .3) 0 _ (omega arith)
+          (trace-full (now (a .words)) (now (a .segments)) (l .at) _ (sym (c .before .before .before .before .before .peek-from .ensures) ∙ c .before .before .before .tag .given .1) (c .before .if1 .left)),
+    )
+
+add-ends-at : tie.Need-add-ends-at Inv-loop μ-loop
+add-ends-at c =
+    let h = found (now (c .before .before .before .before .before .before .before .before .before .before .args .words)) (c .before .before .before .before .before .before .loop .at) _ (sym (c .before .before .before .before .before .peek-from .ensures) ∙ c .before .before .before .tag .given .1) in
+    record { fits = omega (arith, h) }
+
+ends-at-requires : tie.Need-ends-at-requires Inv-loop μ-loop
+ends-at-requires c κs = search needs
+
+add-word : tie.Need-add-word Inv-loop μ-loop
+add-word c =
+    let h = found (now (c .before .before .before .before .before .before .before .before .before .before .before .before .args .words)) (c .before .before .before .before .before .before .before .before .loop .at) _ (sym (c .before .before .before .before .before .before .before .peek-from .ensures) ∙ c .before .before .before .before .before .tag .given .1) in
+    record { fits = omega (arith, h) }
+
+mul-word : tie.Need-mul-word Inv-loop μ-loop
+mul-word c =
+    let h = found (now (c .before .before .before .before .before .before .before .before .before .before .before .before .args .words)) (c .before .before .before .before .before .before .before .before .loop .at) _ (sym (c .before .before .before .before .before .before .before .peek-from .ensures) ∙ c .before .before .before .before .before .tag .given .1) in
+    record { fits = omega (arith, h) }
+
+shared-slice-read-word : tie.Need-shared-slice-read-word Inv-loop μ-loop
+shared-slice-read-word c =
+    let a = c .before .before .before .before .before .before .before .before .before .before .before .before .before .args in
+    let l = c .before .before .before .before .before .before .before .before .before .loop in
+    word-room (now (a .words)) (l .at) _ _ (sym (c .before .before .before .before .before .before .before .before .peek-from .ensures) ∙ c .before .before .before .before .before .before .tag .given .1) (c .before .before .ends-at .ensures) (c .before .if3 .taken)
+
+same-length-4 : tie.Need-same-length-4 Inv-loop μ-loop
+same-length-4 c = c .before .before .before .before .before .before .before .before .before .loop .inv .1 ∙ sym (c .before .before .before .before .before .before .before .before .before .before .before .before .before .pre .0)
+
+returns-4 : tie.Need-returns-4 Inv-loop μ-loop
+returns-4 c =
+    let a = c .before .before .before .before .before .before .before .before .before .before .before .before .before .args in
+    let l = c .before .before .before .before .before .before .before .before .before .loop in (
+      l .inv .1,
+      l .inv .2,
+      l .inv .4,
+      last-left (now (a .words)) (now (a .segments)) (l .at) (l .count) _ _ (l .area) (meant (l .flat) (l .rgba)) _ (l .inv .3) (l .inv .0) (c .before .before .before .if2 .left)
+          (l .inv .1 ∙ sym (meant-length _ _ ∙ l .inv .2)) (sym (c .before .before .before .before .before .before .before .before .peek-from .ensures) ∙ c .before .before .before .before .before .before .tag .given .1)
+          (is-last (now (a .words)) (l .at) _ _ (c .before .before .ends-at .ensures) (c .before .if3 .taken)) refl,
     )
 
 op-of-requires : tie.Need-op-of-requires Inv-loop μ-loop
 op-of-requires c κs = search needs
 
 move-at-requires : tie.Need-move-at-requires Inv-loop μ-loop
-move-at-requires c κs = found (now (c .before .before .before .before .before .before .before .before .before .before .before .args .words))
-    (c .before .before .before .before .before .before .before .loop .at) _
-    (sym (c .before .before .before .before .before .before .peek-from .ensures) ∙ c .before .before .before .before .tag .given .1)
+move-at-requires c κs = found (now (c .before .before .before .before .before .before .before .before .before .before .before .before .before .args .words)) (c .before .before .before .before .before .before .before .before .before .loop .at) _ (sym (c .before .before .before .before .before .before .before .before .peek-from .ensures) ∙ c .before .before .before .before .before .before .tag .given .1)
 
 enum-known-no : tie.Need-enum-known-no Inv-loop μ-loop
 enum-known-no c = search needs
 
-returns-4 : tie.Need-returns-4 Inv-loop μ-loop
-returns-4 c =
-    let s = c .before .before .before .before .before .before .before .before .before .before .before .before .before .before .before in
-    let l = c .before .before .before .before .before .before .before .before .before .before .before .loop in (
+same-length-5 : tie.Need-same-length-5 Inv-loop μ-loop
+same-length-5 c = c .before .before .before .before .before .before .before .before .before .before .before .before .before .loop .inv .1 ∙ sym (c .before .before .before .before .before .before .before .before .before .before .before .before .before .before .before .before .before .pre .0)
+
+returns-5 : tie.Need-returns-5 Inv-loop μ-loop
+returns-5 c =
+    let a = c .before .before .before .before .before .before .before .before .before .before .before .before .before .before .before .before .before .args in
+    let l = c .before .before .before .before .before .before .before .before .before .before .before .before .before .loop in (
+      l .inv .1,
       l .inv .2,
-      stop (now (s .args .words)) (now (s .args .segments)) _ (l .area) (meant (l .flat) (l .rgba)) (l .at) (l .count) (l .inv .3) _ _
-          (more (l .count) (l .inv .0) (c .before .before .before .before .before .if2 .left))
-          (trace-stop (now (s .args .words)) (now (s .args .segments)) (l .at) _
-          (sym (c .before .before .before .before .before .before .before .before .before .before .peek-from .ensures) ∙ c .before .before .before .before
-          .before .before .before .before .tag .given .1) (c .before .before .before .before .before .before .if1 .left) _
+      l .inv .4,
+      stop (now (a .words)) (now (a .segments)) _ (l .area) (meant (l .flat) (l .rgba)) (l .at) (l .count) (l .inv .3) _ _
+          (more (l .count) (l .inv .0) (c .before .before .before .before .before .before .before .if2 .left))
+          (trace-stop (now (a .words)) (now (a .segments)) (l .at) _ (sym (c .before .before .before .before .before .before .before .before .before .before .before .before .peek-from .ensures) ∙ c .before .before .before .before .before .before .before .before .before .before .tag .given .1) (c .before .before .before .before .before .before .before .before .if1 .left) _
           (c .before .before .before .before .op-of .ensures) _ (c .before .before .before .move-at .ensures) _ _ (c .before .no .given .1)),
     )
 
 enum-known-act : tie.Need-enum-known-act Inv-loop μ-loop
 enum-known-act c = search needs
 
-slice-aggregate-carry-out : tie.Need-slice-aggregate-carry-out Inv-loop μ-loop
-slice-aggregate-carry-out c = search needs
-
 carry-out-requires : tie.Need-carry-out-requires Inv-loop μ-loop
 carry-out-requires c κs =
-    let s = c .before .before .before .before .before .before .before .before .before .before .before .before .before .before in
-    let t = c .before .before .before .before .before .before .before .before .before .before .before .before .before .before .before .before .before .before in (
-      move-within _ (now (t .args .words)) (now (t .args .segments)) (s .loop .at) _ _
-          (sym (c .before .before .before .before .before .before .move-at .ensures) ∙ c .before .before .before .before .act .given .1),
-      s .loop .inv .1,
-      s .loop .inv .2,
-      s .loop .inv .4,
+    let a = c .before .before .before .before .before .before .before .before .before .before .before .before .before .before .before .before .before .before .before .before .args in
+    let l = c .before .before .before .before .before .before .before .before .before .before .before .before .before .before .before .before .loop in (
+      move-within _ (now (a .words)) (now (a .segments)) (l .at) _ _ (sym (c .before .before .before .before .before .before .move-at .ensures) ∙ c .before .before .before .before .act .given .1),
+      l .inv .1,
+      l .inv .2,
+      l .inv .4,
     )
 
 add-count : tie.Need-add-count Inv-loop μ-loop
@@ -156,21 +189,18 @@ loop-less c = search needs
 
 loop-again : tie.Need-loop-again Inv-loop μ-loop
 loop-again c =
-    let s = c .before .before .before .before .before .before .before .before .before .before .before .before .before .before .before .before .before .before .before .before in
-    let l = c .before .before .before .before .before .before .before .before .before .before .before .before .before .before .before .before .loop in (
+    let a = c .before .before .before .before .before .before .before .before .before .before .before .before .before .before .before .before .before .before .before .before .before .before .before .args in
+    let l = c .before .before .before .before .before .before .before .before .before .before .before .before .before .before .before .before .before .before .before .loop in
+    let e = c .before .before .carry-out .ensures in (
       omega arith,
-      area-length _ _ _ _ (c .before .carry-out .ensures .0) (l .inv .1),
-      c .before .carry-out .ensures .1,
-      turn (now (s .args .words)) (now (s .args .segments)) _ (l .area) (meant (l .flat) (l .rgba)) (l .at) (l .count) (l .inv .3) _ _ _ _ (l .inv .0)
-          (c .before .before .before .before .before .before .before .before .before .before .if2 .left) (l .inv .1 ∙ sym (meant-length _ _ ∙ l .inv .2))
-          (trace-goes (now (s .args .words)) (now (s .args .segments)) (l .at) _
-          (sym (c .before .before .before .before .before .before .before .before .before .before .before .before .before .before .before .peek-from .ensures)
-          ∙ c .before .before .before .before .before .before .before .before .before .before .before .before .before .tag .given .1)
-          (c .before .before .before .before .before .before .before .before .before .before .before .if1 .left) _
-          (c .before .before .before .before .before .before .before .before .before .op-of .ensures) _
-          (c .before .before .before .before .before .before .before .before .move-at .ensures) _ _ _ (c .before .before .before .before .before .before .act .given .1))
-          (c .before .carry-out .ensures .0) (c .before .carry-out .ensures .2),
-      all-covered _ _ (l .area) _ (c .before .carry-out .ensures .0) (l .inv .4),
+      area-length _ _ _ _ (e .0) (l .inv .1),
+      e .1,
+      turn (now (a .words)) (now (a .segments)) _ (l .area) (meant (l .flat) (l .rgba)) (l .at) (l .count) (l .inv .3) _ _ _ _ (l .inv .0)
+          (c .before .before .before .before .before .before .before .before .before .before .before .before .before .if2 .left) (l .inv .1 ∙ sym (meant-length _ _ ∙ l .inv .2))
+          (trace-goes (now (a .words)) (now (a .segments)) (l .at) _ (sym (c .before .before .before .before .before .before .before .before .before .before .before .before .before .before .before .before .before .before .peek-from .ensures) ∙ c .before .before .before .before .before .before .before .before .before .before .before .before .before .before .before .before .tag .given .1)
+          (c .before .before .before .before .before .before .before .before .before .before .before .before .before .before .if1 .left) _ (c .before .before .before .before .before .before .before .before .before .before .op-of .ensures) _ (c .before .before .before .before .before .before .before .before .before .move-at .ensures) _ _ _ (c .before .before .before .before .before .before .before .act .given .1))
+          (e .0) (e .2),
+      all-covered _ _ (l .area) _ (e .0) (l .inv .4),
     )
 
 pub run-spec : {M : Type 1} → statement M
@@ -179,20 +209,29 @@ run-spec =
     (tie.spec
     Inv-loop
     μ-loop
-    same-area-requires
     loop-holds
     peek-from-requires
     enum-known-tag
     enum-told
+    same-length
     returns
+    same-length-2
     returns-2
+    same-length-3
     returns-3
+    add-ends-at
+    ends-at-requires
+    add-word
+    mul-word
+    shared-slice-read-word
+    same-length-4
+    returns-4
     op-of-requires
     move-at-requires
     enum-known-no
-    returns-4
+    same-length-5
+    returns-5
     enum-known-act
-    slice-aggregate-carry-out
     carry-out-requires
     add-count
     loop-less
