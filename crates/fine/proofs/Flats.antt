@@ -65,7 +65,7 @@ once rgba w tx ty y word l m hy hw one e h = h ∙ within-cong (oneWord word) (f
         let q : R + x ≡ p = omega (arith, lo) in
         e ∙ sym (one x hx) ∙ ap (λ (k : ℕ). packOf (getD rgba k [])) (sym (place-in-row w tx ty y hy hw x hx) ∙ ap (placeOf w) q)
 
-meant-at : (flat : List Bool) (rgba : List (List Float)) (k : ℕ) → length rgba ≡ tileSize → k < tileSize → getD (meant flat rgba) k [] ≡ spread flat rgba k (getD rgba k [])
+pub meant-at : (flat : List Bool) (rgba : List (List Float)) (k : ℕ) → length rgba ≡ tileSize → k < tileSize → getD (meant flat rgba) k [] ≡ spread flat rgba k (getD rgba k [])
 unfolding meant
 meant-at flat rgba k n h = getD-mapi (spread flat rgba) rgba k [] [] (subst (λ (z : ℕ). k < z) (sym n) h)
 

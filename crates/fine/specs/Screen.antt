@@ -5,14 +5,14 @@ use mathlib.Core.List.{List, []}
 use Prim.Native.Nat.{ℕ, _+_, _*_, _/_, _%_, _<_}
 use lib.Dec.{eqb}
 use lib.ListN.{getD, replicate}
-use lib.Ieee.{Float}
+use lib.Ieee.{Float, nan}
 use Rattle.util.specs.Constants.{zero}
 use Rattle.lists.specs.Grid.{mapi}
 use Rattle.panel.specs.Limits.{mostCommands}
 use Rattle.panel.specs.declared.kinds.Verdict.{Verdict}
 use Rattle.panel.specs.declared.kinds.Verdict.the-variants.{Fine, Against}
 use Rattle.coverage.specs.Tile.{tileWidth, tileHeight, tileSize}
-use Rattle.colours.specs.Colour.{packOf}
+use Rattle.colours.specs.Colour.{overOf, packOf}
 use Rattle.commands.specs.Numbers.{startOf}
 use Rattle.commands.specs.Moves.{Trace, traceOf, endOf}
 use Rattle.commands.specs.Pixel.{point, pointOf}
@@ -49,6 +49,13 @@ oneWord word p old = word
 -- one word stands for all pixels of a row, from the first on: what the functions of a row tell each other, no promise leans on it
 abbrev pub OneWord : List (List Float) → ℕ → Type 0
 OneWord rgba first = (x : ℕ) → x < tileWidth → packOf (getD rgba (first + x) []) ≡ packOf (getD rgba first [])
+
+-- the colour fg over one colour, and over each pixel's own, by the pixel's area, packed: what the functions of a row tell each other, no promise leans on it
+abbrev pub fromOne : List Float → List Float → List Float → ℕ → ℕ → ℕ → ℕ
+fromOne area fg one width p old = packed (λ k. overOf fg (getD area k nan) one) width p old
+
+abbrev pub fromEach : List Float → List Float → List (List Float) → ℕ → ℕ → ℕ → ℕ
+fromEach area fg rgba width p old = packed (λ k. overOf fg (getD area k nan) (getD rgba k [])) width p old
 
 -- a flag for each row, all true: each row is flat (`meant` of colours, specs/Layer.antt). What the functions of a tile tell each other, no promise leans on it
 unfoldable pub allFlat : List Bool

@@ -26,7 +26,7 @@ ghost use Rattle.coverage.specs.Tile.{tileWidth, tileHeight, tileSize};
 ghost use Rattle.colours.specs.Colour.{compositeOf};
 ghost use Rattle.colours.specs.Layer.{meant, NoMinus};
 ghost use Rattle.commands.specs.Alike.{sameColour};
-ghost use Rattle.fine.specs.Screen.{noColour, allFlat, oneWord, rowAt, fromList, fromOne, Below, putTile, endsAt, tilePixels};
+ghost use Rattle.fine.specs.Screen.{noColour, allFlat, oneWord, rowAt, fromList, fromOne, fromEach, putTile, endsAt, tilePixels};
 ghost use Rattle.fine.specs.Fine.{shown, tilesOf, shownOf};
 
 // A flag for each row: all are flat.
@@ -163,7 +163,7 @@ pub fn put_slope(
 }
 
 // Row y of the tile, where it isn't flat: the colour fg over each pixel's own, by the area, packed at once.
-pub fn put_own(
+pub fn put_each(
     pixels: &mut [u32],
     width: usize,
     tx: usize,
@@ -175,7 +175,7 @@ pub fn put_own(
 )
     requires { ⌜ (tx < mostTiles) × (ty < mostTiles) × (y < tileHeight) × (tileWidth * tx + tileWidth ≤ width) × (rowAt width tx ty y + tileWidth ≤ length (now pixels))
         × (length (now area) ≡ tileSize) ⌝ }
-    ensures { λ _. ⌜ now (pixels .exit) ≡ mapi (within (rowAt width tx ty y) (rowAt width tx ty y + tileWidth) (fromOwn (now (area .entry)) fg (now (rgba .entry)) width)) (now (pixels .entry)) ⌝ }
+    ensures { λ _. ⌜ now (pixels .exit) ≡ mapi (within (rowAt width tx ty y) (rowAt width tx ty y + tileWidth) (fromEach (now (area .entry)) fg (now (rgba .entry)) width)) (now (pixels .entry)) ⌝ }
 {
     let base = width * (TILE_HEIGHT * ty + y) + TILE_WIDTH * tx;
     let first = TILE_WIDTH * y;
@@ -217,7 +217,7 @@ pub fn put_over(
             put_slope(pixels, width, tx, ty, y, one, fg, area)
         }
     } else {
-        put_own(pixels, width, tx, ty, y, rgba, fg, area)
+        put_each(pixels, width, tx, ty, y, rgba, fg, area)
     }
 }
 
