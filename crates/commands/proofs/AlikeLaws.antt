@@ -5,7 +5,7 @@ use mathlib.Core.List.{List, []}
 use Prim.Native.Nat.{ℕ, suc, _+_, _-_, _<_}
 use native.Mathlib.Omega.{arith}
 use borrow.Author.Tests.{eqb-true}
-use lib.ListN.{length, replicate, length-replicate}
+use lib.ListN.{replicate}
 use lib.Ieee.{Float}
 use Rattle.util.specs.Constants.{zero}
 use Rattle.lists.specs.GridLaws.{mapi-replicate}
@@ -19,15 +19,11 @@ use Rattle.reader.specs.declared.Look.{Look}
 use Rattle.reader.specs.declared.Look.the-variants.{Word, Past}
 use Rattle.commands.specs.Moves.{Trace, ends, does, traceOf, endOf}
 use Rattle.commands.specs.Pixel.{cover, paint, point, pointOf, Ran, ran, runOf}
-use Rattle.commands.specs.Alike.{alike, coverOne, sameArea, sameColour, runFrom, isEnd, endsHere}
+use Rattle.commands.specs.Alike.{alike, coverOne, sameColour, runFrom, isEnd, endsHere}
 use Rattle.commands.specs.declared.steps.Act.{Act}
 use Rattle.commands.specs.declared.steps.Act.the-variants.{Fill, Solid, Color, Jump}
 use Rattle.commands.proofs.Acts.{unchanged, mapi-cong}
 use Rattle.commands.proofs.Traced.{trace-end}
-
-pub same-area-length : (a : Float) → length (sameArea a) ≡ tileSize
-unfolding sameArea
-same-area-length a = length-replicate tileSize a
 
 -- from no area on
 pub run-is : (ws : List ℕ) (segs : List Float) (start : ℕ) (rgba : List (List Float)) → runFrom segs (traceOf mostCommands ws segs start) zero rgba ≡ runOf ws segs start rgba

@@ -1,6 +1,6 @@
 -- The last COLOR, which END follows: one painting, and then no more. Assumes nothing.
 use mathlib.Core.Path.{_≡_, refl, sym, ap, _∙_}
-use mathlib.Core.Bool.{Bool, true, false, _&&_}
+use mathlib.Core.Bool.{Bool, true, _&&_}
 use mathlib.Core.List.{List}
 use Prim.Native.Nat.{ℕ, suc, _+_, _-_, _<_, _≤_}
 use native.Mathlib.Omega.{arith}
@@ -15,7 +15,7 @@ use Rattle.reader.specs.Look.{lookAt}
 use Rattle.reader.specs.declared.Look.{Look}
 use Rattle.reader.specs.declared.Look.the-variants.{Word, Past}
 use Rattle.colours.specs.Colour.{colourOf, compositeOf}
-use Rattle.commands.specs.Numbers.{endNo, colorNo, colorWords}
+use Rattle.commands.specs.Numbers.{colorNo, colorWords}
 use Rattle.commands.specs.Moves.{opOf, wholeMove, moveOf, Trace, ends, does, traceOf}
 use Rattle.commands.specs.Pixel.{paint, paintAll, coverAll, Ran, ran}
 use Rattle.commands.specs.Alike.{isEnd, endsHere, left}

@@ -20,7 +20,7 @@ use Rattle.reader.specs.declared.Look.{Look}
 use Rattle.reader.specs.declared.Look.the-variants.{Word, Past}
 use Rattle.commands.specs.Numbers.{endNo}
 use Rattle.commands.specs.Moves.{opOf, moveOf, Trace, ends, does, onLook, onMove, traceOf, endOf}
-use Rattle.commands.specs.Pixel.{cover, paint, point, pointOf, coverAll, paintAll, Ran, ran}
+use Rattle.commands.specs.Pixel.{cover, paint, point, pointOf, coverAll, paintAll, ran}
 use Rattle.commands.specs.Alike.{sameArea, runFrom, left}
 use Rattle.commands.specs.declared.steps.Op.{Op}
 use Rattle.commands.specs.declared.steps.Act.{Act}

@@ -1,4 +1,4 @@
-// A tile's commands carried out: on areas of its own, and on the colours lent.
+// A tile's commands carried out, on the areas and the colours lent.
 use crate::numbers::COLOR;
 use crate::numbers::COLOR_WORDS;
 use crate::numbers::END;
@@ -165,8 +165,8 @@ pub fn ends_at(words: &[u32], at: usize) -> bool
     }
 }
 
-// How far a tile's commands were carried out: to END, to one that is refused, or to a last COLOR, of this word,
-// that END follows.
+// How far a tile's commands were carried out: to END, to one that is refused, or to a COLOR of this word that END
+// follows. That COLOR is the caller's to lay.
 pub enum Stop {
     End,
     Against(u32),

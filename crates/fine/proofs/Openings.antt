@@ -5,19 +5,19 @@ use mathlib.Core.Bool.{true, cond}
 use mathlib.Core.List.{List, []}
 use Prim.Native.Nat.{ℕ, _+_, _-_, _*_, _/_, _%_, _<_}
 use native.Mathlib.Omega.{arith}
-use lib.ListN.{getD-replicate}
+use lib.ListN.{length, getD-replicate, length-replicate}
 use lib.Ieee.{Float}
 use Rattle.util.specs.Constants.{zero}
 use Rattle.panel.specs.Limits.{mostCommands}
-use Rattle.panel.specs.declared.kinds.Verdict.{Verdict}
 use Rattle.panel.specs.declared.kinds.Verdict.the-variants.{Fine}
 use Rattle.coverage.specs.Tile.{tileWidth, tileHeight, tileSize}
 use Rattle.colours.specs.Colour.{packOf}
 use Rattle.commands.specs.Numbers.{startOf}
 use Rattle.commands.specs.Moves.{Trace, traceOf}
-use Rattle.commands.specs.Pixel.{ran, runOf}
-use Rattle.commands.specs.Alike.{sameColour, runFrom, endsHere}
+use Rattle.commands.specs.Pixel.{Ran, ran, runOf}
+use Rattle.commands.specs.Alike.{sameArea, sameColour, runFrom, left, endsHere}
 use Rattle.commands.proofs.Acts.{mapi-cong}
+use Rattle.commands.proofs.Traced.{left-starts}
 use Rattle.commands.proofs.AlikeLaws.{run-is, run-ends, end-here}
 use Rattle.fine.specs.Screen.{inTile, placeOf, putTile, fromList, oneWord, clear, noColour}
 
@@ -27,9 +27,12 @@ module _ (ws : List ℕ) (segs : List Float) (t at count : ℕ) (area : Float) (
   unfolding noColour sameColour
   whole = sym i ∙ run-is ws segs (startOf t) noColour
 
-  pub goes-on : (v : Verdict) (p b : List (List Float)) → b ≡ sameColour px → ran v p ≡ runFrom segs (traceOf (mostCommands - count) ws segs at) area b
-      → ran v p ≡ runOf ws segs (startOf t) noColour
-  goes-on v p b q e = e ∙ ap (runFrom segs (traceOf (mostCommands - count) ws segs at) area) q ∙ whole
+  pub goes-on : (r : Ran) (areas : List Float) (b : List (List Float)) → areas ≡ sameArea area → b ≡ sameColour px → r ≡ left segs (traceOf (mostCommands - count) ws segs at) areas b
+      → r ≡ runOf ws segs (startOf t) noColour
+  unfolding sameColour
+  goes-on r areas b p q e =
+      let t = traceOf (mostCommands - count) ws segs at in
+      e ∙ ap (λ (l : List Float). left segs t l b) p ∙ left-starts segs t area b (ap length q ∙ length-replicate tileSize px) ∙ ap (runFrom segs t area) q ∙ whole
 
   pub one-colour : endsHere ws at ≡ true → ran Fine (sameColour px) ≡ runOf ws segs (startOf t) noColour
   one-colour h =

@@ -181,8 +181,8 @@ pub fn put_each(
     let first = TILE_WIDTH * y;
     let mut x = 0usize;
     while x < TILE_WIDTH {
-        let one = rgba[first + x];
-        let px = over(one, fg, area[first + x]);
+        let under = rgba[first + x];
+        let px = over(under, fg, area[first + x]);
         let packed = pack(px);
         let at = base + x;
         pixels[at] = packed;
@@ -258,7 +258,7 @@ pub fn fill_tile(pixels: &mut [u32], width: usize, tx: usize, ty: usize, word: u
 
 // Tile t, in column tx and row ty of tiles, `width` pixels to a row of the screen. Until its first FILL it
 // has one colour: where END comes first, one pixel is packed for all. Its colours are worked on in `rgba`, whatever
-// that holds.
+// that holds; a COLOR that END follows is laid over them as they are packed.
 pub fn tile(
     words: &[u32],
     segments: &[f32],

@@ -44,14 +44,14 @@ loop-holds c =
     let a = c .before .before .args in
     (search needs, begun-at (fromEach (now (a .area)) (a .fg) (now (a .rgba)) (a .width)) 0 _ _)
 
-add-one : tie.Need-add-one Inv-loop μ-loop
-add-one c = search needs
+add-under : tie.Need-add-under Inv-loop μ-loop
+add-under c = search needs
 
-mul-one : tie.Need-mul-one Inv-loop μ-loop
-mul-one c = search needs
+mul-under : tie.Need-mul-under Inv-loop μ-loop
+mul-under c = search needs
 
-element-copy-out-one : tie.Need-element-copy-out-one Inv-loop μ-loop
-element-copy-out-one c = search needs
+element-copy-out-under : tie.Need-element-copy-out-under Inv-loop μ-loop
+element-copy-out-under c = search needs
 
 add-over : tie.Need-add-over Inv-loop μ-loop
 add-over c = search needs
@@ -115,9 +115,9 @@ put-each-spec =
     add-base-2
     mul-first
     loop-holds
-    add-one
-    mul-one
-    element-copy-out-one
+    add-under
+    mul-under
+    element-copy-out-under
     add-over
     mul-over
     shared-slice-read-over

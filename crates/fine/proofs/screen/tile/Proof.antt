@@ -12,12 +12,14 @@ use Rattle.lists.specs.GridLaws.{mapi-replicate, getD-tabulate}
 use Rattle.panel.specs.declared.kinds.Verdict.{Verdict}
 use Rattle.panel.specs.declared.kinds.Verdict.the-variants.{Fine, Against}
 use Rattle.coverage.specs.Tile.{tileWidth, tileHeight, tileSize}
-use Rattle.colours.specs.Colour.{packOf}
+use Rattle.colours.specs.Colour.{compositeOf, packOf}
 use Rattle.colours.specs.Layer.{meant}
 use Rattle.commands.specs.Numbers.{startOf}
 use Rattle.commands.specs.Pixel.{point, pointOf, Ran, ran, runOf}
-use Rattle.commands.specs.Alike.{sameColour}
+use Rattle.commands.specs.Alike.{sameColour, stopped}
+use Rattle.commands.specs.declared.run.Stop.{Stop}
 use Rattle.commands.proofs.Acts.{mapi-cong}
+use Rattle.commands.proofs.Signs.{all-alike}
 use Rattle.fine.specs.Screen.{inTile, placeOf, putTile, packed, fromList, clear, noColour, tileTrace, endsAt, colourAt, ifFine, tilePixels}
 use Rattle.fine.proofs.Openings.{goes-on, one-colour, put-one}
 use borrow.Author.Needs.{needs}
@@ -52,11 +54,19 @@ module _ (ws : List ℕ) (segs : List Float) (t w tx ty : ℕ) (pixels : List �
       let s : Fine ≡ endsAt ws segs t = sym d ∙ ended in
       (s, h ∙ colours ∙ ap (λ (x : Verdict). ifFine x (putTile (packed (colourAt ws segs t) w) w tx ty pixels) pixels) s)
 
-  stopped : (k : ℕ) → v ≡ Against k → (Against k ≡ endsAt ws segs t) × (pixels ≡ tilePixels ws segs t w tx ty pixels)
+  refused : (k : ℕ) → v ≡ Against k → (Against k ≡ endsAt ws segs t) × (pixels ≡ tilePixels ws segs t w tx ty pixels)
   unfolding tilePixels
-  stopped k d =
+  refused k d =
       let s : Against k ≡ endsAt ws segs t = sym d ∙ ended in
       (s, ap (λ (x : Verdict). ifFine x (putTile (packed (colourAt ws segs t) w) w tx ty pixels) pixels) s)
+
+-- where the commands stopped, by the result that an arm knows
+at-stop : (v s : Stop) (area : List Float) (rgba : List (List Float)) (r : Ran) → v ≡ s → stopped v area rgba ≡ r → stopped s area rgba ≡ r
+at-stop v s area rgba r e h = ap (λ (z : Stop). stopped z area rgba) (sym e) ∙ h
+
+recoloured : (area fg fg′ : List Float) (rgba : List (List Float)) (w tx ty : ℕ) (pixels after : List ℕ) → fg ≡ fg′
+    → after ≡ putTile (fromList (compositeOf area fg rgba) w) w tx ty pixels → after ≡ putTile (fromList (compositeOf area fg′ rgba) w) w tx ty pixels
+recoloured area fg fg′ rgba w tx ty pixels after e h = h ∙ ap (λ (z : List Float). putTile (fromList (compositeOf area z rgba) w) w tx ty pixels) e
 
 mul-start : tie.Need-mul-start
 mul-start c = search needs
@@ -97,8 +107,16 @@ start-rows-requires c κs = search needs
 all-flat-requires : tie.Need-all-flat-requires
 all-flat-requires c κs = search needs
 
+same-area-requires : tie.Need-same-area-requires
+same-area-requires c κs = search needs
+
+slice-aggregate-run : tie.Need-slice-aggregate-run
+slice-aggregate-run c = search needs
+
 run-requires : tie.Need-run-requires
-run-requires c κs = search needs
+run-requires c κs =
+    let b = c .before .before .before .before .before .before .before .before .before .begin in
+    (search needs, search needs, search needs, all-alike (b .result .area) _ (c .before .before .before .same-area .ensures) (b .ensures .2))
 
 enum-told : tie.Need-enum-told
 enum-told c = search needs
@@ -109,35 +127,63 @@ put-tile-requires c κs = search needs
 enum-known-v : tie.Need-enum-known-v
 enum-known-v c = search needs
 
+colour-requires : tie.Need-colour-requires
+colour-requires c κs = search needs
+
+slice-aggregate-put-last : tie.Need-slice-aggregate-put-last
+slice-aggregate-put-last c = search needs
+
+put-last-requires : tie.Need-put-last-requires
+put-last-requires c κs =
+    let p = c .before .before .before .before .before .before .before .before .before .before .before .before .before .before .before .before .before .before .before .before .before .before .before .before .pre in
+    let e = c .before .before .before .before .before .before .before .before .before .run .ensures in
+    (p .1, p .2, p .3, p .4, e .1, e .0, e .2)
+
+enum-known-v-2 : tie.Need-enum-known-v-2
+enum-known-v-2 c = search needs
+
 same-length-2 : tie.Need-same-length-2
 same-length-2 c = search needs
 
 returns-2 : tie.Need-returns-2
 returns-2 c =
-    let s = c .before .before .before .before .before .before .before .before .before .before .before .before .before .before .before .before .before .before .before .before .before in
-    let a = s .args in
-    let b = c .before .before .before .before .before .before .before .before .before .before .before .before .before .before .before .before .begin in
+    let a = c .before .before .before .before .before .before .before .before .before .before .before .before .before .before .before .before .before .before .before .before .before .before .before .before .args in
+    let b = c .before .before .before .before .before .before .before .before .before .before .before .before .before .before .before .before .before .before .before .begin in
     let o = b .result in
-    let r = c .before .before .before .before .before .before .before .before .before .before .before .before .start-rows in
-    let e = goes-on (now (a .words)) (now (a .segments)) (a .t) (o .at) (o .count) (o .area) (b .last .1 .1 .1 .0) (b .ensures .1) _ _ _
-    (ap (λ (f : List Bool). meant f (r .last .0)) (c .before .before .before .before .before .before .before .before .before .before .before .all-flat .ensures) ∙ r .ensures .1)
-    (c .before .before .before .before .before .before .before .before .run .ensures .1) in
-    let d = done (now (a .words)) (now (a .segments)) (a .t) (a .width) (a .tx) (a .ty) (now (a .pixels)) _ _ noColour refl e _
-    (c .before .before .before .before .before .before .enum-told .given .1) (c .before .before .put-tile .ensures) in
-    (d .0, d .1, c .before .before .before .before .before .before .before .before .run .ensures .0)
+    let r = c .before .before .before .before .before .before .before .before .before .before .before .before .before .before .before .start-rows in
+    let e = goes-on (now (a .words)) (now (a .segments)) (a .t) (o .at) (o .count) (o .area) (b .last .1 .1 .1 .0) (b .ensures .1) _ _ _ (c .before .before .before .before .before .before .before .before .before .before .before .before .before .same-area .ensures)
+    (ap (λ (f : List Bool). meant f (r .last .0)) (c .before .before .before .before .before .before .before .before .before .before .before .before .before .before .all-flat .ensures) ∙ r .ensures .1)
+    (at-stop _ _ _ _ _ (c .before .before .before .before .before .before .enum-told .given .1) (c .before .before .before .before .before .before .before .before .before .run .ensures .3)) in
+    let d = done (now (a .words)) (now (a .segments)) (a .t) (a .width) (a .tx) (a .ty) (now (a .pixels)) Fine _ noColour refl e _ refl (c .before .before .put-tile .ensures) in
+    (d .0, d .1, c .before .before .before .before .before .before .before .before .before .run .ensures .1)
+
+same-length-3 : tie.Need-same-length-3
+same-length-3 c = search needs
 
 returns-3 : tie.Need-returns-3
 returns-3 c =
-    let s = c .before .before .before .before .before .before .before .before .before .before .before .before .before .before .before .before in
-    let a = s .args in
-    let b = c .before .before .before .before .before .before .before .before .before .before .before .begin in
+    let a = c .before .before .before .before .before .before .before .before .before .before .before .before .before .before .before .before .before .before .before .before .before .before .before .before .before .before .before .args in
+    let b = c .before .before .before .before .before .before .before .before .before .before .before .before .before .before .before .before .before .before .before .before .before .before .begin in
     let o = b .result in
-    let r = c .before .before .before .before .before .before .before .start-rows in
-    let e = goes-on (now (a .words)) (now (a .segments)) (a .t) (o .at) (o .count) (o .area) (b .last .1 .1 .1 .0) (b .ensures .1) _ _ _
-    (ap (λ (f : List Bool). meant f (r .last .0)) (c .before .before .before .before .before .before .all-flat .ensures) ∙ r .ensures .1)
-    (c .before .before .before .run .ensures .1) in
-    let d = stopped (now (a .words)) (now (a .segments)) (a .t) (a .width) (a .tx) (a .ty) (now (a .pixels)) _ _ noColour refl e _ (c .before .v .given .1) in
-    (d .0, d .1, c .before .before .before .run .ensures .0)
+    let r = c .before .before .before .before .before .before .before .before .before .before .before .before .before .before .before .before .before .before .start-rows in
+    let e = goes-on (now (a .words)) (now (a .segments)) (a .t) (o .at) (o .count) (o .area) (b .last .1 .1 .1 .0) (b .ensures .1) _ _ _ (c .before .before .before .before .before .before .before .before .before .before .before .before .before .before .before .before .same-area .ensures)
+    (ap (λ (f : List Bool). meant f (r .last .0)) (c .before .before .before .before .before .before .before .before .before .before .before .before .before .before .before .before .before .all-flat .ensures) ∙ r .ensures .1)
+    (at-stop _ _ _ _ _ (c .before .before .before .before .before .before .before .before .before .v .given .1) (c .before .before .before .before .before .before .before .before .before .before .before .before .run .ensures .3)) in
+    let d = done (now (a .words)) (now (a .segments)) (a .t) (a .width) (a .tx) (a .ty) (now (a .pixels)) Fine _ noColour refl e _ refl
+    (recoloured _ _ _ _ (a .width) (a .tx) (a .ty) (now (a .pixels)) _ (c .before .before .before .before .colour .ensures) (c .before .before .put-last .ensures)) in
+    (d .0, d .1, c .before .before .before .before .before .before .before .before .before .before .before .before .run .ensures .1)
+
+returns-4 : tie.Need-returns-4
+returns-4 c =
+    let a = c .before .before .before .before .before .before .before .before .before .before .before .before .before .before .before .before .before .before .before .args in
+    let b = c .before .before .before .before .before .before .before .before .before .before .before .before .before .before .begin in
+    let o = b .result in
+    let r = c .before .before .before .before .before .before .before .before .before .before .start-rows in
+    let e = goes-on (now (a .words)) (now (a .segments)) (a .t) (o .at) (o .count) (o .area) (b .last .1 .1 .1 .0) (b .ensures .1) _ _ _ (c .before .before .before .before .before .before .before .before .same-area .ensures)
+    (ap (λ (f : List Bool). meant f (r .last .0)) (c .before .before .before .before .before .before .before .before .before .all-flat .ensures) ∙ r .ensures .1)
+    (at-stop _ _ _ _ _ (c .before .v2 .given .1) (c .before .before .before .before .run .ensures .3)) in
+    let d = refused (now (a .words)) (now (a .segments)) (a .t) (a .width) (a .tx) (a .ty) (now (a .pixels)) _ _ noColour refl e _ refl in
+    (d .0, d .1, c .before .before .before .before .run .ensures .1)
 
 pub tile-spec : {M : Type 1} → statement M
 tile-spec =
@@ -153,10 +199,18 @@ tile-spec =
     returns
     start-rows-requires
     all-flat-requires
+    same-area-requires
+    slice-aggregate-run
     run-requires
     enum-told
     put-tile-requires
     enum-known-v
+    colour-requires
+    slice-aggregate-put-last
+    put-last-requires
+    enum-known-v-2
     same-length-2
     returns-2
-    returns-3)
+    same-length-3
+    returns-3
+    returns-4)
