@@ -1,4 +1,4 @@
--- A line that lies inside its path's box: its acts are its steps alone, so what its words write is its outcome.
+-- A line that lies inside its path's box: its acts are its steps alone, so what they leave is its outcome.
 -- Assumes nothing.
 use mathlib.Core.Path.{_≡_, refl, sym, ap, _∙_, subst}
 use mathlib.Core.Bool.{Bool, true, false, not, _&&_, _||_, false≢true}
@@ -30,7 +30,11 @@ use Rattle.acts.proofs.Plans.{plan-visits, plan-marks}
 use Rattle.acts.proofs.Lines.{plan-fine}
 use Rattle.path_count.specs.Steps.{hitAt}
 use Rattle.path_count.specs.Notes.{hitsBy, Notes, noteWords, OnTiles}
+use Rattle.path_count.specs.Few.{FewMet}
+use Rattle.path_count.specs.Direct.{DirectMet}
 use Rattle.path_count.specs.Count.{planBy, planOf, walkedStep, lineRan, tallyRan, Lent}
+use Rattle.path_count.specs.declared.kinds.Direct.{Direct}
+use Rattle.path_count.specs.declared.kinds.Direct.the-variants.{On, Other}
 use Rattle.path_count.specs.declared.kinds.Tallied.{Tallied}
 use Rattle.path_count.proofs.StepLaws.{apart, none-leaves, notes-acts}
 use Rattle.path_count.proofs.Lines.{on-tiles, walkable, starts, walk-done}
@@ -96,24 +100,41 @@ module _ (nos : List ℕ) (coords : List Float) (paths : List ℕ) (k : ℕ) (pa
   roomy : (room made : ℕ) → made + n ≤ room → made + n ≤ mostSlots → (ltb room (made + (n - 0)) || ltb mostSlots (made + (n - 0))) ≡ false
   roomy room made h m = rw (le-ltb room (made + (n - 0)) (omega arith), le-ltb mostSlots (made + (n - 0)) (omega arith))
 
-  -- and what they leave is the line's outcome
-  pub direct-done : (l made : ℕ) (bs : List ℤ) (cs rs : List ℕ) (bs′ : List ℤ) (cs′ rs′ ks : List ℕ) (tiles : ℕ) → n ≤ noteWords
-      → made + n ≤ length rs / refWords → made + n ≤ mostSlots → Notes (hitAt pace b) 0 (n - 0) ks tiles
-      → done (stOf bs′ cs′ rs′ (made + (n - 0))) ≡ runActs (deltaOf up) l (stepsActs (hitsBy ks 0) (n - 0) 0) (stOf bs cs rs made)
+  -- and what its steps leave is the line's outcome
+  pub direct-ran : (l made : ℕ) (bs : List ℤ) (cs rs : List ℕ) (bs′ : List ℤ) (cs′ rs′ : List ℕ) → n ≤ noteWords
+      → made + n ≤ length rs / refWords → made + n ≤ mostSlots
+      → done (stOf bs′ cs′ rs′ (made + n)) ≡ runActs (deltaOf up) l (stepsActs (hitAt pace b) (n - 0) 0) (stOf bs cs rs made)
       → done (stOf bs′ cs′ rs′ (made + n)) ≡ lineRan (walkedStep (length rs / refWords) l (walkAt nos coords paths k) (stOf bs cs rs made)) (stOf bs cs rs made)
-  direct-done l made bs cs rs bs′ cs′ rs′ ks tiles h r m ts q =
+  direct-ran l made bs cs rs bs′ cs′ rs′ h r m q =
       let s = stOf bs cs rs made in
       let w = u .w in
       let d = not (w .e .«is_down») in
-      let same : made + n ≡ made + (n - 0) = omega arith in
       let runs : done (stOf bs′ cs′ rs′ (made + n)) ≡ runActs (deltaOf d) l (planActs (planBy d (w .pace) b (allSteps b n))) s =
-      ap (λ (j : ℕ). done (stOf bs′ cs′ rs′ j)) same ∙ q
-      ∙ ap (λ (xs : List Act). runActs (deltaOf up) l xs s) (sym (notes-acts (hitAt pace b) 0 n ks tiles ts))
+      q
       ∙ ap (λ (x : Bool). runActs (deltaOf x) l (stepsActs (hitAt pace b) (n - 0) 0) s) (u .turned)
       ∙ ap (λ (x : Pace). runActs (deltaOf d) l (stepsActs (hitAt x b) (n - 0) 0) s) (u .paced)
       ∙ ap (λ (xs : List Act). runActs (deltaOf d) l xs s) (sym (steps-alone d (w .pace) b n)) in
       walk-done (length rs / refWords) l w b (allSteps b n) (sym (u .clipped)) s (near h) (roomy (length rs / refWords) made r m) (stOf bs′ cs′ rs′ (made + n)) runs
       ∙ ap (λ (x : Walked). lineRan (walkedStep (length rs / refWords) l x s) s) (sym (u .walked))
+
+  -- by their words too
+  pub direct-done : (l made : ℕ) (bs : List ℤ) (cs rs : List ℕ) (bs′ : List ℤ) (cs′ rs′ ks : List ℕ) (tiles : ℕ) → n ≤ noteWords
+      → made + n ≤ length rs / refWords → made + n ≤ mostSlots → Notes (hitAt pace b) 0 (n - 0) ks tiles
+      → done (stOf bs′ cs′ rs′ (made + (n - 0))) ≡ runActs (deltaOf up) l (stepsActs (hitsBy ks 0) (n - 0) 0) (stOf bs cs rs made)
+      → done (stOf bs′ cs′ rs′ (made + n)) ≡ lineRan (walkedStep (length rs / refWords) l (walkAt nos coords paths k) (stOf bs cs rs made)) (stOf bs cs rs made)
+  direct-done l made bs cs rs bs′ cs′ rs′ ks tiles h r m ts q =
+      let same : made + n ≡ made + (n - 0) = omega arith in
+      direct-ran l made bs cs rs bs′ cs′ rs′ h r m
+      (ap (λ (j : ℕ). done (stOf bs′ cs′ rs′ j)) same ∙ q
+      ∙ ap (λ (xs : List Act). runActs (deltaOf up) l xs (stOf bs cs rs made)) (sym (notes-acts (hitAt pace b) 0 n ks tiles ts)))
+
+  -- what is said of a line of few steps is said of it
+  pub direct-few : (l made : ℕ) (bs : List ℤ) (cs rs : List ℕ) (bs′ : List ℤ) (cs′ rs′ : List ℕ) → n ≤ noteWords
+      → made + n ≤ length rs / refWords → made + n ≤ mostSlots → (r : Direct) → FewMet pace b up l n made bs cs rs bs′ cs′ rs′ r
+      → DirectMet (walkAt nos coords paths k) (length rs / refWords) l made bs cs rs bs′ cs′ rs′ r
+  direct-few l made bs cs rs bs′ cs′ rs′ h r m (On j) f =
+      subst (λ (x : ℕ). DirectMet (walkAt nos coords paths k) (length rs / refWords) l made bs cs rs bs′ cs′ rs′ (On x)) (sym (f .0)) (direct-ran l made bs cs rs bs′ cs′ rs′ h r m (f .1))
+  direct-few l made bs cs rs bs′ cs′ rs′ h r m Other f = f
 
 -- ---- where nothing is said of a line, what is lent is as it was
 

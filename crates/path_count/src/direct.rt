@@ -1,6 +1,7 @@
 // One line that lies inside its path's box: its steps are checked in whole numbers and noted, then written by their words.
-// It refuses nothing itself: where there is no room, or a step doesn't pass so, nothing is written but notes, and the line
-// is left to `line.rt`'s walk, which says what becomes of it.
+// One of few steps is counted as it goes instead (`few.rt`). Nothing is refused here: where there is no room, or a step
+// doesn't pass so, nothing is left written but notes, and the line is left to `line.rt`'s walk, which says what becomes of
+// it.
 ghost use mathlib.Core.Path.{_≡_};
 ghost use Prim.Native.Nat.{_/_};
 ghost use lib.ListN.{length};
@@ -9,7 +10,9 @@ ghost use Rattle.walk.specs.Lent.{walkAt};
 ghost use Rattle.path_count.specs.Notes.{noteWords};
 ghost use Rattle.path_count.specs.Count.{Lent, There};
 ghost use Rattle.path_count.specs.Direct.{DirectMet};
+use super::few::count_few;
 use super::kinds::Direct;
+use super::kinds::FEW;
 use super::kinds::NOTE_WORDS;
 use super::quick::quick_steps;
 use super::writes::write_notes;
@@ -44,6 +47,9 @@ pub fn count_direct(
     let room = (refs.len() / REF_WORDS) as u64;
     if (n > NOTE_WORDS) | (after > room) | (after > MOST_SLOTS as u64) {
         return Direct::Other;
+    }
+    if n <= FEW {
+        return count_few(pace, path, n, up, line, made, notes, backs, counts, refs);
     }
     if quick_steps(pace, path, up, 0, n, backs, counts, notes) {
         write_notes(notes, up, line, 0, n, made, backs, counts, refs);

@@ -4,6 +4,12 @@ use panel::kinds::Running;
 // So many steps of a line are noted by its check; those past them are walked again by its write.
 pub const NOTE_WORDS: u32 = 256;
 
+// A line of so many steps at most is counted as it goes. Each step then has three notes: its word, and the two words that
+// stood where its reference is put.
+pub const FEW: u32 = 16;
+
+pub const STEP_NOTES: usize = 3;
+
 // A step that passes its check, with its z; or the number of its refusal.
 pub enum Seen {
     Passed(f32),

@@ -1,8 +1,10 @@
 // path_count.rs: the tiles that lines pass are counted, a reference for each step, backdrops marked.
-// A line is checked first and then written, so that a refused line changes nothing.
+// A line is checked first and then written, so that a refused line changes nothing. A short one is counted as it goes, and
+// taken back where a step doesn't pass.
 mod call;
 mod checks;
 mod direct;
+mod few;
 mod kinds;
 mod line;
 mod quick;
