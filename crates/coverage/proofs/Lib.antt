@@ -2,8 +2,11 @@ pub mod Past
 pub mod Laws
 pub mod Sizes
 pub mod Rises
+pub mod Arms
 pub mod RowsLaws
 pub mod LowLaws
+pub mod Steps
+pub mod NarrowLaws
 pub mod Grounds
 pub mod Crooked
 pub mod Page

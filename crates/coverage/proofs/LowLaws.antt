@@ -18,8 +18,9 @@ use lib.Ieee.Bits.{ofBits-fits}
 use lib.Ieee.Scale.{round-same, finite}
 use borrow.Author.Tests.{eqb-true, leb-true}
 use Rattle.util.specs.Constants as Number
-use Rattle.float32.specs.Meaning.{clampOf, signOf, whole}
+use Rattle.float32.specs.Meaning.{maxOf, clampOf, signOf, whole}
 use Rattle.float32.proofs.Alike.{IsZero, unlike-zeros}
+use Rattle.float32.proofs.MinMax.{max-right}
 use Rattle.float32.proofs.Order.{not-lt-of-le, le-of-not-lt, le-left, le-right}
 use Rattle.float32.proofs.Same.{same-sign}
 use Rattle.float32.proofs.Tests.{yes, first, second}
@@ -76,7 +77,7 @@ neg-finite (inf s) f = f
 neg-finite (fin s m e) f = tt
 
 -- a number less a finite one is a number too
-less-number : (x c : Float) → T (not (isNan x)) → T (finite c) → T (not (isNan (sub binary32 x c)))
+pub less-number : (x c : Float) → T (not (isNan x)) → T (finite c) → T (not (isNan (sub binary32 x c)))
 unfolding sub
 less-number x c n f = add-number x (neg c) n (neg-finite c f)
 
@@ -109,7 +110,7 @@ value-finite nan s a c v = absurd v
 value-finite (inf t) s a c v = absurd v
 value-finite (fin t m e) s a c v = tt
 
-int-finite : (n : ℕ) → n < tileHeight → T (finite (ofInt binary32 (pos n)))
+pub int-finite : (n : ℕ) → n < tileHeight → T (finite (ofInt binary32 (pos n)))
 unfolding ofInt
 int-finite n h = value-finite (round binary32 false n 1) false n 1 (round-whole binary32 false n (omega arith))
 
@@ -133,9 +134,13 @@ one-number = tt
 some : (n : ℕ) → n ≡ 0 → n ≡ 1 → ⊥
 some n e d = omega arith
 
-one-no-zero : IsZero Number.one → ⊥
+pub one-no-zero : IsZero Number.one → ⊥
 unfolding ofBits
 one-no-zero e = some 1 e refl
+
+-- the larger of a float and 0 is a number
+pub from-zero-number : (x : Float) → T (not (isNan (maxOf x Number.zero)))
+from-zero-number x = le-right Number.zero (maxOf x Number.zero) (max-right x Number.zero zero-number)
 
 -- of two numbers neither of which is below the other
 level : (x y : Float) → T (not (isNan x)) → T (not (isNan y)) → lt x y ≡ false → lt y x ≡ false → eq x y ≡ true

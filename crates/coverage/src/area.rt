@@ -3,6 +3,12 @@
 use crate::low::edgeless;
 use crate::low::guess;
 use crate::low::only;
+use crate::narrow::PARTS;
+use crate::narrow::SPAN_WIDTH;
+use crate::narrow::add_narrow;
+use crate::narrow::columns;
+use crate::narrow::left_column;
+use crate::narrow::parts;
 use crate::row::Reach;
 use crate::row::Row;
 use crate::row::Way;
@@ -24,14 +30,17 @@ use float32::round;
 use panel::segments::segment_at;
 use util::TILE_SIDE;
 ghost use mathlib.Core.Path.{_≡_};
+ghost use mathlib.Core.Bool.{false};
 ghost use Prim.Native.Nat.{_+_, _*_, _≤_, _<_};
 ghost use lib.ListN.{length};
+ghost use lib.Ieee.{lt};
 ghost use Rattle.float32.specs.Meaning.{absOf};
 ghost use Rattle.lists.specs.Grid.{mapi, within};
 ghost use Rattle.panel.specs.Widths.{segmentFloats};
 ghost use Rattle.coverage.specs.Tile.{tileHeight, tileSize, rowStart, rowEnd};
 ghost use Rattle.coverage.specs.Row.{slanted, edged, stepRow, stepWay};
 ghost use Rattle.coverage.specs.Rows.{stepIn};
+ghost use Rattle.coverage.specs.Narrow.{lastSpan, columnList, partList};
 ghost use Rattle.coverage.specs.Coverage.{areaAfter, finishOf, coverageOf};
 
 // Row yi, where the segment goes through it.
@@ -45,6 +54,29 @@ pub fn add_slant(area: &mut [f32], p: Reach, edge: f32, dy: f32, yi: usize)
         let at = base + i;
         area[at] = area[at] + added(p, edge, dy, i);
         i += 1;
+    }
+}
+
+// Row yi, where the segment goes through it: within the span that starts at column g, or not.
+pub fn add_part(
+    area: &mut [f32],
+    p: Reach,
+    edge: f32,
+    dy: f32,
+    yi: usize,
+    g: usize,
+    cols: &[f32; TILE_WIDTH],
+    parts: &[f32; PARTS],
+)
+    requires { ⌜ (yi < tileHeight) × (g ≤ lastSpan) × (length (now area) ≡ tileSize) × (now cols ≡ columnList) × (now parts ≡ partList) × (lt (p .right) (p .left) ≡ false) ⌝ }
+    ensures { λ _. ⌜ now (area .exit) ≡ mapi (within (rowStart yi) (rowEnd yi) (slanted p edge dy)) (now (area .entry)) ⌝ }
+{
+    let x = cols[g];
+    let narrow = (x <= p.left) & (p.right <= x + SPAN_WIDTH);
+    if narrow {
+        add_narrow(area, p, edge, dy, yi, g, cols, parts)
+    } else {
+        add_slant(area, p, edge, dy, yi)
     }
 }
 
@@ -71,6 +103,28 @@ pub fn add_row(area: &mut [f32], w: Way, r: Row, yi: usize)
     let edge = r.edge;
     if dy != 0.0 {
         add_slant(area, reach_of(w, r), edge, dy, yi)
+    } else if edge != 0.0 {
+        add_edge(area, edge, yi)
+    }
+}
+
+// Row yi of a segment that is low, which is r. Its part is looked for in the span that starts at column g.
+pub fn add_low_row(
+    area: &mut [f32],
+    w: Way,
+    r: Row,
+    yi: usize,
+    g: usize,
+    cols: &[f32; TILE_WIDTH],
+    parts: &[f32; PARTS],
+)
+    requires { ⌜ (yi < tileHeight) × (g ≤ lastSpan) × (length (now area) ≡ tileSize) × (now cols ≡ columnList) × (now parts ≡ partList) ⌝ }
+    ensures { λ _. ⌜ now (area .exit) ≡ mapi (within (rowStart yi) (rowEnd yi) (stepRow w r)) (now (area .entry)) ⌝ }
+{
+    let dy = r.dy;
+    let edge = r.edge;
+    if dy != 0.0 {
+        add_part(area, reach_of(w, r), edge, dy, yi, g, cols, parts)
     } else if edge != 0.0 {
         add_edge(area, edge, yi)
     }
@@ -139,20 +193,35 @@ pub fn add_all(area: &mut [f32], w: Way, yt: f32)
 }
 
 // The rows from .. to of a segment.
-pub fn add_few(area: &mut [f32], w: Way, yt: f32, from: usize, to: usize)
-    requires { ⌜ (from ≤ to) × (to ≤ tileHeight) × (length (now area) ≡ tileSize) ⌝ }
+pub fn add_few(
+    area: &mut [f32],
+    w: Way,
+    yt: f32,
+    from: usize,
+    to: usize,
+    cols: &[f32; TILE_WIDTH],
+    parts: &[f32; PARTS],
+)
+    requires { ⌜ (from ≤ to) × (to ≤ tileHeight) × (length (now area) ≡ tileSize) × (now cols ≡ columnList) × (now parts ≡ partList) ⌝ }
     ensures { λ _. ⌜ now (area .exit) ≡ mapi (within (rowStart from) (rowStart to) (stepWay w yt)) (now (area .entry)) ⌝ }
 {
+    let g = left_column(w);
     let mut yi = from;
     while yi < to {
-        add_row(area, w, row_of(w, yt, yi), yi);
+        add_low_row(area, w, row_of(w, yt, yi), yi, g, cols, parts);
         yi += 1;
     }
 }
 
 // A segment. One that is low and has no y_edge goes through its own rows only, where the guess at them is right.
-pub fn add_segment(area: &mut [f32], w: Way, yt: f32)
-    requires { ⌜ length (now area) ≡ tileSize ⌝ }
+pub fn add_segment(
+    area: &mut [f32],
+    w: Way,
+    yt: f32,
+    cols: &[f32; TILE_WIDTH],
+    parts: &[f32; PARTS],
+)
+    requires { ⌜ (length (now area) ≡ tileSize) × (now cols ≡ columnList) × (now parts ≡ partList) ⌝ }
     ensures { λ _. ⌜ now (area .exit) ≡ mapi (stepWay w yt) (now (area .entry)) ⌝ }
 {
     let end = w.y + w.dy;
@@ -164,7 +233,7 @@ pub fn add_segment(area: &mut [f32], w: Way, yt: f32)
         let to = guess(high + 0.5);
         let right = only(w, yt, from, to);
         if right {
-            add_few(area, w, yt, from, to);
+            add_few(area, w, yt, from, to, cols, parts);
             return;
         }
     }
@@ -176,9 +245,17 @@ pub fn add_segments(area: &mut [f32], segments: &[f32], first: usize, n: usize, 
     requires { ⌜ (length (now area) ≡ tileSize) × (segmentFloats * (first + n) ≤ length (now segments)) ⌝ }
     ensures { λ _. ⌜ now (area .exit) ≡ mapi (areaAfter (now (segments .entry)) first xt yt n) (now (area .entry)) ⌝ }
 {
+    let cols = columns();
+    let parts = parts();
     let mut j = 0usize;
     while j < n {
-        add_segment(area, way_of(segment_at(segments, first + j), xt), yt);
+        add_segment(
+            area,
+            way_of(segment_at(segments, first + j), xt),
+            yt,
+            &cols,
+            &parts,
+        );
         j += 1;
     }
 }

@@ -3,6 +3,7 @@
 pub mod area;
 pub mod ground;
 pub mod low;
+pub mod narrow;
 pub mod row;
 pub mod rows;
 pub mod tile;

@@ -11,6 +11,7 @@ ghost use Rattle.float32.specs.Meaning.{minOf, maxOf, clampOf};
 ghost use Rattle.util.specs.Constants.{zero, one};
 ghost use Rattle.coverage.specs.Tile.{tileWidth, tileHeight};
 ghost use Rattle.coverage.specs.Row.{wayOf, rowOf, reachOf, addedOf};
+ghost use Rattle.coverage.specs.Narrow.{addedAt};
 
 // What every row has of a segment: where it starts, beside the tile's left side and down the screen,
 // how far it goes, 1 over its height, the sign of its width, and its y_edge.
@@ -134,17 +135,23 @@ pub fn from_zero(x: f32) -> f32
     if 0.0 < x { x } else { 0.0 }
 }
 
-// What a row's slanted part adds at column i.
-pub fn added(p: Reach, edge: f32, dy: f32, i: usize) -> f32
-    requires { ⌜ i < tileWidth ⌝ }
-    ensures { λ r. ⌜ r ≡ addedOf p edge dy i ⌝ }
+// What a row's slanted part adds at the column whose left side is at x.
+pub fn added_at(p: Reach, edge: f32, dy: f32, x: f32) -> f32
+    ensures { λ r. ⌜ r ≡ addedAt p edge dy x ⌝ }
 {
-    let i_f = i as f32;
-    let xmin = up_to_one(p.left - i_f) - 1.0e-6;
-    let xmax = p.right - i_f;
+    let xmin = up_to_one(p.left - x) - 1.0e-6;
+    let xmax = p.right - x;
     let b = up_to_one(xmax);
     let c = from_zero(b);
     let d = from_zero(xmin);
     let a = (b + 0.5 * (d * d - c * c) - xmin) / (xmax - xmin);
     edge + a * dy
+}
+
+// What it adds at column i.
+pub fn added(p: Reach, edge: f32, dy: f32, i: usize) -> f32
+    requires { ⌜ i < tileWidth ⌝ }
+    ensures { λ r. ⌜ r ≡ addedOf p edge dy i ⌝ }
+{
+    added_at(p, edge, dy, i as f32)
 }

@@ -15,19 +15,22 @@ use Rattle.coverage.proofs.area.add_few.Statement.{statement}
 use Rattle.coverage.proofs.area.add_few.Tie as tie
 
 abbrev Inv-loop : tie.InvT-loop
-Inv-loop area₀ w yt from to yi₀ area yi = (from ≤ yi) × (yi ≤ to) × Done (stepWay w yt) (rowStart from) (rowStart yi) area₀ area
+Inv-loop area₀ w yt from to cols parts g yi₀ area yi = (from ≤ yi) × (yi ≤ to) × Done (stepWay w yt) (rowStart from) (rowStart yi) area₀ area
 
 abbrev μ-loop : tie.MeasureT-loop
-μ-loop area₀ w yt from to yi₀ area yi = to - yi
+μ-loop area₀ w yt from to cols parts g yi₀ area yi = to - yi
 
 loop-holds : tie.Need-loop-holds Inv-loop μ-loop
 loop-holds c = (search needs, search needs, (refl, sym (within-none (stepWay _ _) _ nan _)))
 
+left-column-requires : tie.Need-left-column-requires Inv-loop μ-loop
+left-column-requires c κs = search needs
+
 row-of-requires : tie.Need-row-of-requires Inv-loop μ-loop
 row-of-requires c κs = search needs
 
-add-row-requires : tie.Need-add-row-requires Inv-loop μ-loop
-add-row-requires c κs = search needs
+add-low-row-requires : tie.Need-add-low-row-requires Inv-loop μ-loop
+add-low-row-requires c κs = search needs
 
 add-yi : tie.Need-add-yi Inv-loop μ-loop
 add-yi c = search needs
@@ -37,12 +40,12 @@ loop-less c = search needs
 
 loop-again : tie.Need-loop-again Inv-loop μ-loop
 loop-again c =
-    let a = c .before .before .before .before .before .before .before .before .args in
+    let a = c .before .before .before .before .before .before .before .before .before .args in
     let l = c .before .before .before .before .before .before .loop in (
       omega arith,
       omega arith,
       row-more (a .w) (a .yt) (l .yi) (c .before .before .before .row-of .result) (c .before .before .before .row-of .ensures) (rowStart (a .from)) _ (l .area) _ (omega arith)
-          (l .inv .2) (c .before .before .add-row .ensures),
+          (l .inv .2) (c .before .before .add-low-row .ensures),
     )
 
 same-length : tie.Need-same-length Inv-loop μ-loop
@@ -50,7 +53,7 @@ same-length c = c .before .loop .inv .2 .0
 
 returns : tie.Need-returns Inv-loop μ-loop
 returns c =
-    let a = c .before .before .before .args in
+    let a = c .before .before .before .before .args in
     let l = c .before .loop in
     let n : l .yi ≡ a .to = omega arith in
     l .inv .2 .1 ∙ ap (λ (b : ℕ). mapi (within (rowStart (a .from)) (rowStart b) (stepWay (a .w) (a .yt))) (now (a .area))) n
@@ -61,9 +64,10 @@ add-few-spec =
     (tie.spec
     Inv-loop
     μ-loop
+    left-column-requires
     loop-holds
     row-of-requires
-    add-row-requires
+    add-low-row-requires
     add-yi
     loop-less
     loop-again

@@ -33,10 +33,13 @@ add-few-requires : tie.Need-add-few-requires
 add-few-requires c κs =
     let s = c .before .before .before .before .before in
     let a = s .before .before .before .before .before .before .before .before .args in
+    let a-pre = s .before .before .before .before .before .before .before .before .pre in
     let o = sym (c .before .before .only .ensures) ∙ c .before .if2 .taken in (
       tried-order (a .w) (a .yt) _ _ _ _ (s .before .before .before .before .pick .ensures) (s .before .before .pick2 .ensures) (s .before .edgeless .ensures) (s .if1 .taken) _ _ o,
       tried-tile (a .w) (a .yt) _ _ _ _ (s .before .before .before .before .pick .ensures) (s .before .before .pick2 .ensures) (s .before .edgeless .ensures) (s .if1 .taken) _ _ o,
       search needs,
+      a-pre .1,
+      a-pre .2,
     )
 
 same-length : tie.Need-same-length
@@ -49,7 +52,7 @@ returns c =
     let a = t .args in
     let o = sym (c .before .before .before .before .before .only .ensures) ∙ c .before .before .before .before .if2 .taken in
     tried-few (a .w) (a .yt) _ _ _ _ (s .before .before .before .before .pick .ensures) (s .before .before .pick2 .ensures) (s .before .edgeless .ensures) (s .if1 .taken) _ _ o _ _
-    (t .pre) (c .before .before .add-few .ensures)
+    (t .pre .0) (c .before .before .add-few .ensures)
 
 add-all-requires : tie.Need-add-all-requires
 add-all-requires c κs = search needs

@@ -32,13 +32,19 @@ turn segs first xt yt j l₀ l m s w p q inv e =
     ∙ ap (λ (n : ℕ). mapi (areaAfter segs first xt yt n) l₀) (sym (add-one j))
 
 abbrev Inv-loop : tie.InvT-loop
-Inv-loop area₀ segments first n xt yt j₀ area j = (j ≤ n) × (length area ≡ length area₀) × (area ≡ mapi (areaAfter segments first xt yt j) area₀)
+Inv-loop area₀ segments first n xt yt cols parts j₀ area j = (j ≤ n) × (length area ≡ length area₀) × (area ≡ mapi (areaAfter segments first xt yt j) area₀)
 
 abbrev μ-loop : tie.MeasureT-loop
-μ-loop area₀ segments first n xt yt j₀ area j = n - j
+μ-loop area₀ segments first n xt yt cols parts j₀ area j = n - j
 
 loop-holds : tie.Need-loop-holds Inv-loop μ-loop
-loop-holds c = (search needs, refl, none (now (c .before .before .args .segments)) (c .before .before .args .first) (c .before .before .args .xt) (c .before .before .args .yt) _)
+loop-holds c = (search needs, refl, none (now (c .before .before .before .before .args .segments)) (c .before .before .before .before .args .first) (c .before .before .before .before .args .xt) (c .before .before .before .before .args .yt) _)
+
+columns-requires : tie.Need-columns-requires Inv-loop μ-loop
+columns-requires c κs = search needs
+
+parts-requires : tie.Need-parts-requires Inv-loop μ-loop
+parts-requires c κs = search needs
 
 add-segment-at : tie.Need-add-segment-at Inv-loop μ-loop
 add-segment-at c = search needs
@@ -60,13 +66,13 @@ loop-less c = search needs
 
 loop-again : tie.Need-loop-again Inv-loop μ-loop
 loop-again c =
-    let s = c .before .before .before .before .before .before .before .before .before .before in
-    let t = c .before .before .before .before .before .before .before in (
+    let t = c .before .before .before .before .before .before .before .before .before in
+    let s = t .before .before .before .before .before in (
       search needs,
       ap length (c .before .before .add-segment .ensures) ∙ length-mapi _ _ ∙ t .loop .inv .1,
       turn (now (s .args .segments)) (s .args .first)
-          (s .args .xt) (s .args .yt) (t .loop .j) _ _ _ _ _ (c .before .before .before .before .segment-at .ensures)
-          (c .before .before .before .way-of .ensures) (t .loop .inv .2) (c .before .before .add-segment .ensures),
+          (s .args .xt) (s .args .yt) (t .loop .j) _ _ _ _ _ (c .before .before .before .before .before .before .segment-at .ensures)
+          (c .before .before .before .before .before .way-of .ensures) (t .loop .inv .2) (c .before .before .add-segment .ensures),
     )
 
 same-length : tie.Need-same-length Inv-loop μ-loop
@@ -74,7 +80,7 @@ same-length c = c .before .loop .inv .1
 
 returns : tie.Need-returns Inv-loop μ-loop
 returns c =
-    let s = c .before .before .before .before in
+    let s = c .before .before .before .before .before .before in
     c .before .loop .inv .2 ∙ ap (λ (m : ℕ). mapi (areaAfter (now (s .args .segments)) (s .args .first) (s .args .xt) (s .args .yt) m) (now (s .args .area)))
     (omega arith)
 
@@ -84,6 +90,8 @@ add-segments-spec =
     (tie.spec
     Inv-loop
     μ-loop
+    columns-requires
+    parts-requires
     loop-holds
     add-segment-at
     segment-at-requires
