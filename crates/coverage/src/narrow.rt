@@ -14,7 +14,7 @@ ghost use lib.ListN.{length};
 ghost use Rattle.lists.specs.Grid.{mapi, within};
 ghost use Rattle.coverage.specs.Tile.{tileWidth, tileHeight, tileSize, rowStart, rowEnd};
 ghost use Rattle.coverage.specs.Row.{slanted};
-ghost use Rattle.coverage.specs.Narrow.{lastSpan, columnList, partList, pixelAdded, fourAdded, fourPut, parted, Narrow};
+ghost use Rattle.coverage.specs.Narrow.{span, lastSpan, columnList, partList, pixelAdded, fourAdded, fourPut, parted, Narrow};
 
 // How many columns a span has, as a whole number and as a float; and the last column that one starts at.
 pub const SPAN: usize = 4;
@@ -131,7 +131,7 @@ pub fn four_added(
     g: usize,
     cols: &[f32; TILE_WIDTH],
 ) -> Four
-    requires { ⌜ (at + 4 ≤ length (now area)) × (g ≤ lastSpan) ⌝ }
+    requires { ⌜ (at + span ≤ length (now area)) × (g ≤ lastSpan) ⌝ }
     ensures { λ r. ⌜ r ≡ fourAdded p edge dy (now (area .entry)) at (now (cols .entry)) g ⌝ }
 {
     let n0 = pixel_added(area, p, edge, dy, at, g, cols);
@@ -158,7 +158,7 @@ pub fn add_parts(area: &mut [f32], edge: f32, dy: f32, yi: usize, g: usize, part
 
 // The four pixels from `at` on.
 pub fn put_four(area: &mut [f32], at: usize, four: Four)
-    requires { ⌜ at + 4 ≤ length (now area) ⌝ }
+    requires { ⌜ at + span ≤ length (now area) ⌝ }
     ensures { λ _. ⌜ now (area .exit) ≡ fourPut (now (area .entry)) at four ⌝ }
 {
     area[at] = four.n0;
