@@ -4,24 +4,24 @@
 --     left-of, right-of    what `addedOf` is left of a span and right of it
 --     narrow-row       the row
 use mathlib.Core.Path.{_≡_, refl, sym, ap, subst, _∙_}
-use mathlib.Core.Bool.{Bool, true, false, not, cond, _&&_, true≢false, false≢true}
+use mathlib.Core.Bool.{Bool, true, false, not, cond, _&&_, true≢false}
 use mathlib.Core.List.{List}
-use mathlib.Core.Logic.{_⊎_, inl, inr, ⊎-elim}
+use mathlib.Core.Logic.{inl, inr, ⊎-elim}
 use Prim.Native.Nat.{ℕ, zero, suc, _+_, _-_, _*_, _%_, _^_, _≤_, _<_, zero-le}
 use native.Mathlib.Nat.{mul-pos, zero-mul, mul-comm, zero-lt-suc}
 use native.Mathlib.Omega.{arith}
-use lib.Dec.{T, leb, ltb, eqb, lit<, lit≤}
+use lib.Dec.{T, leb, ltb, lit<, lit≤}
 use lib.ListN.{length, getD, set}
-use lib.IntN.{ℤ, pos, _+ℤ_, _-ℤ_, negℤ, natAbs}
+use lib.IntN.{ℤ, pos, _-ℤ_, natAbs}
 use lib.Ieee.{Float, nan, inf, fin, binary32, up, down, unlike, round, sum, add, sub, mul, div, neg, lt, eq, le, fits, isNan, ofBits, ofInt}
 use lib.Ieee.Bits.{ofBits-fits}
-use lib.Ieee.Fits.{up-pos, down-pos, sub-fits, add-fits}
+use lib.Ieee.Fits.{up-pos, down-pos, sub-fits}
 use lib.Ieee.Scale.{finite, round-same}
 use borrow.Author.Tests.{le-leb, le-ltb, lt-ltb, leb-true, ltb-true, ltb-false, ne-eqb}
 use Rattle.util.specs.Constants as Number
-use Rattle.float32.specs.Meaning.{minOf, maxOf, signOf}
+use Rattle.float32.specs.Meaning.{minOf, maxOf}
 use Rattle.float32.proofs.Alike.{IsZero, Alike, alike-then, alike-lt, alike-sum, alike-sub}
-use Rattle.float32.proofs.MinMax.{min-first, min-last, max-first, max-last, min-left, max-left, min-of-nan, max-of-nan, min-with-nan, max-with-nan}
+use Rattle.float32.proofs.MinMax.{min-first, min-last, max-last, min-left, max-left, min-of-nan, max-of-nan}
 use Rattle.float32.proofs.Order.{not-lt-of-le, le-left, le-right, lt-irreflexive}
 use Rattle.float32.proofs.Same.{sub-zero}
 use Rattle.float32.proofs.Tests as Test
@@ -49,11 +49,11 @@ use Rattle.coverage.proofs.Steps.{tiny, noneF, farLeft, some-left}
 
 -- ---- a part's ends
 smaller-first : (x y : Float) → lt (maxOf x y) (minOf x y) ≡ false
-smaller-first x y = go (isNan x) refl (isNan y) refl
+smaller-first x y = go (isNan x) refl
   where
-    go : (s : Bool) → isNan x ≡ s → (t : Bool) → isNan y ≡ t → lt (maxOf x y) (minOf x y) ≡ false
-    go true e t f = rw (max-of-nan x y e, min-of-nan x y e) (lt-irreflexive y)
-    go false e t f =
+    go : (s : Bool) → isNan x ≡ s → lt (maxOf x y) (minOf x y) ≡ false
+    go true e = rw (max-of-nan x y e, min-of-nan x y e) (lt-irreflexive y)
+    go false e =
         at-most-trans (minOf x y) x (maxOf x y) (no e) (not-lt-of-le (minOf x y) x (min-left x y (no e))) (not-lt-of-le x (maxOf x y) (max-left x y (no e)))
 
 pub ends-in-order : (w : Way) (r : Row) → lt (reachOf w r .right) (reachOf w r .left) ≡ false

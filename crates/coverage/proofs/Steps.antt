@@ -7,23 +7,22 @@ use mathlib.Core.Logic.{⊎-elim, inl, inr}
 use Prim.Native.Nat.{ℕ, zero, suc, _+_, _-_, _*_, _^_, _≤_, _<_}
 use native.Mathlib.Nat.{add-mul, mul-comm, mul-assoc, mul-right-comm, mul-one, one-mul, zero-mul, mul-pos, mul-le-mul-right, mul-le-mul-left, le-of-mul-le-mul-right, le-trans, le-of-eq, lt-of-lt-of-le}
 use native.Mathlib.Omega.{arith}
-use lib.Dec.{T, ltb, lit<, lit≤}
+use lib.Dec.{T, lit<}
 use lib.Pow.{pow-pos, pow-add, pow-mono, shl-lt}
 use lib.IntN.{ℤ, pos, negsuc}
-use lib.Ieee.{Float, nan, inf, fin, binary32, up, down, round, sum, add, sub, neg, lt, fits, isNan, ofBits}
+use lib.Ieee.{Float, nan, inf, fin, binary32, up, down, round, sum, add, sub, neg, lt, fits, ofBits}
 use lib.Ieee.Exact.{HasValue, round-exact}
 use lib.Ieee.Fits.{up-pos, down-pos}
-use lib.Ieee.Scale.{finite}
 use borrow.Author.Tests.{ltb-false}
 use Rattle.util.specs.Constants.{epsilon}
 use Rattle.float32.proofs.Alike.{IsZero, Alike, alike-sub, alike-lt}
 use Rattle.float32.proofs.Floors.{few-digits, not-low}
 use Rattle.float32.proofs.Tests.{below-or-not}
 use Rattle.float32.proofs.Whole.{round-no-nan}
-use Rattle.coverage.proofs.Rises.{Rd, sum-rd, rd-order, nought, sub-falls, at-most-trans}
+use Rattle.coverage.proofs.Rises.{sum-rd, rd-order, nought, sub-falls, at-most-trans}
 use Rattle.coverage.proofs.LowLaws.{sub-number}
 
--- the smallest float above 0, the float of epsilon, -0 and -15
+-- the smallest float above 0, epsilon, 0 and -15
 abbrev pub tiny : Float
 tiny = fin false 1 (negsuc 148)
 

@@ -10,6 +10,10 @@ use Rattle.util.specs.Constants.{zero, one}
 use Rattle.coverage.specs.Tile.{tileHeight}
 use Rattle.coverage.specs.declared.row.Way.{Way}
 
+-- a guess is below this
+abbrev pub guesses : ℕ
+guesses = 32
+
 -- the top of row yi, how far below it the segment starts, and how far below it ends
 abbrev pub topOf : Float → ℕ → Float
 topOf y-tile yi = add binary32 y-tile (ofInt binary32 (pos yi))

@@ -12,6 +12,10 @@ use Rattle.coverage.specs.Row.{rowOf, stepRow}
 use Rattle.coverage.specs.declared.row.Way.{Way}
 use Rattle.coverage.specs.declared.row.Row.{Row}
 
+-- so many rows are looked at by one test
+abbrev pub rowsAtOnce : ℕ
+rowsAtOnce = 4
+
 -- such a list before its numbers are known
 unfoldable pub noRows : List Float
 noRows = replicate tileHeight zero

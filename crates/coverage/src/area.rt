@@ -1,5 +1,6 @@
 // The areas of a tile's pixels, row by row, segment by segment, and what they end as: fine.rs, lines
 // 51 to 109.
+use crate::low::LOW;
 use crate::low::edgeless;
 use crate::low::guess;
 use crate::low::only;
@@ -17,6 +18,7 @@ use crate::row::reach_of;
 use crate::row::row_of;
 use crate::row::up_to_one;
 use crate::row::way_of;
+use crate::rows::ROWS_AT_ONCE;
 use crate::rows::four_clear;
 use crate::rows::no_rows;
 use crate::rows::row_at;
@@ -39,7 +41,7 @@ ghost use Rattle.lists.specs.Grid.{mapi, within};
 ghost use Rattle.panel.specs.Widths.{segmentFloats};
 ghost use Rattle.coverage.specs.Tile.{tileHeight, tileSize, rowStart, rowEnd};
 ghost use Rattle.coverage.specs.Row.{slanted, edged, stepRow, stepWay};
-ghost use Rattle.coverage.specs.Rows.{stepIn};
+ghost use Rattle.coverage.specs.Rows.{rowsAtOnce, stepIn};
 ghost use Rattle.coverage.specs.Narrow.{lastSpan, columnList, partList};
 ghost use Rattle.coverage.specs.Coverage.{areaAfter, finishOf, coverageOf};
 
@@ -142,8 +144,8 @@ pub fn add_four(
     edges: &[f32; TILE_HEIGHT],
     yi: usize,
 )
-    requires { ⌜ (yi + 4 ≤ tileHeight) × (length (now area) ≡ tileSize) ⌝ }
-    ensures { λ _. ⌜ now (area .exit) ≡ mapi (within (rowStart yi) (rowStart (yi + 4))
+    requires { ⌜ (yi + rowsAtOnce ≤ tileHeight) × (length (now area) ≡ tileSize) ⌝ }
+    ensures { λ _. ⌜ now (area .exit) ≡ mapi (within (rowStart yi) (rowStart (yi + rowsAtOnce))
         (stepIn w (now (ys .entry)) (now (y0s .entry)) (now (y1s .entry)) (now (dys .entry)) (now (edges .entry)))) (now (area .entry)) ⌝ }
 {
     let nothing = four_clear(dys, edges, yi);
@@ -151,7 +153,7 @@ pub fn add_four(
         return;
     }
     let mut k = 0usize;
-    while k < 4 {
+    while k < ROWS_AT_ONCE {
         let at = yi + k;
         add_row(area, w, row_at(ys, y0s, y1s, dys, edges, at), at);
         k += 1;
@@ -174,7 +176,7 @@ pub fn add_rows(
     let mut yi = 0usize;
     while yi < TILE_HEIGHT {
         add_four(area, w, ys, y0s, y1s, dys, edges, yi);
-        yi += 4;
+        yi += ROWS_AT_ONCE;
     }
 }
 
@@ -227,7 +229,7 @@ pub fn add_segment(
     let end = w.y + w.dy;
     let low = pick(end < w.y, end, w.y);
     let high = pick(end < w.y, w.y, end);
-    let flat = (0.0 <= low) & (high <= TILE_SIDE) & (high - low < 4.0) & edgeless(w, yt);
+    let flat = (0.0 <= low) & (high <= TILE_SIDE) & (high - low < LOW) & edgeless(w, yt);
     if flat {
         let from = guess(low - 0.5);
         let to = guess(high + 0.5);

@@ -11,7 +11,13 @@ ghost use Prim.Native.Nat.{_<_};
 ghost use lib.Dec.{T};
 ghost use lib.Ieee.{isNan};
 ghost use Rattle.coverage.specs.Tile.{tileHeight};
-ghost use Rattle.coverage.specs.Low.{aboveOf, belowOf, edgelessOf, onlyOf};
+ghost use Rattle.coverage.specs.Low.{guesses, aboveOf, belowOf, edgelessOf, onlyOf};
+
+// A segment is low that is less high than this, in rows.
+pub const LOW: f32 = 4.0;
+
+// A guess is one of so many numbers, from 0 on: more than a tile has rows or columns.
+pub const GUESSES: u32 = 32;
 
 // Whether row yi lies above the segment: then so do the rows above it.
 fn above(w: Way, yt: f32, yi: usize) -> bool
@@ -42,14 +48,14 @@ pub fn edgeless(w: Way, yt: f32) -> bool
 // A guess at the whole number nearest to y: SHIFT added, it stands in the last bits.
 pub fn guess(y: f32) -> usize
     requires { ⌜ T (not (isNan y)) ⌝ }
-    ensures { λ r. ⌜ r < 32 ⌝ }
+    ensures { λ r. ⌜ r < guesses ⌝ }
 {
-    (f32::to_bits(y + SHIFT) % 32) as usize
+    (f32::to_bits(y + SHIFT) % GUESSES) as usize
 }
 
 // Whether no row but those from .. to gets anything of a segment that has no y_edge.
 pub fn only(w: Way, yt: f32, from: usize, to: usize) -> bool
-    requires { ⌜ (from < 32) × (to < 32) ⌝ }
+    requires { ⌜ (from < guesses) × (to < guesses) ⌝ }
     ensures { λ r. ⌜ r ≡ onlyOf w yt from to ⌝ }
 {
     (from <= to)

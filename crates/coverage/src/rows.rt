@@ -7,8 +7,11 @@ use crate::tile::TILE_HEIGHT;
 ghost use mathlib.Core.Path.{_≡_};
 ghost use Prim.Native.Nat.{_+_, _≤_, _<_};
 ghost use Rattle.coverage.specs.Tile.{tileHeight};
-ghost use Rattle.coverage.specs.Rows.{noRows, column, rowIn, clearAt, fourClear};
+ghost use Rattle.coverage.specs.Rows.{rowsAtOnce, noRows, column, rowIn, clearAt, fourClear};
 ghost use Rattle.coverage.specs.declared.row.Row.{Row};
+
+// So many rows are looked at by one test.
+pub const ROWS_AT_ONCE: usize = 4;
 
 // Room for one number of each row.
 pub fn no_rows() -> [f32; TILE_HEIGHT]
@@ -76,7 +79,7 @@ fn clear(dys: &[f32; TILE_HEIGHT], edges: &[f32; TILE_HEIGHT], yi: usize) -> boo
 
 // Whether the four rows from yi on get nothing: one test, and no branch in it.
 pub fn four_clear(dys: &[f32; TILE_HEIGHT], edges: &[f32; TILE_HEIGHT], yi: usize) -> bool
-    requires { ⌜ yi + 4 ≤ tileHeight ⌝ }
+    requires { ⌜ yi + rowsAtOnce ≤ tileHeight ⌝ }
     ensures { λ r. ⌜ r ≡ fourClear (now (dys .entry)) (now (edges .entry)) yi ⌝ }
 {
     clear(dys, edges, yi)

@@ -1,5 +1,5 @@
 -- `coverage::narrow::add_parts` meets its contract. The invariant: the row's pixels left of i are done. Assumes nothing.
-use mathlib.Core.Path.{_≡_, refl, ap}
+use mathlib.Core.Path.{_≡_, ap}
 use mathlib.Core.List.{List}
 use Prim.Native.Nat.{ℕ, _+_, _-_, _*_, _%_, _≤_, _<_}
 use lib.ListN.{getD, set}
