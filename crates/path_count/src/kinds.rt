@@ -4,10 +4,11 @@ use panel::kinds::Running;
 // So many steps of a line are noted by its check; those past them are walked again by its write.
 pub const NOTE_WORDS: u32 = 256;
 
-// A line of so many steps at most is counted as it goes. Each step then has three notes: its word, and the two words that
-// stood where its reference is put.
+// A line of so many steps at most is counted as it goes.
 pub const FEW: u32 = 16;
 
+// Each step of such a line has so many notes: its word, and the two words that stood where its reference is put. There is
+// room for the notes of all of them.
 pub const STEP_NOTES: usize = 3;
 
 // A step that passes its check, with its z; or the number of its refusal.
