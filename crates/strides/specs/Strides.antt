@@ -1,9 +1,9 @@
 -- A walk's steps in whole numbers: what the functions tell each other. Only proofs lean on this: no promise of a public call does. Definitions only.
 use mathlib.Core.Path.{_≡_}
-use mathlib.Core.Bool.{Bool, cond}
-use Prim.Native.Nat.{ℕ, _+_, _-_}
+use mathlib.Core.Bool.{Bool, true, cond}
+use Prim.Native.Nat.{ℕ, _+_, _-_, _*_, _/_, _%_, _^_, _≤_}
 use lib.Dec.{eqb}
-use lib.Ieee.{Float, binary32, add, mul, lt, eq, toUnsigned}
+use lib.Ieee.{Float, binary32, add, mul, neg, lt, eq, ofBits, toUnsigned}
 use Rattle.float32.specs.Inner.{Within}
 use Rattle.util.specs.Constants.{zero, one}
 use Rattle.panel.specs.Kinds.{tileNoOf}
@@ -18,6 +18,7 @@ use Rattle.walk.specs.declared.step.Step.the-variants.{Tile}
 use Rattle.strides.specs.declared.Strides.{Strides}
 use Rattle.strides.specs.declared.Stride.{Stride}
 use Rattle.strides.specs.declared.Stride.the-variants.{At, Other}
+use Rattle.strides.specs.declared.Laid.{Laid}
 use Rattle.strides.specs.declared.Last.{Last}
 use Rattle.strides.specs.declared.Last.the-variants.{Z, Other as NoLast}
 
@@ -71,3 +72,29 @@ pub record Struck (p : Pace) (b : Path) (i t : ℕ) (marks : Bool) (z : ℕ) : T
 abbrev pub StrideMet : Pace → Path → ℕ → Stride → Type 0
 StrideMet p b i (At t marks z) = Struck p b i t marks z
 StrideMet p b i Other = Unit {0}
+
+-- 3 * 2 ^ 20: no z in a box is so far from 0
+abbrev pub farOff : Float
+farOff = ofBits binary32 0x4a40_0000
+
+-- v, or what no z in a box is where v is further from 0, or no number
+unfoldable pub heldOf : Float → Float
+heldOf v =
+    let u = cond (lt v farOff) v farOff in
+    cond (lt (neg farOff) u) u (neg farOff)
+
+-- the tile in a column and a row of the box
+abbrev pub ownAt : Strides → (col row : ℕ) → ℕ
+ownAt g col row = g .base - g .back + row * g .width + cond (eqb (g .twice) 2) col 0 - cond (eqb (g .twice) 2) 0 col
+
+-- no sum there is below 0, or large
+pub record Room (g : Strides) (col row : ℕ) : Type 0 where
+  pub backward : g .back ≤ g .base
+  pub base-few : g .base ≤ 2 ^ 21
+  pub rows-few : row * g .width ≤ 2 ^ 20
+  pub right-few : cond (eqb (g .twice) 2) col 0 ≤ 2 ^ 20
+  pub left-in : cond (eqb (g .twice) 2) 0 col ≤ g .base - g .back + row * g .width + cond (eqb (g .twice) 2) col 0
+
+-- where step i is told to be good, it is on the tile of its word, and marks as its word says
+abbrev pub LaidMet : Pace → Path → (i last : ℕ) → Laid → Type 0
+LaidMet p b i last r = r .good ≡ true → Before p i last → Struck p b i (r .word / 2) (eqb (r .word % 2) 1) (r .z)

@@ -3,13 +3,14 @@
 // what is out of the ordinary is left to `walk::step`. Where it says a tile, that is the step's.
 ghost use mathlib.Core.Path.{_≡_};
 ghost use mathlib.Core.Bool.{true, false, cond, _&&_};
-ghost use Prim.Native.Nat.{_<_};
+ghost use Prim.Native.Nat.{_+_, _*_, _<_};
 ghost use lib.Ieee.{lt};
 ghost use Rattle.float32.specs.Inner.{limit};
 ghost use Rattle.panel.specs.Widths.{stepRange};
 ghost use Rattle.exact.specs.Reach.{Starts};
 ghost use Rattle.walk.specs.Step.{Boxed};
-ghost use Rattle.strides.specs.Strides.{stridesOf, Before, LastMet, StrideMet};
+ghost use Rattle.strides.specs.Strides.{stridesOf, heldOf, ownAt, Room, Before, LastMet, StrideMet, LaidMet};
+use float32::pick;
 use panel::kinds::Path;
 use walk::kinds::Pace;
 use whole::ZERO;
@@ -17,6 +18,9 @@ use whole::floor_bits;
 
 // Below it in size a float is a whole number by its bits.
 const NEAR: f32 = 4194304.0;
+
+// So far from 0 is no z in a box.
+const FAR: f32 = 3145728.0;
 
 // A line's numbers over its path's box, whole. z stands with ZERO added, as `floor_bits` gives it. Columns go from the
 // box's left edge where x rises and from its right edge where it falls: the column is z - low, the row top + i - z, and
@@ -38,6 +42,14 @@ pub struct Strides {
 pub enum Stride {
     At(u32, bool, u32),
     Other,
+}
+
+// A step's tile and mark in one word, its tile twice and one more where it marks; its z; and whether the step is in the
+// box and as told. Where it isn't, word and z say nothing.
+pub struct Laid {
+    pub word: u32,
+    pub z: u32,
+    pub good: bool,
 }
 
 // z of the step before, or what stands for it at step 0: equal to that step's z where its top edge is crossed.
@@ -127,4 +139,43 @@ pub fn stride_at(p: Pace, b: Path, g: Strides, i: u32, last: u32) -> Stride
     let own = t + g.twice * x - (x + g.back);
     let marks = (z == last) & (z != g.edge);
     Stride::At(own, marks, z)
+}
+
+// v, or what no z in a box is where v is further from 0, or no number.
+fn held(v: f32) -> f32
+    ensures { λ r. ⌜ r ≡ heldOf v ⌝ }
+{
+    let u = pick(v < FAR, v, FAR);
+    pick(-FAR < u, u, -FAR)
+}
+
+// The tile in that column and row, twice, and one more where it marks.
+fn word_at(g: Strides, col: u32, row: u32, marks: bool) -> u32
+    requires { ⌜ Room g col row ⌝ }
+    ensures { λ r. ⌜ r ≡ ownAt g col row * 2 + cond marks 1 0 ⌝ }
+{
+    let rises = g.twice == 2;
+    let t = g.base - g.back + row * g.width;
+    let own = t + pick_u32(rises, col, 0) - pick_u32(rises, 0, col);
+    own * 2 + pick_u32(marks, 1, 0)
+}
+
+// Step i in the form that is done four at a time: no branch, and nothing wraps where the step is outside the box.
+pub fn laid_at(p: Pace, b: Path, g: Strides, i: u32, last: u32) -> Laid
+    requires { ⌜ Boxed b × (b .x0 < b .x1) × Starts (p .sign) (p .x0) (p .y0) × (i < stepRange) × (g ≡ stridesOf p b) ⌝ }
+    ensures { λ r. ⌜ LaidMet p b i last r ⌝ }
+{
+    let f = (i as i32) as f32;
+    let z = floor_bits(held(p.a * f + p.b));
+    let x = std::num::wrapping_sub_u32(z, g.low);
+    let y = std::num::wrapping_sub_u32(g.top + i, z);
+    let good = (x < g.width) & (y < g.height);
+    let col = pick_u32(good, x, 0);
+    let row = pick_u32(good, y, 0);
+    let marks = (z == last) & (z != g.edge);
+    Laid {
+        word: word_at(g, col, row, marks),
+        z,
+        good,
+    }
 }
