@@ -13,7 +13,7 @@ use lib.Seq.{getD-set-same, getD-set-other}
 use lib.IntN.{ℤ}
 use lib.Ieee.{Float, eq}
 use Rattle.float32.proofs.Tests.{below-or-not}
-use borrow.Author.Tests.{ltb-true, eqb-true, leb-true, leb-false}
+use borrow.Author.Tests.{ltb-true, eqb-true, eqb-false, leb-true, leb-false}
 use Rattle.panel.proofs.BoolLaws.{both}
 use Rattle.panel.specs.Widths.{stepRange}
 use Rattle.panel.specs.Paths.{widthOf, endOf}
@@ -27,6 +27,7 @@ use Rattle.walk.specs.declared.step.Step.{Step}
 use Rattle.walk.specs.declared.step.Step.the-variants.{Tile, Refused}
 use Rattle.walk.proofs.Tiles.{tile-in, mark-in, mark-right, tile-once}
 use Rattle.walk.proofs.Walks.{StartsAt}
+use Rattle.strides.specs.Strides.{Struck}
 use Rattle.panel.specs.Refusals.{outside}
 use Rattle.acts.specs.Acts.{Hit, on, off, checkNo, stepActs, stepsActs}
 use Rattle.acts.proofs.Laws.{check-off, steps-same}
@@ -149,6 +150,22 @@ word-next k tiles h = go (eqb (k % 2) 1) refl
     go true e = omega (arith, eqb-true (k % 2) 1 e)
     go false e = omega arith
 
+-- which is so many further
+pub word-mark : (k : ℕ) → cond (eqb (k % 2) 1) (k / 2 + 1) (k / 2) ≡ k / 2 + k % 2
+word-mark k = go (eqb (k % 2) 1) refl
+  where
+    go : (c : Bool) → eqb (k % 2) 1 ≡ c → cond c (k / 2 + 1) (k / 2) ≡ k / 2 + k % 2
+    go true e = omega (arith, eqb-true (k % 2) 1 e)
+    go false e = omega (arith, eqb-false (k % 2) 1 e)
+
+-- a step that is on its word's tile, and marks as the word says, is told by it
+pub struck-told : (w : Pace) (b : Path) (i k z : ℕ) → Struck w b i (k / 2) (eqb (k % 2) 1) z → Told (hitAt w b i) k (endOf b)
+struck-told w b i k z s =
+    record {
+      falls = hit-on w b i _ (s .x) (s .y) _ (s .falls) (lastZ w i) (eqb (k % 2) 1) refl (s .crosses);
+      below = omega (arith, word-mark k, next-below w b i _ (s .x) (s .y) _ (s .falls) (lastZ w i) (eqb (k % 2) 1) (s .crosses));
+    }
+
 -- what a step's check says, with its word
 pub noted-by : (v : Verdict) (u : Float) (k : ℕ) → notedBy (seenOf v u) k ≡ notedOf v u k
 noted-by Fine u k = refl
@@ -175,6 +192,10 @@ notes-turn f a i ks tiles k p l h t =
     let e : a + (i - a) ≡ i = omega arith in
     let g : i - a + 1 ≡ i + 1 - a = omega arith in
     subst (λ (n : ℕ). Notes f a n (set ks (i - a) k) tiles) g (notes-more f a (i - a) ks tiles k l h (subst (λ (n : ℕ). Told (f n) k tiles) (sym e) t))
+
+-- among more tiles
+pub notes-wider : (f : ℕ → Hit) (a n : ℕ) (ks : List ℕ) (tiles more : ℕ) → tiles ≤ more → Notes f a n ks tiles → Notes f a n ks more
+notes-wider f a n ks tiles more l h j g = let t = h j g in record { falls = t .falls; below = omega (arith, t .below, l) }
 
 pub not-fine : (n : ℕ) → Against n ≡ Fine → ⊥
 not-fine n e = let q : _≡_ {A = ℕ} 0 1 = cc in omega arith

@@ -7,55 +7,99 @@ ghost use mathlib.Core.Bool.{true};
 ghost use Prim.Native.Nat.{_-_, _<_, _≤_};
 ghost use lib.ListN.{length};
 ghost use Rattle.exact.specs.Reach.{Starts};
+ghost use Rattle.panel.specs.Paths.{endOf};
 ghost use Rattle.panel.specs.Widths.{stepRange};
 ghost use Rattle.panel.specs.declared.kinds.Verdict.the-variants.{Fine};
 ghost use Rattle.strides.specs.Strides.{stridesOf, Before};
-ghost use Rattle.acts.specs.Acts.{checkNo, stepsActs, deltaOf};
+ghost use Rattle.walk.specs.Step.{Boxed};
+ghost use Rattle.acts.specs.Acts.{checkNo, stepActs, stepsActs, deltaOf};
 ghost use Rattle.path_count.specs.Steps.{hitAt};
-ghost use Rattle.path_count.specs.Notes.{QuickMet, Notes, noteWords, OnTiles};
+ghost use Rattle.path_count.specs.Notes.{Told, Notes, noteWords, OnTiles};
 use super::checks::note_each;
-use super::checks::word_of;
-use super::kinds::Quick;
 use acts::leaves;
-use acts::next_if;
 use panel::kinds::Path;
 use panel::kinds::Verdict;
 use panel::limits::MOST_COUNT;
 use strides::Last;
-use strides::Stride;
 use strides::Strides;
+use strides::laid_at;
 use strides::last_of;
-use strides::stride_at;
 use strides::strides_of;
 use walk::kinds::Pace;
 
-// One step. Which steps mark can't be foretold, so nothing branches on it.
-fn quick_step(
+// Each step's word laid down, whether it is good or not: no branch and no early end, so the compiler does it four steps at a
+// time. Whether all were good.
+fn lay_steps(
     pace: Pace,
     path: Path,
     g: Strides,
+    from: u32,
+    to: u32,
+    first: u32,
+    notes: &mut [u32],
+) -> bool
+    requires { ⌜ Boxed path × (path .x0 < path .x1) × Starts (pace .sign) (pace .x0) (pace .y0) × (g ≡ stridesOf pace path) × Before pace «from» first
+        × («from» ≤ to) × (to ≤ stepRange) × (to - «from» ≤ length (now notes)) × (length (now notes) ≡ noteWords) ⌝ }
+    ensures { λ r. ⌜ (r ≡ true → Notes (hitAt pace path) «from» (to - «from») (now (notes .exit)) (endOf path)) ⌝ }
+{
+    let mut last = first;
+    let mut good = true;
+    let mut i = from;
+    while i < to {
+        let laid = laid_at(pace, path, g, i, last);
+        last = laid.z;
+        good = good & laid.good;
+        notes[(i - from) as usize] = laid.word;
+        i += 1;
+    }
+    good
+}
+
+// One step by its word. Which steps mark can't be foretold, so nothing branches on it.
+fn pass_step(
+    pace: Pace,
+    path: Path,
     up: bool,
     i: u32,
-    last: u32,
+    word: u32,
     backs: &[i32],
     counts: &[u32],
-) -> Quick
-    requires { ⌜ OnTiles path (length (now backs)) (length (now counts)) × (i < stepRange) × Starts (pace .sign) (pace .x0) (pace .y0)
-        × (g ≡ stridesOf pace path) × Before pace i last ⌝ }
-    ensures { λ r. ⌜ QuickMet pace path up i (now (backs .entry)) (now (counts .entry)) r ⌝ }
+) -> bool
+    requires { ⌜ OnTiles path (length (now backs)) (length (now counts)) × Told (hitAt pace path i) word (length (now backs)) ⌝ }
+    ensures { λ r. ⌜ (r ≡ true → checkNo (deltaOf up) (stepActs (hitAt pace path i) i) (now (backs .entry)) (now (counts .entry)) ≡ Fine) ⌝ }
 {
-    let Stride::At(tile, marks, z) = stride_at(pace, path, g, i, last) else {
-        return Quick::Other;
-    };
-    let own = tile as usize;
+    let own = (word / 2) as usize;
     if counts[own] >= MOST_COUNT {
-        return Quick::Other;
+        return false;
     }
-    let q = next_if(own, marks);
-    if leaves(backs[q], up) {
-        return Quick::Other;
+    let q = own + (word % 2) as usize;
+    !leaves(backs[q], up)
+}
+
+// Whether the steps from .. to, whose words these are, pass by their tiles' counts and backdrops.
+fn pass_steps(
+    pace: Pace,
+    path: Path,
+    up: bool,
+    from: u32,
+    to: u32,
+    backs: &[i32],
+    counts: &[u32],
+    notes: &[u32],
+) -> bool
+    requires { ⌜ OnTiles path (length (now backs)) (length (now counts)) × («from» ≤ to) × (to - «from» ≤ length (now notes)) × (length (now notes) ≡ noteWords)
+        × (to ≤ stepRange) × Notes (hitAt pace path) «from» (to - «from») (now notes) (length (now backs)) ⌝ }
+    ensures { λ r. ⌜ (r ≡ true → Fine ≡ checkNo (deltaOf up) (stepsActs (hitAt pace path) (to - «from») «from») (now (backs .entry)) (now (counts .entry))) ⌝ }
+{
+    let mut i = from;
+    while i < to {
+        let word = notes[(i - from) as usize];
+        if !pass_step(pace, path, up, i, word, backs, counts) {
+            return false;
+        }
+        i += 1;
     }
-    Quick::Passed(z, word_of(tile, marks))
+    true
 }
 
 // Whether all steps from .. to pass so; then each has its note.
@@ -74,25 +118,17 @@ pub fn quick_steps(
     ensures { λ r. ⌜ (r ≡ true → (Fine ≡ checkNo (deltaOf up) (stepsActs (hitAt pace path) (to - «from») «from») (now (backs .entry)) (now (counts .entry)))
         × Notes (hitAt pace path) «from» (to - «from») (now (notes .exit)) (length (now (backs .entry)))) ⌝ }
 {
-    if to <= from {
+    if (to <= from) | (path.x1 <= path.x0) {
         return false;
     }
     let g = strides_of(pace, path);
     let Last::Z(first) = last_of(pace, from) else {
         return false;
     };
-    let mut last = first;
-    let mut i = from;
-    while i < to {
-        let step = quick_step(pace, path, g, up, i, last, backs, counts);
-        let Quick::Passed(z, word) = step else {
-            return false;
-        };
-        last = z;
-        notes[(i - from) as usize] = word;
-        i += 1;
+    if !lay_steps(pace, path, g, from, to, first, notes) {
+        return false;
     }
-    true
+    pass_steps(pace, path, up, from, to, backs, counts, notes)
 }
 
 // The steps from .. to, in order, each with its note.

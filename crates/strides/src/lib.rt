@@ -172,9 +172,9 @@ pub fn laid_at(p: Pace, b: Path, g: Strides, i: u32, last: u32) -> Laid
     let good = (x < g.width) & (y < g.height);
     let col = pick_u32(good, x, 0);
     let row = pick_u32(good, y, 0);
-    let marks = (z == last) & (z != g.edge);
+    let crosses = (z == last) & (z != g.edge);
     Laid {
-        word: word_at(g, col, row, marks),
+        word: word_at(g, col, row, crosses),
         z,
         good,
     }
