@@ -1,12 +1,11 @@
 -- What the functions of counting tell each other of a walk's steps: what a check hands on, and what it notes for the write. Only proofs lean on
 -- this: no promise of a public call does. Definitions only.
 use mathlib.Core.Path.{_≡_}
-use mathlib.Core.Bool.{Bool, cond}
+use mathlib.Core.Bool.{cond}
 use mathlib.Core.List.{List}
 use Prim.Native.Nat.{ℕ, _+_, _-_, _*_, _/_, _%_, _≤_, _<_}
 use lib.Dec.{eqb, leb}
 use lib.ListN.{getD}
-use lib.IntN.{ℤ}
 use lib.Ieee.{Float}
 use Rattle.panel.specs.Limits.{mostTiles}
 use Rattle.panel.specs.Paths.{endOf}
@@ -16,13 +15,9 @@ use Rattle.panel.specs.declared.kinds.Verdict.the-variants.{Fine, Against}
 use Rattle.walk.specs.Num.{float}
 use Rattle.walk.specs.Step.{Boxed, zAt}
 use Rattle.walk.specs.declared.kinds.Pace.{Pace}
-use Rattle.strides.specs.Strides.{Before}
-use Rattle.acts.specs.Acts.{Hit, on, off, checkNo, stepActs, deltaOf}
-use Rattle.path_count.specs.Steps.{hitAt}
+use Rattle.acts.specs.Acts.{Hit, on, off}
 use Rattle.path_count.specs.declared.kinds.Noted.{Noted}
 use Rattle.path_count.specs.declared.kinds.Noted.the-variants.{Passed as NotedPassed, Against as NotedAgainst}
-use Rattle.path_count.specs.declared.kinds.Quick.{Quick}
-use Rattle.path_count.specs.declared.kinds.Quick.the-variants.{Passed as QuickPassed, Other}
 use Rattle.path_count.specs.declared.kinds.Seen.{Seen}
 use Rattle.path_count.specs.declared.kinds.Seen.the-variants.{Passed, Against as SeenAgainst}
 
@@ -55,11 +50,6 @@ notedOf (Against n) z k = NotedAgainst n
 abbrev pub notedBy : Seen → ℕ → Noted
 notedBy (Passed z) k = NotedPassed z k
 notedBy (SeenAgainst n) k = NotedAgainst n
-
--- what the check in whole numbers says of step i: the step passes, this is its word, and this is what the next step's z is held against; or nothing
-abbrev pub QuickMet : Pace → Path → Bool → ℕ → List ℤ → List ℕ → Quick → Type 0
-QuickMet w b up i bs cs (QuickPassed z k) = (checkNo (deltaOf up) (stepActs (hitAt w b i) i) bs cs ≡ Fine) × (k ≡ wordOf (hitAt w b i)) × Before w (i + 1) z
-QuickMet w b up i bs cs Other = Unit {0}
 
 -- where the step of a word falls
 abbrev pub hitBy : ℕ → Hit

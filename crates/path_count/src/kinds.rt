@@ -23,12 +23,6 @@ pub enum Noted {
     Against(u32),
 }
 
-// A step that passes its check in whole numbers, with its z and its word; or one to be looked at step by step.
-pub enum Quick {
-    Passed(u32, u32),
-    Other,
-}
-
 // A line inside its path's box counted, with the number of its references; or one to be walked.
 pub enum Direct {
     On(u32),
