@@ -194,7 +194,8 @@ pub fn add_all(area: &mut [f32], w: Way, yt: f32)
     add_rows(area, w, &ys, &y0s, &y1s, &dys, &edges);
 }
 
-// The rows from .. to of a segment.
+// The rows from .. to of a segment. Where its parts may lie is guessed once, before the rows: the addresses of the span's
+// pixels are known early then.
 pub fn add_few(
     area: &mut [f32],
     w: Way,
@@ -215,7 +216,8 @@ pub fn add_few(
     }
 }
 
-// A segment. One that is low and has no y_edge goes through its own rows only, where the guess at them is right.
+// A segment. One that is low and has no y_edge goes through its own rows only, where the guess at them is right. The lists
+// are those of `columns` and `parts`.
 pub fn add_segment(
     area: &mut [f32],
     w: Way,
@@ -242,7 +244,8 @@ pub fn add_segment(
     add_all(area, w, yt)
 }
 
-// The n segments from the first on, in order.
+// The n segments from the first on, in order. The two lists are made once and lent, as one made in each row would be
+// written there each time.
 pub fn add_segments(area: &mut [f32], segments: &[f32], first: usize, n: usize, xt: f32, yt: f32)
     requires { ⌜ (length (now area) ≡ tileSize) × (segmentFloats * (first + n) ≤ length (now segments)) ⌝ }
     ensures { λ _. ⌜ now (area .exit) ≡ mapi (areaAfter (now (segments .entry)) first xt yt n) (now (area .entry)) ⌝ }
