@@ -249,6 +249,11 @@ pub write-hit : (δ : ℤ) (l : ℕ) (p : Hit) (i : ℕ) (bs : List ℤ) (cs rs 
 write-hit δ l p i bs cs rs at h t true e bs′ cs′ rs′ ec er eb = write-cross δ l p i bs cs rs at h t true e bs′ cs′ rs′ ec er refl eb
 write-hit δ l p i bs cs rs at h t false e bs′ cs′ rs′ ec er eb = write-plain δ l p i bs cs rs at h t false e bs′ cs′ rs′ ec er refl eb
 
+-- a step's own tile is among so many where the one that it marks, or its own where it marks none, is
+pub own-below : (marks : Bool) (t n : ℕ) → cond marks (t + 1) t < n → t < n
+own-below true t n h = omega arith
+own-below false t n h = h
+
 -- ---- tiles of a box
 
 -- a tile of a box lies within its range

@@ -1,7 +1,7 @@
 -- Acts on the words of tiles: one act, and acts one after another.
 -- Assumes nothing.
 use mathlib.Core.Path.{_≡_, refl, sym, ap, _∙_, subst}
-use mathlib.Core.Bool.{Bool, true, false, cond}
+use mathlib.Core.Bool.{Bool, true, false}
 use mathlib.Core.List.{List, [], _∷_, _++_}
 use Prim.Native.Nat.{ℕ, _+_, _-_, _≤_, _<_, _^_}
 use native.Mathlib.Nat.{add-zero, add-assoc}
@@ -124,12 +124,6 @@ module _ (δ : ℤ) (i n t : ℕ) (ws : List ℕ) (h : t < n) (fits : n + n ≤ 
     where
       stopped : (l m : ℕ) → verdictOf (runActs δ l (visit t i ∷ []) (viewOf n ws m)) ≡ Against countOver
       stopped l m = rw (count-at n ws m fits t h ∙ sym is, le-ltb w mostCount g)
-
--- ---- a step on its tile
-
-pub own-below : (marks : Bool) (t n : ℕ) → cond marks (t + 1) t < n → t < n
-own-below true t n h = omega arith
-own-below false t n h = h
 
 -- ---- a turn: zs is to do, xs is done of it with the answer v, and ys is left
 

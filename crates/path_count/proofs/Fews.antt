@@ -3,10 +3,9 @@
 use mathlib.Core.Path.{_≡_, refl, sym, ap, _∙_, subst}
 use mathlib.Core.Bool.{Bool, true, false, not, cond, false≢true}
 use mathlib.Core.List.{List}
-use Prim.Native.Nat.{ℕ, zero, suc, _+_, _-_, _*_, _/_, _%_, _<_, _≤_}
+use Prim.Native.Nat.{ℕ, zero, suc, _+_, _-_, _*_, _<_, _≤_}
 use native.Mathlib.Numerals.{add-one}
 use native.Mathlib.Omega.{arith}
-use lib.Dec.{eqb}
 use lib.ListN.{length, getD, set, length-set}
 use lib.Seq.{getD-set-same, getD-set-other, set-getD, set-set, set-comm}
 use lib.IntN.{ℤ, pos, negsuc, _+ℤ_, +ℤ-assoc, +ℤ-idr}
@@ -19,10 +18,11 @@ use Rattle.panel.specs.Widths.{refWords, stepRange}
 use Rattle.panel.specs.declared.kinds.Path.{Path}
 use Rattle.walk.specs.declared.kinds.Pace.{Pace}
 use Rattle.strides.specs.Strides.{Before}
+use Rattle.strides.specs.Words.{wordOf, wordTile, wordMarks}
+use Rattle.strides.proofs.WordLaws.{tile-told, marks-told}
 use Rattle.acts.specs.Acts.{St, stOf, Hit, on, stepActs, stepsActs, runActs, isDone, deltaOf, packed}
 use Rattle.acts.proofs.Laws.{write-hit, run-ends, steps-end}
 use Rattle.path_count.specs.Steps.{hitAt}
-use Rattle.path_count.specs.Notes.{wordOf}
 use Rattle.path_count.specs.Few.{fewSteps, stepNotes, kept, Took, Came, Taken, Gone}
 
 -- ---- one step taken back
@@ -61,21 +61,13 @@ refs-back rs at l w a p ea ep =
     let e : at * refWords ≡ refWords * at = omega arith in
     words-back rs (refWords * at) l w a p (ea ∙ ap (λ (i : ℕ). getD rs i 0) e) (ep ∙ ap (λ (i : ℕ). getD rs (i + 1) 0) e)
 
--- the word of a step on a tile, read
-word-tile : (t : ℕ) (m : Bool) → wordOf (on t m) / 2 ≡ t
-word-tile t true = omega arith
-word-tile t false = omega arith
+-- t and m are what its word says
+module _ (up : Bool) (k a p at : ℕ) (s : St) (bs : List ℤ) (cs rs : List ℕ) (o : Took up k a p s (stOf bs cs rs (at + 1))) (t : ℕ) (et : t ≡ wordTile k) (m : Bool) (em : m ≡ wordMarks k) where
+  tile-is : t ≡ o .t
+  tile-is = et ∙ ap wordTile (o .word) ∙ tile-told (o .t) (o .m)
 
-word-mark : (t : ℕ) (m : Bool) → eqb (wordOf (on t m) % 2) 1 ≡ m
-word-mark t true = let r : (t * 2 + 1) % 2 ≡ 1 = omega arith in rw r
-word-mark t false = let r : (t * 2 + 0) % 2 ≡ 0 = omega arith in rw r
-
-module _ (up : Bool) (k a p at : ℕ) (s : St) (bs : List ℤ) (cs rs : List ℕ) (o : Took up k a p s (stOf bs cs rs (at + 1))) where
-  tile-is : k / 2 ≡ o .t
-  tile-is = ap (λ (x : ℕ). x / 2) (o .word) ∙ word-tile (o .t) (o .m)
-
-  mark-is : eqb (k % 2) 1 ≡ o .m
-  mark-is = ap (λ (x : ℕ). eqb (x % 2) 1) (o .word) ∙ word-mark (o .t) (o .m)
+  mark-is : m ≡ o .m
+  mark-is = em ∙ ap wordMarks (o .word) ∙ marks-told (o .t) (o .m)
 
   backs-are : bs ≡ cond (o .m) (set (s .backs) (o .t + 1) (getD (s .backs) (o .t + 1) (pos 0) +ℤ deltaOf up)) (s .backs)
   backs-are = ap (λ (x : St). x .backs) (o .left)
@@ -90,8 +82,8 @@ module _ (up : Bool) (k a p at : ℕ) (s : St) (bs : List ℤ) (cs rs : List ℕ
   refs-are = ap (λ (x : St). x .refs) (o .left) ∙ ap (λ (n : ℕ). putRef n (o .line) (o .packs) (s .refs)) (sym at-is)
 
   -- taken back so, it leaves what it was taken from
-  pub undoes : (bs′ : List ℤ) (cs′ rs′ : List ℕ) → cs′ ≡ set cs (k / 2) (getD cs (k / 2) 0 - 1)
-      → bs′ ≡ cond (eqb (k % 2) 1) (set bs (k / 2 + 1) (getD bs (k / 2 + 1) (pos 0) +ℤ deltaOf (not up))) bs
+  pub undoes : (bs′ : List ℤ) (cs′ rs′ : List ℕ) → cs′ ≡ set cs t (getD cs t 0 - 1)
+      → bs′ ≡ cond m (set bs (t + 1) (getD bs (t + 1) (pos 0) +ℤ deltaOf (not up))) bs
       → rs′ ≡ putRef at a p rs → stOf bs′ cs′ rs′ at ≡ s
   undoes bs′ cs′ rs′ ec eb er =
       let b : bs′ ≡ s .backs = eb ∙ rw (mark-is, tile-is, backs-are) (backs-back (s .backs) (o .t) (o .m) up (o .next)) in
@@ -101,26 +93,26 @@ module _ (up : Bool) (k a p at : ℕ) (s : St) (bs : List ℤ) (cs rs : List ℕ
       ∙ refs-back (s .refs) at (o .line) (o .packs) a p (o .named ∙ ap (lineAt (s .refs)) (sym at-is)) (o .packed ∙ ap (packedAt (s .refs)) (sym at-is)) in
       rw (b, c, r, at-is)
 
-  pub tile-lent : k / 2 < length cs
+  pub tile-lent : t < length cs
   tile-lent = rw (tile-is, counts-are, length-set (s .counts) (o .t) (getD (s .counts) (o .t) 0 + 1)) (o .tile)
 
   -- its tile was counted
-  pub counted-once : 1 ≤ getD cs (k / 2) 0
+  pub counted-once : 1 ≤ getD cs t 0
   counted-once = rw (tile-is, counts-are) (omega (arith, getD-set-same (s .counts) (o .t) (getD (s .counts) (o .t) 0 + 1) 0 (o .tile)))
 
-  lent : (m : Bool) (v : ℤ) → length (cond m (set (s .backs) (o .t + 1) v) (s .backs)) ≡ length (s .backs)
+  lent : (x : Bool) (v : ℤ) → length (cond x (set (s .backs) (o .t + 1) v) (s .backs)) ≡ length (s .backs)
   lent true v = length-set (s .backs) (o .t + 1) v
   lent false v = refl
 
-  pub next-lent : cond (eqb (k % 2) 1) (k / 2 + 1) (k / 2) < length bs
+  pub next-lent : cond m (t + 1) t < length bs
   next-lent = rw (mark-is, tile-is, backs-are, lent (o .m) (getD (s .backs) (o .t + 1) (pos 0) +ℤ deltaOf up)) (o .next)
 
   -- and its mark taken off leaves a backdrop that was there
-  pub mark-fits : eqb (k % 2) 1 ≡ true → inI32 (getD bs (k / 2 + 1) (pos 0) +ℤ deltaOf (not up)) ≡ true
+  pub mark-fits : m ≡ true → inI32 (getD bs (t + 1) (pos 0) +ℤ deltaOf (not up)) ≡ true
   mark-fits h =
-      let m : o .m ≡ true = sym mark-is ∙ h in
+      let e : o .m ≡ true = sym mark-is ∙ h in
       let v = getD (s .backs) (o .t + 1) (pos 0) in
-      rw (tile-is, rw m at backs-are, getD-set-same (s .backs) (o .t + 1) (v +ℤ deltaOf up) (pos 0) (rw m at (o .next)), mark-back v up) (rw m at (o .fits))
+      rw (tile-is, rw e at backs-are, getD-set-same (s .backs) (o .t + 1) (v +ℤ deltaOf up) (pos 0) (rw e at (o .next)), mark-back v up) (rw e at (o .fits))
 
   pub ref-lent : refWords * at + refWords ≤ length rs
   ref-lent =
@@ -206,7 +198,7 @@ state-is bs bs′ cs cs′ rs rs′ n eb ec er = rw (eb, ec, er)
 -- and, noted and written, it is taken
 module _ (w : Pace) (b : Path) (up : Bool) (l i at z t : ℕ) (m : Bool) (k a p : ℕ) (ks ks′ : List ℕ) (bs bs′ : List ℤ) (cs cs′ rs rs′ : List ℕ) where
   pub takes : Before w (i + 1) z → hitAt w b i ≡ on t m → getD cs t 0 < mostCount → (m ≡ true → inI32 (getD bs (t + 1) (pos 0) +ℤ deltaOf up) ≡ true)
-      → k ≡ wordOf (on t m) → a ≡ lineAt rs at → p ≡ packedAt rs at → ks′ ≡ kept i k a p ks
+      → k ≡ wordOf t m → a ≡ lineAt rs at → p ≡ packedAt rs at → ks′ ≡ kept i k a p ks
       → t < length cs → cond m (t + 1) t < length bs → inI32 (getD bs (cond m (t + 1) t) (pos 0)) ≡ true → refWords * at + refWords ≤ length rs
       → cs′ ≡ set cs t (getD cs t 0 + 1) → rs′ ≡ putRef at l (packed (getD cs t 0) i) rs → bs′ ≡ cond m (set bs (t + 1) (getD bs (t + 1) (pos 0) +ℤ deltaOf up)) bs
       → Taken w b up l i z ks ks′ (stOf bs cs rs at) (stOf bs′ cs′ rs′ (at + 1))

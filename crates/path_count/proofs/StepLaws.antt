@@ -4,7 +4,7 @@ use mathlib.Core.Path.{_≡_, refl, sym, ap, _∙_, subst}
 use mathlib.Core.Bool.{Bool, true, false, cond, _&&_}
 use mathlib.Core.Logic.{_⊎_, inl, inr}
 use mathlib.Core.List.{List}
-use Prim.Native.Nat.{ℕ, _+_, _-_, _*_, _/_, _%_, _≤_, _<_}
+use Prim.Native.Nat.{ℕ, _+_, _-_, _≤_, _<_}
 use native.Mathlib.Nat.{le-refl}
 use native.Mathlib.Omega.{arith}
 use lib.Dec.{eqb, ltb, leb}
@@ -13,7 +13,7 @@ use lib.Seq.{getD-set-same, getD-set-other}
 use lib.IntN.{ℤ}
 use lib.Ieee.{Float, eq}
 use Rattle.float32.proofs.Tests.{below-or-not}
-use borrow.Author.Tests.{ltb-true, eqb-true, eqb-false, leb-true, leb-false}
+use borrow.Author.Tests.{ltb-true, leb-true, leb-false}
 use Rattle.panel.proofs.BoolLaws.{both}
 use Rattle.panel.specs.Widths.{stepRange}
 use Rattle.panel.specs.Paths.{widthOf, endOf}
@@ -28,12 +28,14 @@ use Rattle.walk.specs.declared.step.Step.the-variants.{Tile, Refused}
 use Rattle.walk.proofs.Tiles.{tile-in, mark-in, mark-right, tile-once}
 use Rattle.walk.proofs.Walks.{StartsAt}
 use Rattle.strides.specs.Strides.{Struck}
+use Rattle.strides.specs.Words.{wordOf, wordTile, wordMarks}
+use Rattle.strides.proofs.WordLaws.{tile-told, marks-told}
 use Rattle.panel.specs.Refusals.{outside}
 use Rattle.acts.specs.Acts.{Hit, on, off, checkNo, stepActs, stepsActs}
 use Rattle.acts.proofs.Laws.{check-off, steps-same}
 use Rattle.acts.proofs.Plans.{Apart}
 use Rattle.path_count.specs.Steps.{hitOf, hitAt}
-use Rattle.path_count.specs.Notes.{seenOf, wordOf, notedOf, notedBy, hitsBy, Told, Notes, noteWords, notedTo, OnTiles}
+use Rattle.path_count.specs.Notes.{seenOf, wordBy, notedOf, notedBy, hitsBy, Told, Notes, noteWords, notedTo, OnTiles}
 use Rattle.path_count.specs.declared.kinds.Noted.{Noted}
 use Rattle.path_count.specs.declared.kinds.Noted.the-variants.{Passed as NotedPassed, Against as NotedAgainst}
 use Rattle.path_count.specs.declared.kinds.Seen.{Seen}
@@ -118,52 +120,29 @@ noted-against Fine u w n e = let q : _≡_ {A = ℕ} 0 1 = cc in absurd (omega a
 noted-against (Against m) u w n e = let q : m ≡ n = cc in ap Against q
 
 -- the word of a step on a tile says where it falls
-word-told : (t : ℕ) (c : Bool) (tiles : ℕ) → t + cond c 1 0 < tiles → Told (on t c) (wordOf (on t c)) tiles
-word-told t true tiles h =
-    let d : (t * 2 + 1) / 2 ≡ t = omega arith in
-    let r : (t * 2 + 1) % 2 ≡ 1 = omega arith in
-    record { falls = rw (d, r); below = omega arith }
-word-told t false tiles h =
-    let d : (t * 2 + 0) / 2 ≡ t = omega arith in
-    let r : (t * 2 + 0) % 2 ≡ 0 = omega arith in
-    record { falls = rw (d, r); below = omega arith }
+word-told : (t : ℕ) (c : Bool) (tiles : ℕ) → cond c (t + 1) t < tiles → Told (on t c) (wordOf t c) tiles
+word-told t c tiles h = record { falls = rw (tile-told t c, marks-told t c); below = rw (tile-told t c, marks-told t c) h }
 
 -- a step that passes its check is on a tile, and so its word tells
 pub step-noted : (w : Pace) (b : Path) (i : ℕ) (δ : ℤ) (bs : List ℤ) (cs : List ℕ) → OnTiles b (length bs) (length cs) → checkNo δ (stepActs (hitAt w b i) i) bs cs ≡ Fine
-    → Told (hitAt w b i) (wordOf (hitAt w b i)) (length bs)
+    → Told (hitAt w b i) (wordBy (hitAt w b i)) (length bs)
 step-noted w b i δ bs cs o e = go (hitAt w b i) refl
   where
-    below : (n : ℕ) (c : Bool) → Hitting w b i n c → n + cond c 1 0 < length bs
-    below n true a =
-        omega (arith, mark-in w b i (a .t) (a .x) (a .y) (a .z) (a .fell) (cross-right w b i (a .t) (a .x) (a .y) (a .z) (a .fell) (lastZ w i) true (a .marks) refl), a .number, o .within, o .paired)
-    below n false a = omega (arith, tile-in w b i (a .t) (a .x) (a .y) (a .z) (a .fell) .1, a .number, o .within, o .paired)
+    below : (n : ℕ) (c : Bool) → Hitting w b i n c → cond c (n + 1) n < length bs
+    below n c a =
+        let h : cond c (a .t .0 + 1) (a .t .0) < length bs = omega (arith, next-below w b i (a .t) (a .x) (a .y) (a .z) (a .fell) (lastZ w i) c (a .marks), o .within, o .paired) in
+        subst (λ (m : ℕ). cond c (m + 1) m < length bs) (a .number) h
 
-    go : (h : Hit) → hitAt w b i ≡ h → Told (hitAt w b i) (wordOf (hitAt w b i)) (length bs)
+    go : (h : Hit) → hitAt w b i ≡ h → Told (hitAt w b i) (wordBy (hitAt w b i)) (length bs)
     go off f = let v : Against outside ≡ Fine = check-off δ (hitAt w b i) i bs cs f ∙ e in let q : _≡_ {A = ℕ} 0 1 = cc in absurd (omega arith)
-    go (on n c) f = subst (λ (h : Hit). Told h (wordOf h) (length bs)) (sym f) (word-told n c (length bs) (below n c (hitting w b i n c f)))
-
--- the tile of a word's mark, or its own where it marks none
-pub word-next : (k tiles : ℕ) → k / 2 + k % 2 < tiles → cond (eqb (k % 2) 1) (k / 2 + 1) (k / 2) < tiles
-word-next k tiles h = go (eqb (k % 2) 1) refl
-  where
-    go : (c : Bool) → eqb (k % 2) 1 ≡ c → cond c (k / 2 + 1) (k / 2) < tiles
-    go true e = omega (arith, eqb-true (k % 2) 1 e)
-    go false e = omega arith
-
--- which is so many further
-pub word-mark : (k : ℕ) → cond (eqb (k % 2) 1) (k / 2 + 1) (k / 2) ≡ k / 2 + k % 2
-word-mark k = go (eqb (k % 2) 1) refl
-  where
-    go : (c : Bool) → eqb (k % 2) 1 ≡ c → cond c (k / 2 + 1) (k / 2) ≡ k / 2 + k % 2
-    go true e = omega (arith, eqb-true (k % 2) 1 e)
-    go false e = omega (arith, eqb-false (k % 2) 1 e)
+    go (on n c) f = subst (λ (h : Hit). Told h (wordBy h) (length bs)) (sym f) (word-told n c (length bs) (below n c (hitting w b i n c f)))
 
 -- a step that is on its word's tile, and marks as the word says, is told by it
-pub struck-told : (w : Pace) (b : Path) (i k z : ℕ) → Struck w b i (k / 2) (eqb (k % 2) 1) z → Told (hitAt w b i) k (endOf b)
+pub struck-told : (w : Pace) (b : Path) (i k z : ℕ) → Struck w b i (wordTile k) (wordMarks k) z → Told (hitAt w b i) k (endOf b)
 struck-told w b i k z s =
     record {
-      falls = hit-on w b i _ (s .x) (s .y) _ (s .falls) (lastZ w i) (eqb (k % 2) 1) refl (s .crosses);
-      below = omega (arith, word-mark k, next-below w b i _ (s .x) (s .y) _ (s .falls) (lastZ w i) (eqb (k % 2) 1) (s .crosses));
+      falls = hit-on w b i _ (s .x) (s .y) _ (s .falls) (lastZ w i) (wordMarks k) refl (s .crosses);
+      below = next-below w b i _ (s .x) (s .y) _ (s .falls) (lastZ w i) (wordMarks k) (s .crosses);
     }
 
 -- what a step's check says, with its word

@@ -13,11 +13,11 @@ use Rattle.panel.specs.Widths.{refWords}
 use Rattle.panel.specs.declared.kinds.Path.{Path}
 use Rattle.walk.specs.declared.kinds.Pace.{Pace}
 use Rattle.strides.specs.Strides.{Before}
+use Rattle.strides.specs.Words.{wordOf}
 use Rattle.strides.specs.declared.Last.{Last}
 use Rattle.strides.specs.declared.Last.the-variants.{Z, Other as NoLast}
-use Rattle.acts.specs.Acts.{St, stOf, on, stepActs, stepsActs, runActs, deltaOf}
+use Rattle.acts.specs.Acts.{St, stOf, stepActs, stepsActs, runActs, deltaOf}
 use Rattle.path_count.specs.Steps.{hitAt}
-use Rattle.path_count.specs.Notes.{wordOf}
 use Rattle.path_count.specs.declared.kinds.Direct.{Direct}
 use Rattle.path_count.specs.declared.kinds.Direct.the-variants.{On, Other}
 
@@ -38,7 +38,7 @@ pub record Took (up : Bool) (k a p : ℕ) (s s′ : St) : Type 0 where
   pub m : Bool
   pub line : ℕ
   pub packs : ℕ
-  pub word : k ≡ wordOf (on t m)
+  pub word : k ≡ wordOf t m
   pub tile : t < length (s .counts)
   pub next : cond m (t + 1) t < length (s .backs)
   pub fits : inI32 (getD (s .backs) (cond m (t + 1) t) (pos 0)) ≡ true

@@ -3,8 +3,8 @@
 use mathlib.Core.Path.{_≡_}
 use mathlib.Core.Bool.{cond}
 use mathlib.Core.List.{List}
-use Prim.Native.Nat.{ℕ, _+_, _-_, _*_, _/_, _%_, _≤_, _<_}
-use lib.Dec.{eqb, leb}
+use Prim.Native.Nat.{ℕ, _+_, _-_, _≤_, _<_}
+use lib.Dec.{leb}
 use lib.ListN.{getD}
 use lib.Ieee.{Float}
 use Rattle.panel.specs.Limits.{mostTiles}
@@ -15,6 +15,7 @@ use Rattle.panel.specs.declared.kinds.Verdict.the-variants.{Fine, Against}
 use Rattle.walk.specs.Num.{float}
 use Rattle.walk.specs.Step.{Boxed, zAt}
 use Rattle.walk.specs.declared.kinds.Pace.{Pace}
+use Rattle.strides.specs.Words.{wordOf, wordTile, wordMarks, wordNext}
 use Rattle.acts.specs.Acts.{Hit, on, off}
 use Rattle.path_count.specs.declared.kinds.Noted.{Noted}
 use Rattle.path_count.specs.declared.kinds.Noted.the-variants.{Passed as NotedPassed, Against as NotedAgainst}
@@ -37,11 +38,11 @@ pub record OnTiles (b : Path) (backs counts : ℕ) : Type 0 where
   pub paired : backs ≡ counts
   pub few : counts ≤ mostTiles
 
--- ---- what the check notes of a step for the write: its tile, and whether it marks, in one word
+-- ---- what the check notes of a step for the write: its word
 
-abbrev pub wordOf : Hit → ℕ
-wordOf (on t c) = t * 2 + cond c 1 0
-wordOf off = 0
+abbrev pub wordBy : Hit → ℕ
+wordBy (on t c) = wordOf t c
+wordBy off = 0
 
 abbrev pub notedOf : Verdict → Float → ℕ → Noted
 notedOf Fine z k = NotedPassed z k
@@ -53,12 +54,12 @@ notedBy (SeenAgainst n) k = NotedAgainst n
 
 -- where the step of a word falls
 abbrev pub hitBy : ℕ → Hit
-hitBy k = on (k / 2) (eqb (k % 2) 1)
+hitBy k = on (wordTile k) (wordMarks k)
 
 -- the word says where a step falls, and that tile and the one it marks are among those lent
 pub record Told (h : Hit) (k tiles : ℕ) : Type 0 where
   pub falls : h ≡ hitBy k
-  pub below : k / 2 + k % 2 < tiles
+  pub below : wordNext k < tiles
 
 -- the first n words are those of the steps from step a on
 abbrev pub Notes : (ℕ → Hit) → (a n : ℕ) → List ℕ → ℕ → Type 0

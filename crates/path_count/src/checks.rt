@@ -4,13 +4,12 @@ ghost use mathlib.Core.Path.{_≡_};
 ghost use Prim.Native.Nat.{_-_, _<_, _≤_};
 ghost use lib.ListN.{length};
 ghost use Rattle.exact.specs.Reach.{Starts};
-ghost use Rattle.panel.specs.Limits.{mostTiles};
 ghost use Rattle.panel.specs.Widths.{stepRange};
 ghost use Rattle.panel.specs.declared.kinds.Verdict.the-variants.{Fine};
 ghost use Rattle.walk.specs.Step.{lastZ, edgesOf};
-ghost use Rattle.acts.specs.Acts.{on, checkNo, stepActs, stepsActs, deltaOf};
+ghost use Rattle.acts.specs.Acts.{checkNo, stepActs, stepsActs, deltaOf};
 ghost use Rattle.path_count.specs.Steps.{hitAt};
-ghost use Rattle.path_count.specs.Notes.{zOf, seenOf, wordOf, notedOf, notedBy, Notes, noteWords, OnTiles};
+ghost use Rattle.path_count.specs.Notes.{zOf, seenOf, wordBy, notedOf, notedBy, Notes, noteWords, OnTiles};
 use super::kinds::Noted;
 use super::kinds::Seen;
 use acts::leaves;
@@ -21,6 +20,7 @@ use panel::limits::MOST_COUNT;
 use panel::refusals::COUNT_OVER;
 use panel::refusals::OUTSIDE;
 use panel::refusals::SUM_OVER;
+use strides::word_of;
 use walk::edges::Edges;
 use walk::edges::edges_of;
 use walk::edges::step_by;
@@ -92,14 +92,6 @@ pub fn check_steps(
     Verdict::Fine
 }
 
-// A step's tile, and whether it marks, in one word.
-pub fn word_of(t: u32, marks: bool) -> u32
-    requires { ⌜ t < mostTiles ⌝ }
-    ensures { λ r. ⌜ r ≡ wordOf (on t marks) ⌝ }
-{
-    if marks { t * 2 + 1 } else { t * 2 }
-}
-
 // What a step's check says, with its word.
 fn noted_of(seen: Seen, word: u32) -> Noted
     ensures { λ r. ⌜ r ≡ notedBy seen word ⌝ }
@@ -123,7 +115,7 @@ fn note_step(
 ) -> Noted
     requires { ⌜ OnTiles path (length (now backs)) (length (now counts)) × (i < stepRange) × («last_z» ≡ lastZ pace i)
         × Starts (pace .sign) (pace .x0) (pace .y0) × (edges ≡ edgesOf path) ⌝ }
-    ensures { λ r. ⌜ r ≡ notedOf (checkNo (deltaOf up) (stepActs (hitAt pace path i) i) (now (backs .entry)) (now (counts .entry))) (zOf pace i) (wordOf (hitAt pace path i)) ⌝ }
+    ensures { λ r. ⌜ r ≡ notedOf (checkNo (deltaOf up) (stepActs (hitAt pace path i) i) (now (backs .entry)) (now (counts .entry))) (zOf pace i) (wordBy (hitAt pace path i)) ⌝ }
 {
     let Step::Tile(tile, x, _, z) = step_by(pace, path, edges, i) else {
         return Noted::Against(OUTSIDE);

@@ -10,7 +10,6 @@ ghost use Rattle.strides.specs.Strides.{stridesOf, Before};
 ghost use Rattle.acts.specs.Acts.{St, stOf};
 ghost use Rattle.path_count.specs.Notes.{noteWords, OnTiles};
 ghost use Rattle.path_count.specs.Few.{fewSteps, kept, Took, Came, TakenMet, Gone, FewMet};
-use super::checks::word_of;
 use super::kinds::Direct;
 use super::kinds::STEP_NOTES;
 use acts::leaves;
@@ -30,6 +29,9 @@ use strides::Strides;
 use strides::last_of;
 use strides::stride_at;
 use strides::strides_of;
+use strides::word_marks;
+use strides::word_of;
+use strides::word_tile;
 use walk::kinds::Pace;
 
 // The three notes of step i: its word, and a reference's two words.
@@ -136,8 +138,8 @@ fn undo_step(
     ensures { λ _. ⌜ ((s : St) → Took up word line packed s (stOf (now (backs .entry)) (now (counts .entry)) (now (refs .entry)) (at + 1))
         → stOf (now (backs .exit)) (now (counts .exit)) (now (refs .exit)) at ≡ s) ⌝ }
 {
-    let t = (word / 2) as usize;
-    let marks = word % 2 == 1;
+    let t = word_tile(word) as usize;
+    let marks = word_marks(word);
     let c = counts[t];
     counts[t] = c - 1;
     mark_if(backs, t, marks, !up);

@@ -17,6 +17,7 @@ ghost use Rattle.path_count.specs.Steps.{hitAt};
 ghost use Rattle.path_count.specs.Notes.{Told, Notes, noteWords, OnTiles};
 use super::checks::note_each;
 use acts::leaves;
+use acts::next_if;
 use panel::kinds::Path;
 use panel::kinds::Verdict;
 use panel::limits::MOST_COUNT;
@@ -25,6 +26,8 @@ use strides::Strides;
 use strides::laid_at;
 use strides::last_of;
 use strides::strides_of;
+use strides::word_marks;
+use strides::word_tile;
 use walk::kinds::Pace;
 
 // Each step's word laid down, whether it is good or not: no branch and no early end, so the compiler does it four steps at a
@@ -68,11 +71,11 @@ fn pass_step(
     requires { ⌜ OnTiles path (length (now backs)) (length (now counts)) × Told (hitAt pace path i) word (length (now backs)) ⌝ }
     ensures { λ r. ⌜ (r ≡ true → checkNo (deltaOf up) (stepActs (hitAt pace path i) i) (now (backs .entry)) (now (counts .entry)) ≡ Fine) ⌝ }
 {
-    let own = (word / 2) as usize;
+    let own = word_tile(word) as usize;
     if counts[own] >= MOST_COUNT {
         return false;
     }
-    let q = own + (word % 2) as usize;
+    let q = next_if(own, word_marks(word));
     !leaves(backs[q], up)
 }
 

@@ -2,12 +2,13 @@
 // that the check noted, and of those past them, which are found again.
 ghost use mathlib.Core.Path.{_≡_};
 ghost use mathlib.Core.Bool.{true};
-ghost use Prim.Native.Nat.{ℕ, _+_, _-_, _*_, _/_, _%_, _<_, _≤_};
+ghost use Prim.Native.Nat.{ℕ, _+_, _-_, _*_, _<_, _≤_};
 ghost use lib.ListN.{length, getD};
 ghost use Rattle.lists.specs.Run.{done};
 ghost use Rattle.panel.specs.Limits.{mostSlots};
 ghost use Rattle.panel.specs.Widths.{refWords, stepRange};
 ghost use Rattle.walk.specs.Step.{lastZ};
+ghost use Rattle.strides.specs.Words.{wordNext};
 ghost use Rattle.acts.specs.Acts.{stOf, runActs, stepActs, stepsActs, isDone, deltaOf};
 ghost use Rattle.path_count.specs.Steps.{hitAt};
 ghost use Rattle.path_count.specs.Notes.{zOf, hitBy, hitsBy, noteWords, OnTiles};
@@ -16,6 +17,8 @@ use acts::visit;
 use panel::kinds::LineNo;
 use panel::kinds::Path;
 use panel::kinds::TileNo;
+use strides::word_marks;
+use strides::word_tile;
 use walk::kinds::Pace;
 use walk::step::Step;
 use walk::step::crosses;
@@ -94,14 +97,14 @@ fn write_noted(
     counts: &mut [u32],
     refs: &mut [u32],
 )
-    requires { ⌜ (word / 2 + word % 2 < length (now backs)) × (length (now backs) ≡ length (now counts)) × (i < stepRange)
+    requires { ⌜ (wordNext word < length (now backs)) × (length (now backs) ≡ length (now counts)) × (i < stepRange)
         × (refWords * at + refWords ≤ length (now refs)) × (at < mostSlots)
         × (isDone (runActs (deltaOf up) (line .0) (stepActs (hitBy word) i) (stOf (now backs) (now counts) (now refs) at)) ≡ true) ⌝ }
     ensures { λ _. ⌜ done (stOf (now (backs .exit)) (now (counts .exit)) (now (refs .exit)) (at + 1))
         ≡ runActs (deltaOf up) (line .0) (stepActs (hitBy word) i) (stOf (now (backs .entry)) (now (counts .entry)) (now (refs .entry)) at) ⌝ }
 {
-    let t = word / 2;
-    let marks = word % 2 == 1;
+    let t = word_tile(word);
+    let marks = word_marks(word);
     visit(TileNo(t), line, i, at, counts, refs);
     mark_if(backs, t as usize, marks, up);
 }
@@ -118,7 +121,7 @@ pub fn write_notes(
     counts: &mut [u32],
     refs: &mut [u32],
 )
-    requires { ⌜ ((j : ℕ) → j < to - «from» → getD (now notes) j 0 / 2 + getD (now notes) j 0 % 2 < length (now backs))
+    requires { ⌜ ((j : ℕ) → j < to - «from» → wordNext (getD (now notes) j 0) < length (now backs))
         × (length (now backs) ≡ length (now counts)) × («from» ≤ to) × («from» < to → to ≤ stepRange) × (to - «from» ≤ length (now notes)) × (length (now notes) ≡ noteWords)
         × (refWords * (made + (to - «from»)) ≤ length (now refs)) × (made + (to - «from») ≤ mostSlots)
         × (isDone (runActs (deltaOf up) (line .0) (stepsActs (hitsBy (now notes) «from») (to - «from») «from») (stOf (now backs) (now counts) (now refs) made)) ≡ true) ⌝ }

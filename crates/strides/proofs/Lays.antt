@@ -6,7 +6,7 @@
 use mathlib.Core.Path.{_≡_, refl, sym, ap, _∙_, subst}
 use mathlib.Core.Bool.{Bool, true, false, cond, not, _&&_, true≢false, false≢true}
 use mathlib.Core.Logic.{_⊎_, inl, inr}
-use Prim.Native.Nat.{ℕ, _+_, _-_, _*_, _/_, _%_, _^_, _≤_, _<_}
+use Prim.Native.Nat.{ℕ, _+_, _-_, _*_, _%_, _^_, _≤_, _<_}
 use native.Mathlib.Nat.{le-of-lt}
 use native.Mathlib.Omega.{arith}
 use lib.Dec.{eqb, ltb, lit<}
@@ -28,9 +28,10 @@ use Rattle.whole.proofs.Steps.{small-within}
 use Rattle.walk.specs.Num.{float}
 use Rattle.walk.specs.Step.{Boxed}
 use Rattle.walk.specs.declared.kinds.Pace.{Pace}
-use Rattle.strides.specs.Strides.{sumAt, farOff, heldOf, ownAt, Room, Before, Struck, LaidMet}
+use Rattle.strides.specs.Strides.{sumAt, farOff, heldOf, ownAt, Room, Before, Struck}
+use Rattle.strides.specs.Words.{wordOf, wordTile, wordMarks}
 use Rattle.strides.specs.declared.Strides.{Strides}
-use Rattle.strides.specs.declared.Laid.{Laid}
+use Rattle.strides.proofs.WordLaws.{tile-told, marks-told}
 use Rattle.strides.proofs.Laws.{col-few, edges-few, Grid, struck}
 
 -- ---- what is held
@@ -91,11 +92,6 @@ high-bits = refl
 low-bits : bitsOf (floorZ (cap true)) ≡ zeroBits - 3145728
 unfolding bitsOf floorZ
 low-bits = refl
-
--- ---- a word by its parts
-word-parts : (t : ℕ) (c : Bool) → ((t * 2 + cond c 1 0) / 2 ≡ t) × (eqb ((t * 2 + cond c 1 0) % 2) 1 ≡ c)
-word-parts t true = let r : (t * 2 + 1) % 2 ≡ 1 = omega arith in (omega arith, eq-eqb ((t * 2 + 1) % 2) 1 r)
-word-parts t false = (omega arith, ne-eqb ((t * 2 + 0) % 2) 1 (λ e. omega (arith, e)))
 
 module _ (p : Pace) (b : Path) (k : Boxed b) (l : Starts (p .sign) (p .x0) (p .y0)) (g : Strides) (q : Grid p b k l g) where
   -- the box's columns are not far off
@@ -185,13 +181,12 @@ module _ (p : Pace) (b : Path) (k : Boxed b) (l : Starts (p .sign) (p .x0) (p .y
 
       pub laid : (i : ℕ) → i < stepRange → (z : ℕ) → z ≡ bitsOf (floorZ (heldOf (sumAt p (float i)))) → (x + g .low) % 2 ^ 32 ≡ z → (y + z) % 2 ^ 32 ≡ g .top + i
           → (last col row word : ℕ) (marks : Bool) → col ≡ cond good x 0 → row ≡ cond good y 0 → marks ≡ (eqb z last && not (eqb z (g .edge)))
-          → word ≡ ownAt g col row * 2 + cond marks 1 0 → good ≡ true → Before p i last → Struck p b i (word / 2) (eqb (word % 2) 1) z
+          → word ≡ wordOf (ownAt g col row) marks → good ≡ true → Before p i last → Struck p b i (wordTile word) (wordMarks word) z
       laid i few z z-is x-is y-is last col row word marks c r m w e f =
           let n = inside e in
           let o = held-own (sumAt p (float i)) z x z-is x-is (n .0) in
           let cx : col ≡ x = c ∙ ap (λ (s : Bool). cond s x 0) e in
           let ry : row ≡ y = r ∙ ap (λ (s : Bool). cond s y 0) e in
-          let v : word ≡ ownAt g x y * 2 + cond marks 1 0 = w ∙ ap (λ (a : ℕ). ownAt g a row * 2 + cond marks 1 0) cx ∙ ap (λ (a : ℕ). ownAt g x a * 2 + cond marks 1 0) ry in
-          let t = word-parts (ownAt g x y) marks in
-          struck p b k l g q i few (o .0) z x y (o .1) x-is y-is (n .0) (n .1) last (word / 2) (eqb (word % 2) 1) f
-          (ap (λ (a : ℕ). a / 2) v ∙ t .0 ∙ own-same) (ap (λ (a : ℕ). eqb (a % 2) 1) v ∙ t .1 ∙ m)
+          let v : word ≡ wordOf (ownAt g x y) marks = w ∙ ap (λ (a : ℕ). wordOf (ownAt g a row) marks) cx ∙ ap (λ (a : ℕ). wordOf (ownAt g x a) marks) ry in
+          struck p b k l g q i few (o .0) z x y (o .1) x-is y-is (n .0) (n .1) last (wordTile word) (wordMarks word) f
+          (ap wordTile v ∙ tile-told (ownAt g x y) marks ∙ own-same) (ap wordMarks v ∙ marks-told (ownAt g x y) marks ∙ m)

@@ -1,7 +1,7 @@
 -- A walk's steps in whole numbers: what the functions tell each other. Only proofs lean on this: no promise of a public call does. Definitions only.
 use mathlib.Core.Path.{_≡_}
 use mathlib.Core.Bool.{Bool, true, cond}
-use Prim.Native.Nat.{ℕ, _+_, _-_, _*_, _/_, _%_, _^_, _≤_}
+use Prim.Native.Nat.{ℕ, _+_, _-_, _*_, _^_, _≤_}
 use lib.Dec.{eqb}
 use lib.Ieee.{Float, binary32, add, mul, neg, lt, eq, ofBits, toUnsigned}
 use Rattle.float32.specs.Inner.{Within}
@@ -15,6 +15,7 @@ use Rattle.walk.specs.Num.{float}
 use Rattle.walk.specs.Step.{zAt, stepOf, lastZ, crossOf}
 use Rattle.walk.specs.declared.kinds.Pace.{Pace}
 use Rattle.walk.specs.declared.step.Step.the-variants.{Tile}
+use Rattle.strides.specs.Words.{wordTile, wordMarks}
 use Rattle.strides.specs.declared.Strides.{Strides}
 use Rattle.strides.specs.declared.Stride.{Stride}
 use Rattle.strides.specs.declared.Stride.the-variants.{At, Other}
@@ -97,4 +98,4 @@ pub record Room (g : Strides) (col row : ℕ) : Type 0 where
 
 -- where step i is told to be good, it is on the tile of its word, and marks as its word says
 abbrev pub LaidMet : Pace → Path → (i last : ℕ) → Laid → Type 0
-LaidMet p b i last r = r .good ≡ true → Before p i last → Struck p b i (r .word / 2) (eqb (r .word % 2) 1) (r .z)
+LaidMet p b i last r = r .good ≡ true → Before p i last → Struck p b i (wordTile (r .word)) (wordMarks (r .word)) (r .z)

@@ -3,18 +3,25 @@
 // what is out of the ordinary is left to `walk::step`. Where it says a tile, that is the step's.
 ghost use mathlib.Core.Path.{_≡_};
 ghost use mathlib.Core.Bool.{true, false, cond, _&&_};
-ghost use Prim.Native.Nat.{_+_, _*_, _<_};
+ghost use Prim.Native.Nat.{_<_};
 ghost use lib.Ieee.{lt};
 ghost use Rattle.float32.specs.Inner.{limit};
 ghost use Rattle.panel.specs.Widths.{stepRange};
 ghost use Rattle.exact.specs.Reach.{Starts};
 ghost use Rattle.walk.specs.Step.{Boxed};
 ghost use Rattle.strides.specs.Strides.{stridesOf, heldOf, ownAt, Room, Before, LastMet, StrideMet, LaidMet};
+ghost use Rattle.strides.specs.Words.{wordOf};
 use float32::pick;
 use panel::kinds::Path;
 use walk::kinds::Pace;
 use whole::ZERO;
 use whole::floor_bits;
+
+mod words;
+
+pub use words::word_marks;
+pub use words::word_of;
+pub use words::word_tile;
 
 // Below it in size a float is a whole number by its bits.
 const NEAR: f32 = 4194304.0;
@@ -44,8 +51,8 @@ pub enum Stride {
     Other,
 }
 
-// A step's tile and mark in one word, its tile twice and one more where it marks; its z; and whether the step is in the
-// box and as told. Where it isn't, word and z say nothing.
+// A step's word (`words.rt`), its z, and whether the step is in the box and as told. Where it isn't, word and z say
+// nothing.
 pub struct Laid {
     pub word: u32,
     pub z: u32,
@@ -149,15 +156,15 @@ fn held(v: f32) -> f32
     pick(-FAR < u, u, -FAR)
 }
 
-// The tile in that column and row, twice, and one more where it marks.
+// The word of a step on the tile in that column and row.
 fn word_at(g: Strides, col: u32, row: u32, marks: bool) -> u32
     requires { ⌜ Room g col row ⌝ }
-    ensures { λ r. ⌜ r ≡ ownAt g col row * 2 + cond marks 1 0 ⌝ }
+    ensures { λ r. ⌜ r ≡ wordOf (ownAt g col row) marks ⌝ }
 {
     let rises = g.twice == 2;
     let t = g.base - g.back + row * g.width;
     let own = t + pick_u32(rises, col, 0) - pick_u32(rises, 0, col);
-    own * 2 + pick_u32(marks, 1, 0)
+    word_of(own, marks)
 }
 
 // Step i in the form that is done four at a time: no branch, and nothing wraps where the step is outside the box.

@@ -1,14 +1,12 @@
 -- `strides::word_at` meets its contract. Assumes nothing.
-use mathlib.Core.Bool.{Bool, true, false, cond}
-use Prim.Native.Nat.{_≤_}
 use native.Mathlib.Omega.{arith}
-use lib.Dec.{lit≤}
 use borrow.Author.Needs.{needs}
 use Rattle.strides.proofs.word_at.Statement.{statement}
 use Rattle.strides.proofs.word_at.Tie as tie
 use Rattle.strides.proofs.word_at.Reads as reads
 use Rattle.strides.proofs.word_at.Lts as lts
 use Rattle.strides.proofs.pick_u32.Reads as pick-u32-reads
+use Rattle.strides.proofs.words.word_of.Reads as word-of-reads
 
 sub-t : tie.Need-sub-t
 sub-t c = search needs
@@ -31,24 +29,13 @@ pick-u32-requires-2 c κs = search needs
 sub-own : tie.Need-sub-own
 sub-own c = search needs
 
-mul-result : tie.Need-mul-result
-mul-result c = search needs
-
-pick-u32-requires-3 : tie.Need-pick-u32-requires-3
-pick-u32-requires-3 c κs = search needs
-
-one-most : (t : Bool) → cond t 1 0 ≤ 1
-one-most true = lit≤ tt
-one-most false = lit≤ tt
-
-add-result : tie.Need-add-result
-add-result c =
-    let s = c .before .before .before .before .before .before in
-    let r = s .pre in
-    omega (arith, c .pick-u323 .ensures, one-most (s .args .marks), c .before .before .pick-u32 .ensures, r .base-few, r .rows-few, r .right-few)
+word-of-requires : tie.Need-word-of-requires
+word-of-requires c κs =
+    let r = c .before .before .before .before .before .pre in
+    omega (arith, c .before .pick-u32 .ensures, r .base-few, r .rows-few, r .right-few)
 
 returns : tie.Need-returns
-returns c = search needs
+returns c = cc
 
 pub word-at-spec : {M : Type 1} → statement M
 word-at-spec =
@@ -61,7 +48,5 @@ word-at-spec =
     add-own
     pick-u32-requires-2
     sub-own
-    mul-result
-    pick-u32-requires-3
-    add-result
+    word-of-requires
     returns)

@@ -4,7 +4,8 @@ use Prim.Native.Nat.{_+_, _<_, _≤_, _^_}
 use native.Mathlib.Omega.{arith}
 use mathlib.Core.Path.{_≡_, refl, sym, ap, _∙_}
 use lib.ListN.{length, getD}
-use Rattle.own_count.proofs.Ran.{own-below, turn-goes, turn-stays}
+use Rattle.acts.proofs.Laws.{own-below}
+use Rattle.own_count.proofs.Ran.{turn-goes, turn-stays}
 use mathlib.Core.List.{[], _∷_}
 use Rattle.acts.specs.Acts.{visit, crossActs, deltaOf}
 use borrow.Author.Needs.{needs}

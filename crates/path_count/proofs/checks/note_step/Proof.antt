@@ -15,7 +15,7 @@ use Rattle.acts.specs.Acts.{on, deltaOf, checkNo, stepActs}
 use Rattle.acts.proofs.Signs.{told}
 use Rattle.acts.proofs.Laws.{check-off, check-full, check-passes}
 use Rattle.path_count.specs.Steps.{hitAt}
-use Rattle.path_count.specs.Notes.{zOf, wordOf, notedOf, notedBy}
+use Rattle.path_count.specs.Notes.{zOf, wordBy, notedOf, notedBy}
 use Rattle.path_count.specs.declared.kinds.Noted.{Noted}
 use Rattle.path_count.specs.declared.kinds.Seen.{Seen}
 use Rattle.path_count.specs.declared.kinds.Noted.the-variants.{Passed}
@@ -30,6 +30,7 @@ use Rattle.path_count.proofs.checks.check_step.Reads as check-step-read
 use Rattle.acts.proofs.next_if.Reads as next-if-reads
 use Rattle.walk.proofs.step.crosses.Reads as crosses-reads
 use Rattle.walk.proofs.edges.step_by.Reads as step-by-reads
+use Rattle.strides.proofs.word_of.Reads as word-of-reads
 
 step-by-requires : tie.Need-step-by-requires
 step-by-requires c κs = search needs
@@ -43,7 +44,7 @@ enum-told c = search needs
 returns : tie.Need-returns
 returns c =
     let the-args = c .before .before .before .before .args in
-    ap (λ (v : Verdict). notedOf v (zOf (the-args .pace) (the-args .i)) (wordOf (hitAt (the-args .pace) (the-args .path) (the-args .i))))
+    ap (λ (v : Verdict). notedOf v (zOf (the-args .pace) (the-args .i)) (wordBy (hitAt (the-args .pace) (the-args .path) (the-args .i))))
     (check-off _ _ _ _ _ (hit-off (the-args .pace) (the-args .path) (the-args .i) (sym (c .before .before .step-by .ensures) ∙ c .enum-told .given .1)))
 
 cast-t : tie.Need-cast-t
@@ -71,7 +72,7 @@ returns-2 : tie.Need-returns-2
 returns-2 c =
     let the-args = c .before .before .before .before .before .before .before .before .args in
     let the-pre = c .before .before .before .before .before .before .before .before .pre in
-    ap (λ (v : Verdict). notedOf v (zOf (the-args .pace) (the-args .i)) (wordOf (hitAt (the-args .pace) (the-args .path) (the-args .i))))
+    ap (λ (v : Verdict). notedOf v (zOf (the-args .pace) (the-args .i)) (wordBy (hitAt (the-args .pace) (the-args .path) (the-args .i))))
     (check-full _ _ _ _ _ _ _ (hit-on (the-args .pace) (the-args .path) (the-args .i) _ _ _ _ (fell (c .before .before .before .before)) (the-args .last-z) _ (the-pre .2) refl) (c .if1 .taken))
 
 crosses-requires : tie.Need-crosses-requires
@@ -142,8 +143,8 @@ noted-of-requires c κs = search needs
 
 -- the word is the step's
 word : (c : tie.After-word-of) →
-    let s = c .before .before .before .before .before .before .before .before .before .before .before in c .word-of .result ≡ wordOf (hitAt (s .args .pace) (s .args .path) (s .args .i))
-word c = c .word-of .ensures ∙ ap wordOf (sym (hit (c .before .before)))
+    let s = c .before .before .before .before .before .before .before .before .before .before .before in c .word-of .result ≡ wordBy (hitAt (s .args .pace) (s .args .path) (s .args .i))
+word c = c .word-of .ensures ∙ ap wordBy (sym (hit (c .before .before)))
 
 returns-3 : tie.Need-returns-3
 returns-3 c =
@@ -162,7 +163,7 @@ returns-4 c =
     let h = hit (c .before .before .before .before .before) in
     ap (λ z. Passed z (c .before .before .before .word-of .result)) (sym (step-told (s .args .pace) (s .args .path) (s .args .i) _ _ _ _ (fell (the-before2)) .is-z))
     ∙ ap (Passed (zOf (s .args .pace) (s .args .i))) (word (c .before .before .before))
-    ∙ ap (λ (v : Verdict). notedOf v (zOf (s .args .pace) (s .args .i)) (wordOf (hitAt (s .args .pace) (s .args .path) (s .args .i))))
+    ∙ ap (λ (v : Verdict). notedOf v (zOf (s .args .pace) (s .args .i)) (wordBy (hitAt (s .args .pace) (s .args .path) (s .args .i))))
     (check-passes _ _ _ _ _ _ _ h (c .before .leaves .result) (c .before .before .before .before .before .before .if1 .left) (said (c .before))
     (none-leaves (c .before .before .before .before .before .crosses .result) (c .before .leaves .result) (c .if2 .left)))
 

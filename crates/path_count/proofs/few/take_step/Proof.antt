@@ -27,9 +27,9 @@ use Rattle.acts.proofs.next_if.Reads as next-if-reads
 use Rattle.acts.proofs.visit.Reads as visit-reads
 use Rattle.panel.proofs.refs.named_at.Reads as named-at-reads
 use Rattle.panel.proofs.refs.packed_at.Reads as packed-at-reads
-use Rattle.path_count.proofs.checks.word_of.Reads as word-of-reads
 use Rattle.path_count.proofs.few.keep.Reads as keep-reads
 use Rattle.strides.proofs.stride_at.Reads as stride-at-reads
+use Rattle.strides.proofs.word_of.Reads as word-of-reads
 
 stride-at-requires : tie.Need-stride-at-requires
 stride-at-requires c κs = let s = c .before .before .before in (s .pre .0 .boxed, s .pre .2, in-range (s .args .i) (s .pre .1), s .pre .3, s .pre .4)
