@@ -23,7 +23,7 @@ use Rattle.clip.specs.Page.{clippedOf}
 use Rattle.clip.specs.declared.Clip.{Clip}
 use Rattle.acts.specs.Acts.{Hit, on, off}
 use Rattle.acts.specs.Line.{Plan}
-use Rattle.path_count.specs.Steps.{hitOf, hitAt}
+use Rattle.hits.specs.Steps.{hitOf, hitAt}
 use Rattle.path_count.specs.Count.{planOf, Lent}
 use Rattle.path_count.proofs.Lines.{on-tiles, walkable, starts}
 use Rattle.made.specs.Made.{hitMade, planMade, walkMade, madeOf, stepMade, WalkFits}

@@ -28,15 +28,16 @@ use Rattle.acts.specs.Line.{planActs, planStep}
 use Rattle.acts.proofs.Laws.{rows-end}
 use Rattle.acts.proofs.Plans.{plan-visits, plan-marks}
 use Rattle.acts.proofs.Lines.{plan-fine}
-use Rattle.path_count.specs.Steps.{hitAt}
-use Rattle.path_count.specs.Notes.{hitsBy, Notes, noteWords, OnTiles}
-use Rattle.path_count.specs.Few.{FewMet}
+use Rattle.hits.specs.Steps.{hitAt}
+use Rattle.hits.specs.Notes.{hitsBy, Notes, noteWords, OnTiles}
+use Rattle.few_steps.specs.Few.{FewMet}
 use Rattle.path_count.specs.Direct.{DirectMet}
 use Rattle.path_count.specs.Count.{planBy, planOf, walkedStep, lineRan, tallyRan, Lent}
-use Rattle.path_count.specs.declared.kinds.Direct.{Direct}
-use Rattle.path_count.specs.declared.kinds.Direct.the-variants.{On, Other}
+use Rattle.few_steps.specs.declared.Direct.{Direct}
+use Rattle.few_steps.specs.declared.Direct.the-variants.{On, Other}
 use Rattle.path_count.specs.declared.kinds.Tallied.{Tallied}
-use Rattle.path_count.proofs.StepLaws.{apart, none-leaves, notes-acts}
+use Rattle.hits.proofs.StepLaws.{apart}
+use Rattle.hits.proofs.NoteLaws.{none-leaves, notes-acts}
 use Rattle.path_count.proofs.Lines.{on-tiles, walkable, starts, walk-done}
 
 -- three tests, none of which holds

@@ -37,11 +37,11 @@ use Rattle.acts.specs.Line.{Plan, planActs, planStep, haltIf}
 use Rattle.acts.proofs.Plans.{plan-visits, plan-marks}
 use Rattle.acts.proofs.Lines.{plan-far, plan-full, plan-refused, plan-fine, plan-done}
 use Rattle.acts.proofs.Whole.{plan-made}
-use Rattle.path_count.specs.Notes.{OnTiles}
+use Rattle.hits.specs.Notes.{OnTiles}
 use Rattle.path_count.specs.Count.{rowsBy, planBy, planOf, walkedStep, lineStep, lineRan, tallyRan, unwalkedOf, Lent, Walkable, Clipped}
 use Rattle.path_count.specs.declared.kinds.Tallied.{Tallied}
 use Rattle.path_count.specs.declared.kinds.Tallied.the-variants.{On, Against as TallyAgainst}
-use Rattle.path_count.proofs.StepLaws.{apart}
+use Rattle.hits.proofs.StepLaws.{apart}
 
 -- ---- a walk that a line has
 

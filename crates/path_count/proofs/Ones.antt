@@ -23,9 +23,9 @@ use Rattle.one_tile.specs.One.{Alone}
 use Rattle.acts.specs.Acts.{St, stOf, Act, visit, Hit, on, stepsActs, visited, runActs, deltaOf}
 use Rattle.acts.specs.Line.{planActs}
 use Rattle.acts.proofs.Laws.{rows-end}
-use Rattle.path_count.specs.Steps.{hitAt}
+use Rattle.hits.specs.Steps.{hitAt}
 use Rattle.path_count.specs.Count.{planBy, lineStep, lineRan}
-use Rattle.path_count.proofs.StepLaws.{hit-on}
+use Rattle.hits.proofs.StepLaws.{hit-on}
 use Rattle.path_count.proofs.Lines.{walk-done, line-walked}
 
 -- steps 0 up to 1, and no row

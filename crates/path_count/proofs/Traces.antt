@@ -20,7 +20,7 @@ use Rattle.walk.specs.Lent.{lineAt, walkedOf, walkAt}
 use Rattle.clip.specs.Page.{clippedOf}
 use Rattle.acts.specs.Acts.{rowActs, stepsActs, runActs}
 use Rattle.acts.specs.Line.{planStep, batchOf}
-use Rattle.path_count.specs.Steps.{hitAt}
+use Rattle.hits.specs.Steps.{hitAt}
 use Rattle.path_count.specs.Count.{planOf, lineStep, callAnswer, counted, Told}
 
 -- a box with its first tile, a line's ends, and the counts before; and then what the call tells

@@ -29,7 +29,7 @@ use Rattle.util.specs.declared.Vec2.{Vec2}
 use Rattle.acts.specs.Acts.{St, stOf}
 use Rattle.acts.specs.declared.rows.Rows.{Rows}
 use Rattle.acts.specs.Line.{Plan, planStep, haltIf, Refusal, batchOf}
-use Rattle.path_count.specs.Steps.{hitAt}
+use Rattle.hits.specs.Steps.{hitAt}
 use Rattle.path_count.specs.declared.kinds.Tallied.{Tallied}
 use Rattle.path_count.specs.declared.kinds.Tallied.the-variants.{On, Against}
 use Rattle.path_count.specs.declared.kinds.Counted.{Counted}

@@ -7,8 +7,8 @@ use Rattle.lists.specs.Run.{done}
 use Rattle.walk.specs.declared.kinds.Walked.{Walked}
 use Rattle.acts.specs.Acts.{stOf}
 use Rattle.path_count.specs.Count.{walkedStep, lineRan}
-use Rattle.path_count.specs.declared.kinds.Direct.{Direct}
-use Rattle.path_count.specs.declared.kinds.Direct.the-variants.{On, Other}
+use Rattle.few_steps.specs.declared.Direct.{Direct}
+use Rattle.few_steps.specs.declared.Direct.the-variants.{On, Other}
 
 -- the line whose walk is x is counted, with n references, and leaves what its acts make; or nothing is said, and what is lent is as it was
 abbrev pub DirectMet : Walked → (room l made : ℕ) → (bs : List ℤ) (cs rs : List ℕ) → (bs′ : List ℤ) (cs′ rs′ : List ℕ) → Direct → Type 0

@@ -1,5 +1,5 @@
 // One line that lies inside its path's box: its steps are checked in whole numbers and noted, then written by their words.
-// One of few steps is counted as it goes instead (`few.rt`). Nothing is refused here: where there is no room, or a step
+// One of few steps is counted as it goes instead (`few_steps`). Nothing is refused here: where there is no room, or a step
 // doesn't pass so, nothing is left written but notes, and the line is left to `line.rt`'s walk, which says what becomes of
 // it.
 ghost use mathlib.Core.Path.{_≡_};
@@ -7,18 +7,18 @@ ghost use Prim.Native.Nat.{_/_};
 ghost use lib.ListN.{length};
 ghost use Rattle.panel.specs.Widths.{refWords};
 ghost use Rattle.walk.specs.Lent.{walkAt};
-ghost use Rattle.path_count.specs.Notes.{noteWords};
+ghost use Rattle.hits.specs.Notes.{noteWords};
 ghost use Rattle.path_count.specs.Count.{Lent, There};
 ghost use Rattle.path_count.specs.Direct.{DirectMet};
-use super::few::count_few;
-use super::kinds::Direct;
-use super::kinds::FEW;
-use super::kinds::NOTE_WORDS;
-use super::quick::quick_steps;
-use super::writes::write_notes;
+use few_steps::Direct;
+use few_steps::FEW;
+use few_steps::count_few;
+use hits::NOTE_WORDS;
 use panel::kinds::LineNo;
 use panel::limits::MOST_SLOTS;
 use panel::widths::REF_WORDS;
+use quick_notes::quick_steps;
+use walk_steps::write_notes;
 use within::Within;
 use within::within_at;
 

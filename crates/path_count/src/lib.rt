@@ -2,13 +2,9 @@
 // A line is checked first and then written, so that a refused line changes nothing. A short one is counted as it goes, and
 // taken back where a step doesn't pass.
 mod call;
-mod checks;
 mod direct;
-mod few;
 mod kinds;
 mod line;
-mod quick;
-mod writes;
 
 pub use call::count;
 pub use call::count_checked;

@@ -31,7 +31,7 @@ use Rattle.segment.specs.Clips.{pieceOf}
 use Rattle.acts.specs.Acts.{Act, mark, visit, stop, Hit, on, off, rowActs, crossActs, stepActs, stepsActs}
 use Rattle.acts.specs.Rows.{rowsActs}
 use Rattle.acts.specs.Line.{planActs}
-use Rattle.path_count.specs.Steps.{hitOf, hitAt}
+use Rattle.hits.specs.Steps.{hitOf, hitAt}
 use Rattle.path_count.specs.Count.{planOf}
 use Rattle.theorems.specs.Drawn.{Drawn, drawnAt, drawn, walkOf, actsBy, isOf, ofPath}
 use Rattle.theorems.specs.Events.{Event, eventsIn, eventsAt, eventsOf}

@@ -34,7 +34,7 @@ use Rattle.clip.proofs.Laws.{clip-left}
 use Rattle.acts.specs.Acts.{Act, mark, visit, stop, Hit, on, off, rowActs, crossActs, stepActs, stepsActs, deltaOf}
 use Rattle.acts.specs.Line.{planActs}
 use Rattle.acts.proofs.Once as Once
-use Rattle.path_count.specs.Steps.{hitOf, hitAt}
+use Rattle.hits.specs.Steps.{hitOf, hitAt}
 use Rattle.path_count.specs.Count.{planOf}
 use Rattle.theorems.specs.Drawn.{Drawn, walkOf, actsBy, deltaBy, marksIn, marksOf}
 use Rattle.theorems.proofs.Isolation.{addIf, marksAt}

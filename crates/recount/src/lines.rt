@@ -6,7 +6,7 @@ ghost use Rattle.panel.specs.Paths.{pathCount};
 ghost use Rattle.panel.specs.Widths.{refWords, lineFloats};
 ghost use Rattle.panel.specs.Lines.{lineAt};
 ghost use Rattle.acts.specs.Acts.{stOf};
-ghost use Rattle.path_count.specs.Notes.{noteWords};
+ghost use Rattle.hits.specs.Notes.{noteWords};
 ghost use Rattle.path_count.specs.Count.{lineRan, tallyRan, toldOf, Lent, There};
 ghost use Rattle.recount.specs.Recount.{otherNo, ownStep, linesRan, linesTold, paperOf, madeOf};
 use super::kinds::Recounted;

@@ -40,7 +40,7 @@ use Rattle.acts.proofs.Once as Once
 use Rattle.acts.proofs.Once.{Free, Once}
 use Rattle.acts.proofs.Plans.{plan-marks, plan-visits}
 use Rattle.path_count.specs.Count.{planOf, planBy, lineStep, batch, Lent}
-use Rattle.path_count.proofs.StepLaws.{apart}
+use Rattle.hits.proofs.StepLaws.{apart}
 use Rattle.path_count.proofs.Lines.{not-far, starts, walkable, on-tiles, left}
 use Rattle.theorems.specs.Drawn.{drawnAt, drawn, actsBy, deltaBy, marksIn, marksOf}
 use Rattle.theorems.specs.Refs.{AllCounted}

@@ -36,7 +36,7 @@ use Rattle.acts.specs.Acts.{St, Act, mark, visit, stop, Hit, on, off, rowActs, 
 use Rattle.acts.specs.Rows.{rowsActs}
 use Rattle.acts.specs.Line.{Plan, planActs}
 use Rattle.acts.proofs.Laws.{steps-turn, steps-halves}
-use Rattle.path_count.specs.Steps.{hitOf, hitAt}
+use Rattle.hits.specs.Steps.{hitOf, hitAt}
 use Rattle.path_count.specs.Count.{planOf}
 use Rattle.theorems.specs.Refusing.{BadCoordinate, BadEnds, zOf, columnOf, rowOf, Off, StepOutside, EndOutside, StopsAt, actsBefore}
 

@@ -35,7 +35,7 @@ use Rattle.acts.specs.Line.{Plan, planActs, haltIf, tooFar, planStep}
 use Rattle.acts.specs.declared.rows.Rows.{Rows}
 use Rattle.acts.proofs.Laws.{row-below}
 use Rattle.acts.proofs.Whole.{plan-taken, plan-refs}
-use Rattle.path_count.specs.Steps.{hitAt, hitOf}
+use Rattle.hits.specs.Steps.{hitAt, hitOf}
 use Rattle.path_count.proofs.Lines.{not-far}
 use Rattle.path_count.specs.Count.{rowsBy, planBy, planOf, walkedStep, lineStep}
 use Rattle.theorems.specs.Drawn.{actsBy, deltaBy}

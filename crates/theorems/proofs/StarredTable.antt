@@ -17,7 +17,7 @@ use Rattle.walk.specs.Lent.{lineAt, walkedOf, walkAt}
 use Rattle.clip.specs.Page.{clippedOf}
 use Rattle.acts.specs.Acts.{rowActs, stepsActs, runActs}
 use Rattle.acts.specs.Line.{planStep, batchOf}
-use Rattle.path_count.specs.Steps.{hitAt}
+use Rattle.hits.specs.Steps.{hitAt}
 use Rattle.path_count.specs.Count.{planOf, lineStep, callAnswer, counted}
 use Rattle.hand_out.specs.HandOut.{handOutOf}
 use Rattle.segment.specs.Clips.{cornerOf, farOf, atRowOf, atColOf, clipOf, makeOf, edgeOf, offOf, turnOf, firstOf, lastOf, segmentOf, pieceOf}

@@ -6,7 +6,7 @@ use native.Mathlib.Nat.{zero-add}
 use native.Mathlib.Omega.{arith}
 use Rattle.acts.specs.Acts.{stepsActs, deltaOf}
 use Rattle.acts.specs.Rows.{rowsActs}
-use Rattle.path_count.specs.Steps.{hitAt}
+use Rattle.hits.specs.Steps.{hitAt}
 use Rattle.path_count.specs.Count.{rowsBy}
 use Rattle.path_count.proofs.Lines.{rows-in}
 use Rattle.own_count.proofs.Ran.{turn-goes, turn-stays}

@@ -9,7 +9,7 @@ use Rattle.walk.specs.declared.step.Step.the-variants.{Tile}
 use Rattle.walk.proofs.Counts.{in-float}
 use Rattle.walk.proofs.Tiles.{step-told}
 use Rattle.acts.specs.Acts.{Hit, stepActs, deltaOf}
-use Rattle.path_count.proofs.StepLaws.{hit-off, hit-on, next-below}
+use Rattle.hits.proofs.StepLaws.{hit-off, hit-on, next-below}
 use Rattle.own_count.specs.View.{Acted}
 use Rattle.own_count.proofs.Ran.{acts-off}
 use borrow.Author.Needs.{needs}

@@ -13,7 +13,7 @@ use Rattle.own_count.specs.View.{Acted}
 use Rattle.own_count.proofs.Ran.{turn-goes, turn-stops, turn-ends}
 use Rattle.acts.specs.Acts.{stepsActs, deltaOf}
 use Rattle.acts.proofs.Laws.{steps-turn, steps-end}
-use Rattle.path_count.specs.Steps.{hitAt}
+use Rattle.hits.specs.Steps.{hitAt}
 use Rattle.own_count.proofs.steps.own_steps.Statement.{statement}
 use Rattle.own_count.proofs.steps.own_steps.Tie as tie
 use Rattle.own_count.proofs.steps.own_steps.Reads as reads

@@ -10,7 +10,7 @@ use Rattle.panel.specs.Widths.{refWords}
 use Rattle.panel.specs.declared.kinds.Running.{Running}
 use Rattle.acts.specs.Acts.{St, stOf}
 use Rattle.acts.proofs.Lines.{batch-goes, batch-stops, batch-ends}
-use Rattle.path_count.specs.Notes.{noteWords}
+use Rattle.hits.specs.Notes.{noteWords}
 use Rattle.path_count.specs.Count.{lineStep, lineRan, tallyRan, numberOf, batch, Lent}
 use Rattle.path_count.specs.declared.kinds.Tallied.{Tallied}
 use Rattle.path_count.specs.declared.kinds.Tallied.the-variants.{On, Against}

@@ -11,15 +11,15 @@ use Rattle.one_tile.proofs.Ones.{boxes}
 use Rattle.within.specs.Within.{Unclipped, WithinMet}
 use Rattle.within.specs.declared.Within.{Within}
 use Rattle.acts.specs.Acts.{stOf}
-use Rattle.path_count.specs.Notes.{noteWords}
+use Rattle.hits.specs.Notes.{noteWords}
 use Rattle.path_count.proofs.Directs.{none, few, on-box, starting, direct-fine, direct-done, direct-few}
 use Rattle.path_count.proofs.direct.count_direct.Statement.{statement}
 use Rattle.path_count.proofs.direct.count_direct.Tie as tie
 use Rattle.path_count.proofs.direct.count_direct.Reads as reads
 use Rattle.path_count.proofs.direct.count_direct.Lts as lts
-use Rattle.path_count.proofs.few.count_few.Reads as count-few-reads
-use Rattle.path_count.proofs.quick.quick_steps.Reads as quick-steps-reads
-use Rattle.path_count.proofs.writes.write_notes.Reads as write-notes-reads
+use Rattle.few_steps.proofs.count_few.Reads as count-few-reads
+use Rattle.quick_notes.proofs.quick_steps.Reads as quick-steps-reads
+use Rattle.walk_steps.proofs.write_notes.Reads as write-notes-reads
 use Rattle.within.proofs.within_at.Reads as within-at-reads
 
 within-at-requires : tie.Need-within-at-requires

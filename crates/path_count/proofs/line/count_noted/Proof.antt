@@ -18,10 +18,10 @@ use Rattle.walk.proofs.kinds.Walked.{the-type}
 use Rattle.one_tile.specs.One.{Alone, OneMet}
 use Rattle.one_tile.specs.declared.One.{One}
 use Rattle.acts.specs.Acts.{St, stOf}
-use Rattle.path_count.specs.Notes.{OnTiles}
+use Rattle.hits.specs.Notes.{OnTiles}
 use Rattle.path_count.specs.Count.{lineRan}
 use Rattle.path_count.specs.Direct.{DirectMet}
-use Rattle.path_count.specs.declared.kinds.Direct.{Direct}
+use Rattle.few_steps.specs.declared.Direct.{Direct}
 use Rattle.path_count.proofs.Lines.{on-tiles, walkable, line-over, line-walked}
 use Rattle.path_count.proofs.Ones.{line-one}
 use Rattle.path_count.proofs.Directs.{same-tally, same-walk}

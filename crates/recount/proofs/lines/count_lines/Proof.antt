@@ -11,7 +11,7 @@ use Rattle.panel.specs.Widths.{refWords}
 use Rattle.acts.specs.Acts.{St, stOf}
 use Rattle.acts.specs.Line.{batchOf}
 use Rattle.acts.proofs.Lines.{batch-goes, batch-stops, batch-ends}
-use Rattle.path_count.specs.Notes.{noteWords}
+use Rattle.hits.specs.Notes.{noteWords}
 use Rattle.path_count.specs.Count.{lineRan, tallyRan, Lent, toldOf}
 use Rattle.path_count.specs.declared.kinds.Tallied.{Tallied}
 use Rattle.path_count.proofs.Lines.{ran-taken, ran-halted}

@@ -1,0 +1,2 @@
+-- Laws of the checks of a walk's steps. Assumes nothing.
+pub mod CheckLaws
