@@ -7,6 +7,8 @@
 --     Tiles   no tile twice in a line, and one tile for counting and tiling
 --     Walks   what is known of a line that is walked
 --     AroundLaws  what the set-up of a line stands on
+--     Corners   a step's column and row as floats, with no cast and back
+--     CarryLaws   what is carried from a step is the next step's
 pub mod Counts
 pub mod Boxes
 pub mod Lines
@@ -15,3 +17,5 @@ pub mod Sides
 pub mod Tiles
 pub mod Walks
 pub mod AroundLaws
+pub mod Corners
+pub mod CarryLaws

@@ -5,7 +5,8 @@ ghost use mathlib.Core.Path.{_≡_};
 ghost use Prim.Native.Nat.{_<_};
 ghost use Rattle.panel.specs.Widths.{stepRange};
 ghost use Rattle.exact.specs.Reach.{Starts};
-ghost use Rattle.walk.specs.Step.{Boxed, edgesOf, stepOf};
+ghost use Rattle.walk.specs.Num.{float};
+ghost use Rattle.walk.specs.Step.{Boxed, zAt, edgesOf, stepOf};
 use super::kinds::Pace;
 use super::step::Step;
 use super::step::tile_at;
@@ -31,13 +32,12 @@ pub fn edges_of(b: Path) -> Edges
     }
 }
 
-// One is added before a cast, since -0 isn't cast without loss.
-pub fn step_by(p: Pace, b: Path, g: Edges, i: u32) -> Step
-    requires { ⌜ Boxed b × (i < stepRange) × Starts (p .sign) (p .x0) (p .y0) × (g ≡ edgesOf b) ⌝ }
+// The step whose z is at hand. One is added before a cast, since -0 isn't cast without loss.
+pub fn step_with(p: Pace, b: Path, g: Edges, i: u32, z: f32) -> Step
+    requires { ⌜ Boxed b × (i < stepRange) × Starts (p .sign) (p .x0) (p .y0) × (g ≡ edgesOf b) × (z ≡ zAt (p .a) (p .b) (float i)) ⌝ }
     ensures { λ r. ⌜ r ≡ stepOf p b i ⌝ }
 {
     let f = i as f32;
-    let z = z_at(p.a, p.b, f);
     let x = p.x0 + p.sign * z;
     let y = p.y0 + f - z;
     if (!(x < g.left) & (x < g.right)) & (!(y < g.top) & (y < g.bottom)) {
@@ -47,4 +47,11 @@ pub fn step_by(p: Pace, b: Path, g: Edges, i: u32) -> Step
     } else {
         Step::Refused
     }
+}
+
+pub fn step_by(p: Pace, b: Path, g: Edges, i: u32) -> Step
+    requires { ⌜ Boxed b × (i < stepRange) × Starts (p .sign) (p .x0) (p .y0) × (g ≡ edgesOf b) ⌝ }
+    ensures { λ r. ⌜ r ≡ stepOf p b i ⌝ }
+{
+    step_with(p, b, g, i, z_at(p.a, p.b, i as f32))
 }

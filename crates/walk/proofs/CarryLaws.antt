@@ -1,0 +1,44 @@
+-- What is carried from a step is the next step's: its z is the z before, and its z after is the z. Assumes nothing.
+--     next-float     a step number as a float, with 1 added
+--     carried-on     the z before and the z, of the step after
+--     none-carried, own-carried     what may be carried
+use mathlib.Core.Path.{_≡_, refl, sym, ap, _∙_, subst}
+use mathlib.Core.Bool.{false}
+use Prim.Native.Nat.{ℕ, _+_, _≤_, _<_, _^_}
+use native.Mathlib.Nat.{le-refl, le-of-lt}
+use native.Mathlib.Omega.{arith}
+use lib.Ieee.{Float, binary32, add, ofInt, ofBits}
+use Rattle.float32.specs.Meaning.{whole}
+use Rattle.float32.proofs.Whole.{whole-value}
+use Rattle.float32.proofs.Floors.{one-more}
+use Rattle.util.specs.Constants.{one}
+use Rattle.panel.specs.Widths.{stepRange}
+use Rattle.exact.proofs.Limits.{far}
+use Rattle.walk.specs.Num.{float}
+use Rattle.walk.specs.Step.{zAt, lastZ}
+use Rattle.walk.specs.Carry.{zsOf, noZs, Carried}
+use Rattle.walk.specs.declared.kinds.Pace.{Pace}
+use Rattle.walk.specs.declared.carry.Zs.{Zs}
+use Rattle.walk.proofs.Walks.{last-z}
+
+next-float : (i : ℕ) → i ≤ 2 ^ 24 → add binary32 (float i) one ≡ float (i + 1)
+unfolding ofInt ofBits
+next-float i h = one-more false (whole false i) i (whole-value false i h)
+
+module _ (p : Pace) (s : Zs) (c : Carried p s) (i : ℕ) (h : i < stepRange) (e : s .at + 1 ≡ i) where
+  before-at : s .at < stepRange
+  before-at = omega arith
+
+  pub before-on : s .z ≡ lastZ p i
+  before-on = ap (λ (v : Zs). v .z) (c .own before-at) ∙ sym (last-z p (s .at) before-at) ∙ ap (lastZ p) e
+
+  pub z-on : s .after ≡ zAt (p .a) (p .b) (float i)
+  z-on =
+      ap (λ (v : Zs). v .after) (c .own before-at)
+      ∙ ap (λ (f : Float). zAt (p .a) (p .b) f) (next-float (s .at) (omega (arith, far .steps)) ∙ ap float e)
+
+pub none-carried : (p : Pace) → Carried p noZs
+none-carried p = record { most = le-refl _; own = λ h. absurd (omega arith) }
+
+pub own-carried : (p : Pace) (i : ℕ) → i < stepRange → Carried p (zsOf p i)
+own-carried p i h = record { most = le-of-lt h; own = λ g. refl }
