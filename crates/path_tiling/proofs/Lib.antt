@@ -1,5 +1,6 @@
 -- What the proofs of the crate's functions share, and the crate's laws.
 pub mod LookLaws
+pub mod CarryLaws
 pub mod PutLaws
 pub mod BeamLaws
 pub mod RangeLaws

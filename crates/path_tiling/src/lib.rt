@@ -9,9 +9,11 @@ ghost use Prim.Native.Nat.{_+_, _-_, _*_, _/_, _≤_, _<_};
 ghost use lib.ListN.{length};
 ghost use Rattle.panel.specs.Widths.{refWords, segmentFloats};
 ghost use Rattle.panel.specs.Paths.{pathsAnswer};
+ghost use Rattle.panel.specs.Refs.{stepNo};
 ghost use Rattle.panel.specs.Pieces.{pieces};
 ghost use Rattle.panel.specs.declared.kinds.Answer.the-variants.{Done};
 ghost use Rattle.path_tiling.specs.Look.{lent, FoundFits, foundTo};
+ghost use Rattle.path_tiling.specs.Carry.{HasZs};
 ghost use Rattle.path_tiling.specs.Tiling.{one, oneOf, slotsOf, wholeOf, Ready, rangeOf, tiled, rangeTiled, TileMet};
 ghost use Rattle.path_tiling.specs.Runs.{ranOf, runOf, aloneOf, Some, NextMet};
 use look::Look;
@@ -27,11 +29,14 @@ use panel::widths::LINE_FLOATS;
 use panel::widths::PATH_WORDS;
 use panel::widths::REF_WORDS;
 use panel::widths::SEGMENT_FLOATS;
+use walk::carry::Zs;
+use walk::carry::no_zs;
 use walk::kinds::Walked;
 
-// One reference, whose line is as the walk found it and has this tag.
+// One reference, whose line is as the walk found it and has this tag, with the z's of its step.
 fn tile_one(
     found: Walked,
+    zs: Zs,
     tag: u32,
     packed: u32,
     stored: &[u32],
@@ -39,11 +44,11 @@ fn tile_one(
     segments: &mut [f32],
     tags: &mut [u32],
 ) -> Verdict
-    requires { ⌜ FoundFits (length (now stored)) found × (slots * segmentFloats ≤ length (now segments)) × (slots ≤ length (now tags)) ⌝ }
+    requires { ⌜ FoundFits (length (now stored)) found × HasZs (stepNo packed) zs found × (slots * segmentFloats ≤ length (now segments)) × (slots ≤ length (now tags)) ⌝ }
     ensures { λ r. ⌜ one r (pieces (now (segments .exit)) (now (tags .exit)))
         ≡ oneOf tag (foundTo (now (stored .entry)) slots packed found) (pieces (now (segments .entry)) (now (tags .entry))) ⌝ }
 {
-    match look::look_at(found, packed, stored, slots) {
+    match look::look_at(found, zs, packed, stored, slots) {
         Look::Put(slot, s) => {
             put(segments, slot, s);
             tags[slot.0 as usize] = tag;
@@ -73,7 +78,8 @@ pub struct Ran {
 }
 
 // The references from `from` up to `to`, in order, as long as they name this line, up to the first that
-// is refused. The line's numbers and its tag are found once for all of them.
+// is refused. The line's numbers and its tag are found once for all of them, and a step's z's are carried
+// to the next.
 fn tile_run(
     found: Walked,
     tag: u32,
@@ -91,6 +97,7 @@ fn tile_run(
     ensures { λ r. ⌜ ranOf r (pieces (now (segments .exit)) (now (tags .exit)))
         ≡ runOf (now (stored .entry)) slots (now (refs .entry)) found tag (line .0) (to - from) from (pieces (now (segments .entry)) (now (tags .entry))) ⌝ }
 {
+    let mut zs = no_zs();
     let mut k = from;
     while k < to {
         let named = named_at(refs, k);
@@ -99,7 +106,8 @@ fn tile_run(
             return Ran { answer, next: k };
         }
         let packed = packed_at(refs, k);
-        let v = tile_one(found, tag, packed, stored, slots, segments, tags);
+        zs = look::zs_on(found, zs, packed);
+        let v = tile_one(found, zs, tag, packed, stored, slots, segments, tags);
         if let Verdict::Against(why) = v {
             let answer = Answer::Refused(why, k);
             return Ran { answer, next: k };

@@ -3,13 +3,15 @@
 ghost use mathlib.Core.Path.{_≡_};
 ghost use Prim.Native.Nat.{_*_, _<_, _≤_, _^_};
 ghost use lib.ListN.{length};
-ghost use Rattle.panel.specs.Limits.{mostTiles, edgeMost};
 ghost use Rattle.panel.specs.Widths.{lineFloats, stepRange};
 ghost use Rattle.panel.specs.Paths.{endOf};
 ghost use Rattle.exact.specs.Reach.{Starts};
 ghost use Rattle.walk.specs.Step.{Boxed, stepOf};
-ghost use Rattle.segment.specs.Clips.{pieceOf};
+ghost use Rattle.walk.specs.Carry.{zsOf};
+ghost use Rattle.segment.specs.By.{pieceBy};
+ghost use Rattle.panel.specs.Refs.{stepNo};
 ghost use Rattle.path_tiling.specs.Look.{StepFits, FoundFits, pieceTo, wordTo, stepTo, foundTo, foundOf};
+ghost use Rattle.path_tiling.specs.Carry.{stepBy, Carries, HasZs};
 use panel::kinds::LineNo;
 use panel::kinds::Path;
 use panel::kinds::SlotNo;
@@ -23,8 +25,11 @@ use panel::segments::Segment;
 use panel::slots::flipped;
 use panel::slots::skips;
 use segment::Piece;
+use util::Vec2;
+use walk::carry::Zs;
+use walk::carry::zs_at;
 use walk::edges::edges_of;
-use walk::edges::step_by;
+use walk::edges::step_with;
 use walk::kinds::Walk;
 use walk::kinds::Walked;
 use walk::step::Step;
@@ -45,11 +50,11 @@ fn look_piece(slot: SlotNo, piece: Piece) -> Look
     }
 }
 
-// The word of a step's tile, with the slice number: the tile is empty, or its slot must be among the
+// The word of a step's tile, whose corner is t, with the slice number: the tile is empty, or its slot must be among the
 // slots (9) and the segment's ends in the tile (12).
-fn look_word(w: Walk, i: u32, z: f32, x: u32, y: u32, word: u32, slice: u32, slots: u32) -> Look
-    requires { ⌜ (i < stepRange) × (x ≤ edgeMost) × (y ≤ edgeMost) × (slice < 2 ^ 31) ⌝ }
-    ensures { λ r. ⌜ r ≡ wordTo slots word slice (pieceOf w i z x y) ⌝ }
+fn look_word(w: Walk, s: Zs, t: Vec2, word: u32, slice: u32, slots: u32) -> Look
+    requires { ⌜ (s .at < stepRange) × (slice < 2 ^ 31) ⌝ }
+    ensures { λ r. ⌜ r ≡ wordTo slots word slice (pieceBy w s t) ⌝ }
 {
     if skips(word) {
         return Look::Empty;
@@ -58,38 +63,52 @@ fn look_word(w: Walk, i: u32, z: f32, x: u32, y: u32, word: u32, slice: u32, slo
     if slot >= slots {
         return Look::Against(NO_ROOM);
     }
-    look_piece(SlotNo(slot), segment::piece_of(w, i, z, x, y))
+    look_piece(SlotNo(slot), segment::piece_of(w, s, t))
 }
 
-// Step i of a line that is walked: its tile must be in the box (10).
-fn look_step(w: Walk, step: Step, i: u32, slice: u32, stored: &[u32], slots: u32) -> Look
-    requires { ⌜ (i < stepRange) × (slice < 2 ^ 31) × StepFits (length (now stored)) step ⌝ }
-    ensures { λ r. ⌜ r ≡ stepTo (now (stored .entry)) slots w i slice step ⌝ }
+// A step of a line that is walked, with its z's: its tile must be in the box (10).
+fn look_step(w: Walk, step: Step, s: Zs, t: Vec2, slice: u32, stored: &[u32], slots: u32) -> Look
+    requires { ⌜ (s .at < stepRange) × (slice < 2 ^ 31) × StepFits (length (now stored)) step ⌝ }
+    ensures { λ r. ⌜ r ≡ stepBy (now (stored .entry)) slots slice (pieceBy w s t) step ⌝ }
 {
-    let Step::Tile(tile, x, y, z) = step else {
+    let Step::Tile(tile, _, _, _) = step else {
         return Look::Against(OUTSIDE);
     };
-    look_word(w, i, z, x, y, stored[tile.0 as usize], slice, slots)
+    look_word(w, s, t, stored[tile.0 as usize], slice, slots)
 }
 
-// Step i of a line and its slice number.
-fn look_line(w: Walk, p: Path, i: u32, slice: u32, stored: &[u32], slots: u32) -> Look
-    requires { ⌜ (i < stepRange) × (slice < 2 ^ 31) × Boxed p × (endOf p ≤ length (now stored)) × Starts (w .pace .sign) (w .pace .x0) (w .pace .y0) ⌝ }
-    ensures { λ r. ⌜ r ≡ stepTo (now (stored .entry)) slots w i slice (stepOf (w .pace) p i) ⌝ }
+// The step of a line whose z's are at hand, and its slice number.
+fn look_line(w: Walk, p: Path, s: Zs, slice: u32, stored: &[u32], slots: u32) -> Look
+    requires { ⌜ (s .at < stepRange) × (slice < 2 ^ 31) × Boxed p × (endOf p ≤ length (now stored)) × Starts (w .pace .sign) (w .pace .x0) (w .pace .y0)
+        × (s ≡ zsOf (w .pace) (s .at)) ⌝ }
+    ensures { λ r. ⌜ r ≡ stepTo (now (stored .entry)) slots w (s .at) slice (stepOf (w .pace) p (s .at)) ⌝ }
 {
-    let step = step_by(w.pace, p, edges_of(p), i);
-    look_step(w, step, i, slice, stored, slots)
+    let step = step_with(w.pace, p, edges_of(p), s.at, s.z);
+    let t = segment::corner_at(w.pace, s.at, s.z);
+    look_step(w, step, s, t, slice, stored, slots)
 }
 
-// A reference's second word, where its line is as the walk found it: refused, or skipped (7).
-pub fn look_at(found: Walked, packed: u32, stored: &[u32], slots: u32) -> Look
-    requires { ⌜ FoundFits (length (now stored)) found ⌝ }
+// The z's of a reference's step, by those of the reference before it; of a line that isn't walked there are none.
+pub(crate) fn zs_on(found: Walked, last: Zs, packed: u32) -> Zs
+    requires { ⌜ Carries last found ⌝ }
+    ensures { λ r. ⌜ HasZs (stepNo packed) r found ⌝ }
+{
+    match found {
+        Walked::Refused(_) => last,
+        Walked::Skipped => last,
+        Walked::Line(w, _) => zs_at(w.pace, last, step_of(packed)),
+    }
+}
+
+// A reference's second word, where its line is as the walk found it: refused, or skipped (7). s has its step's z's.
+pub fn look_at(found: Walked, s: Zs, packed: u32, stored: &[u32], slots: u32) -> Look
+    requires { ⌜ FoundFits (length (now stored)) found × HasZs (stepNo packed) s found ⌝ }
     ensures { λ r. ⌜ r ≡ foundTo (now (stored .entry)) slots packed found ⌝ }
 {
     match found {
         Walked::Refused(why) => Look::Against(why),
         Walked::Skipped => Look::Against(NO_SUCH),
-        Walked::Line(w, p) => look_line(w, p, step_of(packed), slice_of(packed), stored, slots),
+        Walked::Line(w, p) => look_line(w, p, s, slice_of(packed), stored, slots),
     }
 }
 

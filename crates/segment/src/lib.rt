@@ -1,16 +1,19 @@
 // A step's piece of its line, clipped to the step's tile: path_tiling.rs from `tile_xy` to the
 // asserts, in its order and with its nudges. The definitions stand in specs/Clips.antt, and on one
-// page beside the Rust in specs/Page.antt.
+// page beside the Rust in specs/Page.antt; specs/By.antt has them by the z's and the corner that are at hand.
 ghost use mathlib.Core.Path.{_≡_};
 ghost use Prim.Native.Nat.{_≤_, _<_};
 ghost use Rattle.float32.specs.Meaning.{clampOf};
 ghost use Rattle.panel.specs.Limits.{edgeMost};
 ghost use Rattle.panel.specs.Widths.{stepRange};
-ghost use Rattle.segment.specs.Clips.{cornerOf, farOf, atRowOf, atColOf, clipOf, makeOf, edgeOf, offOf, turnOf, firstOf, lastOf, segmentOf, pieceOf};
+ghost use Rattle.segment.specs.Clips.{cornerOf, farOf, atRowOf, atColOf, clipOf, makeOf, edgeOf, offOf, turnOf};
+ghost use Rattle.segment.specs.By.{cornerAt, firstBy, lastBy, segmentBy, pieceBy};
 use float32::pick;
 use panel::segments::Segment;
 use panel::segments::held;
 use util::Vec2;
+use walk::carry::Zs;
+use walk::kinds::Pace;
 use walk::kinds::Walk;
 
 // path_tiling.rs: what a clipped end keeps from its tile's left or top edge, what an end on a whole
@@ -33,6 +36,17 @@ pub fn far(t: Vec2) -> Vec2
     ensures { λ r. ⌜ r ≡ farOf t ⌝ }
 {
     t.add(Vec2::new(util::TILE_SIDE, util::TILE_SIDE))
+}
+
+// The upper left corner of step i's tile from the floats that its column and row are cast from, with no cast
+// and back: z is the step's. 0 is added, since -0 may come of the sums.
+pub fn corner_at(p: Pace, i: u32, z: f32) -> Vec2
+    requires { ⌜ i < stepRange ⌝ }
+    ensures { λ r. ⌜ r ≡ cornerAt p i z ⌝ }
+{
+    let x = p.x0 + p.sign * z;
+    let y = p.y0 + i as f32 - z;
+    Vec2::new((x + 0.0) * util::TILE_SIDE, (y + 0.0) * util::TILE_SIDE)
 }
 
 // v brought within lo ..= hi, as `float32::clamp` does it: by choices, with no branch, since on which side of a tile's
@@ -133,47 +147,43 @@ pub fn turn(is_down: bool, s: Segment) -> Segment
     )
 }
 
-// The first end: the line's own at step 0, and else where the walk comes into the tile at t. z is
-// the step's. The line's own is returned float by float, since the compiler packs a point that is
+// The first end: the line's own at step 0, and else where the walk comes into the tile at t. s has
+// the step's z's. The line's own is returned float by float, since the compiler packs a point that is
 // returned early into one word.
-pub fn first_end(w: Walk, i: u32, z: f32, t: Vec2) -> Vec2
-    requires { ⌜ i < stepRange ⌝ }
-    ensures { λ r. ⌜ r ≡ firstOf w i z t ⌝ }
+pub fn first_end(w: Walk, s: Zs, t: Vec2) -> Vec2
+    ensures { λ r. ⌜ r ≡ firstBy w s t ⌝ }
 {
     let p = w.e.xy0;
     let q = w.e.xy1;
-    if i == 0 {
+    if s.at == 0 {
         return Vec2::new(p.x, p.y);
     }
-    let z_prev = walk::step::z_at(w.pace.a, w.pace.b, i as f32 - 1.0);
     let x_clip = pick(w.is_positive_slope, t.x, far(t).x);
-    clip(z == z_prev, p, q, t.y, x_clip, t)
+    clip(s.z == s.before, p, q, t.y, x_clip, t)
 }
 
 // The last end: the line's own at the last step, float by float as in `first_end`, and else where the
 // walk goes out. p is the first end, clipped.
-pub fn last_end(w: Walk, i: u32, z: f32, t: Vec2, p: Vec2) -> Vec2
-    requires { ⌜ i < stepRange ⌝ }
-    ensures { λ r. ⌜ r ≡ lastOf w i z t p ⌝ }
+pub fn last_end(w: Walk, s: Zs, t: Vec2, p: Vec2) -> Vec2
+    requires { ⌜ s .at < stepRange ⌝ }
+    ensures { λ r. ⌜ r ≡ lastBy w s t p ⌝ }
 {
     let q = w.e.xy1;
-    if i + 1 >= w.k.count {
+    if s.at + 1 >= w.k.count {
         return Vec2::new(q.x, q.y);
     }
     let t1 = far(t);
-    let z_next = walk::step::z_at(w.pace.a, w.pace.b, i as f32 + 1.0);
     let x_clip = pick(w.is_positive_slope, t1.x, t.x);
-    clip(z == z_next, p, q, t1.y, x_clip, t)
+    clip(s.z == s.after, p, q, t1.y, x_clip, t)
 }
 
-// The segment of step i in the tile of column x and row y.
-pub fn segment_of(w: Walk, i: u32, z: f32, x: u32, y: u32) -> Segment
-    requires { ⌜ (i < stepRange) × (x ≤ edgeMost) × (y ≤ edgeMost) ⌝ }
-    ensures { λ r. ⌜ r ≡ segmentOf w i z x y ⌝ }
+// The segment of a step in the tile whose corner is t.
+pub fn segment_of(w: Walk, s: Zs, t: Vec2) -> Segment
+    requires { ⌜ s .at < stepRange ⌝ }
+    ensures { λ r. ⌜ r ≡ segmentBy w s t ⌝ }
 {
-    let t = corner(x, y);
-    let q0 = first_end(w, i, z, t);
-    let q1 = last_end(w, i, z, t, q0);
+    let q0 = first_end(w, s, t);
+    let q1 = last_end(w, s, t, q0);
     let p0 = q0.subtract(t);
     let p1 = q1.subtract(t);
     turn(w.e.is_down, edge(p0.x, p0.y, p1.x, p1.y))
@@ -185,15 +195,15 @@ pub enum Piece {
     Crooked,
 }
 
-pub fn piece_of(w: Walk, i: u32, z: f32, x: u32, y: u32) -> Piece
-    requires { ⌜ (i < stepRange) × (x ≤ edgeMost) × (y ≤ edgeMost) ⌝ }
-    ensures { λ r. ⌜ r ≡ pieceOf w i z x y ⌝ }
+pub fn piece_of(w: Walk, s: Zs, t: Vec2) -> Piece
+    requires { ⌜ s .at < stepRange ⌝ }
+    ensures { λ r. ⌜ r ≡ pieceBy w s t ⌝ }
 {
-    let s = segment_of(w, i, z, x, y);
-    let p0 = s.p0;
-    let p1 = s.p1;
+    let made = segment_of(w, s, t);
+    let p0 = made.p0;
+    let p1 = made.p1;
     if held(p0) & held(p1) {
-        Piece::Kept(s)
+        Piece::Kept(made)
     } else {
         Piece::Crooked
     }

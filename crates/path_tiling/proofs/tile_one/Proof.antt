@@ -17,7 +17,7 @@ put-requires c κs = omega (
   arith,
   put-good _ _ _ _ (sym (c .before .before .before .before .look-at .ensures)
       ∙ c .before .before .slot .given .1) .among,
-  c .before .before .before .before .before .before .before .before .pre .1,
+  c .before .before .before .before .before .before .before .before .pre .2,
 )
 
 cast-tags : tie.Need-cast-tags
@@ -32,7 +32,7 @@ slice-write-tags c = omega (
   put-good _ _ _ _ (sym (c .before .before .before .before .before .before .before .before .look-at .ensures)
       ∙ c .before .before .before .before .before .before .slot .given .1) .among,
   c .before .before .before .before .before .before .before .before
-      .before .before .before .before .pre .2,
+      .before .before .before .before .pre .3,
 )
 
 enum-told : tie.Need-enum-told

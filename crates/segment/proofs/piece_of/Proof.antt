@@ -1,6 +1,6 @@
 -- `segment::piece_of` meets its contract: the test, in the definition's terms, picks the case. Assumes nothing.
 use borrow.Author.Needs.{needs}
-use Rattle.segment.specs.Clips.{pieceOf}
+use Rattle.segment.specs.By.{pieceBy}
 use Rattle.segment.proofs.piece_of.Statement.{statement}
 use Rattle.segment.proofs.piece_of.Tie as tie
 
@@ -8,13 +8,13 @@ segment-of-requires : tie.Need-segment-of-requires
 segment-of-requires c κs = search needs
 
 returns : tie.Need-returns
-unfolding pieceOf
+unfolding pieceBy
 returns c =
     let both = rw (c .before .before .held .ensures, c .before .held2 .ensures, c .before .before .before .before .before .segment-of .ensures) at (c .if1 .taken) in
     rw (c .before .before .before .before .before .segment-of .ensures, both)
 
 returns-2 : tie.Need-returns-2
-unfolding pieceOf
+unfolding pieceBy
 returns-2 c =
     let both = rw (c .before .before .held .ensures, c .before .held2 .ensures, c .before .before .before .before .before .segment-of .ensures) at (c .if1 .left) in
     rw both

@@ -1,20 +1,14 @@
 -- `segment::segment_of` meets its contract: each call's result is what it ensures, from the last call to the first. Assumes nothing.
 use borrow.Author.Needs.{needs}
-use Rattle.segment.specs.Clips.{segmentOf}
+use Rattle.segment.specs.By.{segmentBy}
 use Rattle.segment.proofs.segment_of.Statement.{statement}
 use Rattle.segment.proofs.segment_of.Tie as tie
-
-corner-requires : tie.Need-corner-requires
-corner-requires c κs = search needs
-
-first-end-requires : tie.Need-first-end-requires
-first-end-requires c κs = search needs
 
 last-end-requires : tie.Need-last-end-requires
 last-end-requires c κs = search needs
 
 returns : tie.Need-returns
-unfolding segmentOf
+unfolding segmentBy
 returns c =
     rw (
       c .turn .ensures,
@@ -23,10 +17,9 @@ returns c =
       c .before .before .before .subtract .ensures,
       c .before .before .before .before .last-end .ensures,
       c .before .before .before .before .before .first-end .ensures,
-      c .before .before .before .before .before .before .corner .ensures,
     )
 
 pub segment-of-spec : {M : Type 1} → statement M
 segment-of-spec =
     tie.close
-    (tie.spec corner-requires first-end-requires last-end-requires (λ c κs. tt) (λ c κs. tt) (λ c κs. tt) (λ c κs. tt) returns)
+    (tie.spec (λ c κs. tt) last-end-requires (λ c κs. tt) (λ c κs. tt) (λ c κs. tt) (λ c κs. tt) returns)

@@ -1,8 +1,9 @@
 -- `path_tiling::look::look_at` meets its contract, case by case. Assumes nothing.
 use native.Mathlib.Omega.{arith}
 use Rattle.panel.proofs.LimitLaws.{step-read, slice-read}
-use Rattle.path_tiling.specs.Look.{foundTo}
+use Rattle.path_tiling.specs.Look.{stepNo, foundTo}
 use Rattle.path_tiling.proofs.LookLaws.{line-fits}
+use Rattle.path_tiling.proofs.CarryLaws.{line-zs, line-at}
 use borrow.Author.Needs.{needs}
 use Rattle.path_tiling.proofs.look.look_at.Statement.{statement}
 use Rattle.path_tiling.proofs.look.look_at.Tie as tie
@@ -16,17 +17,16 @@ enum-told c = search needs
 enum-known-found-2 : tie.Need-enum-known-found-2
 enum-known-found-2 c = search needs
 
-step-of-requires : tie.Need-step-of-requires
-step-of-requires c κs = search needs
-
 slice-of-requires : tie.Need-slice-of-requires
 slice-of-requires c κs = search needs
 
 look-line-requires : tie.Need-look-line-requires
 look-line-requires c κs =
-    let fits = line-fits (c .before .before .before .found2 .given .1) (c .before .before .before .before .before .before .pre) in
-    let a = c .before .before .before .before .before .before .args in
-    (rw (c .before .step-of .ensures) (step-read (a .packed)), rw (c .slice-of .ensures) (slice-read (a .packed) (omega arith)), fits .0, fits .1, fits .2)
+    let s = c .before .before .before .before .before in
+    let told = c .before .before .found2 .given .1 in
+    let fits = line-fits told (s .pre .0) in
+    let has = line-zs told (stepNo (s .args .packed)) (step-read (s .args .packed)) (s .pre .1) in
+    (has .0, rw (c .slice-of .ensures) (slice-read (s .args .packed) (omega arith)), fits .0, fits .1, fits .2, has .1)
 
 returns : tie.Need-returns
 unfolding foundTo
@@ -38,7 +38,10 @@ returns-2 c = rw (c .enum-told .given .1)
 
 returns-3 : tie.Need-returns-3
 unfolding foundTo
-returns-3 c = rw (c .before .before .before .before .found2 .given .1, c .look-line .ensures, c .before .before .step-of .ensures, c .before .slice-of .ensures)
+returns-3 c =
+    let s = c .before .before .before .before .before .before in
+    let told = c .before .before .before .found2 .given .1 in
+    rw (told, c .look-line .ensures, line-at (s .args .s) told (stepNo (s .args .packed)) (s .pre .1), c .before .slice-of .ensures)
 
 pub look-at-spec : {M : Type 1} → statement M
 look-at-spec =
@@ -47,7 +50,6 @@ look-at-spec =
     enum-known-found
     enum-told
     enum-known-found-2
-    step-of-requires
     slice-of-requires
     look-line-requires
     returns

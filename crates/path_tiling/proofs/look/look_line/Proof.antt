@@ -1,22 +1,32 @@
--- `path_tiling::look::look_line` meets its contract. Assumes nothing.
+-- `path_tiling::look::look_line` meets its contract: a step by its z's, and by its corner from the walk's floats, is the step. Assumes nothing.
 use mathlib.Core.Path.{_≡_}
+use borrow.Author.Needs.{needs}
 use Rattle.path_tiling.proofs.LookLaws.{step-fits}
+use Rattle.path_tiling.proofs.CarryLaws.{z-is, step-by}
 use Rattle.path_tiling.proofs.look.look_line.Statement.{statement}
 use Rattle.path_tiling.proofs.look.look_line.Tie as tie
 
 edges-of-requires : tie.Need-edges-of-requires
-edges-of-requires c κs = c .before .pre .2
+edges-of-requires c κs = search needs
 
-step-by-requires : tie.Need-step-by-requires
-step-by-requires c κs = (c .before .before .pre .2, c .before .before .pre .0, c .before .before .pre .4, c .edges-of .ensures)
+step-with-requires : tie.Need-step-with-requires
+step-with-requires c κs =
+    let s = c .before .before in
+    (s .pre .2, s .pre .0, s .pre .4, c .edges-of .ensures, z-is (s .args .w .pace) (s .args .s .at) (s .args .s) (s .pre .5))
+
+corner-at-requires : tie.Need-corner-at-requires
+corner-at-requires c κs = search needs
 
 look-step-requires : tie.Need-look-step-requires
 look-step-requires c κs =
-    let s = c .before .before .before in
-    (s .pre .0, s .pre .1, rw (c .step-by .ensures) (step-fits (s .args .w .pace) (s .args .p) (s .args .i) _ (s .pre .2) (s .pre .3)))
+    let s = c .before .before .before .before in
+    (s .pre .0, s .pre .1, rw (c .before .step-with .ensures) (step-fits (s .args .w .pace) (s .args .p) (s .args .s .at) _ (s .pre .2) (s .pre .3)))
 
 returns : tie.Need-returns
-returns c = rw (c .look-step .ensures, c .before .step-by .ensures)
+returns c =
+    let s = c .before .before .before .before .before in
+    rw (c .look-step .ensures, c .before .before .step-with .ensures)
+    (step-by _ _ _ (s .args .w) (s .pre .4) (s .args .p) (s .pre .2) (s .args .s) (s .pre .0) (s .pre .5) _ (c .before .corner-at .ensures))
 
 pub look-line-spec : {M : Type 1} → statement M
-look-line-spec = tie.close (tie.spec edges-of-requires step-by-requires look-step-requires returns)
+look-line-spec = tie.close (tie.spec edges-of-requires step-with-requires corner-at-requires look-step-requires returns)

@@ -1,7 +1,6 @@
 -- `path_tiling::look::look_step` meets its contract, case by case. Assumes nothing.
 use borrow.Author.Needs.{needs}
-use native.Mathlib.Omega.{arith}
-use Rattle.path_tiling.specs.Look.{stepTo}
+use Rattle.path_tiling.specs.Carry.{stepBy}
 use Rattle.path_tiling.proofs.LookLaws.{tile-fits}
 use Rattle.path_tiling.proofs.look.look_step.Statement.{statement}
 use Rattle.path_tiling.proofs.look.look_step.Tie as tie
@@ -13,7 +12,7 @@ enum-told : tie.Need-enum-told
 enum-told c = search needs
 
 returns : tie.Need-returns
-unfolding stepTo
+unfolding stepBy
 returns c = rw (c .enum-told .given .1)
 
 cast-look-word : tie.Need-cast-look-word
@@ -26,12 +25,10 @@ shared-slice-read-look-word : tie.Need-shared-slice-read-look-word
 shared-slice-read-look-word c = tile-fits (c .before .before .before .step .given .1) (c .before .before .before .before .before .before .pre .2) .0
 
 look-word-requires : tie.Need-look-word-requires
-look-word-requires c κs =
-    let fits = tile-fits (c .before .before .before .step .given .1) (c .before .before .before .before .before .before .pre .2) in
-    (c .before .before .before .before .before .before .pre .0, fits .1, fits .2, c .before .before .before .before .before .before .pre .1)
+look-word-requires c κs = search needs
 
 returns-2 : tie.Need-returns-2
-unfolding stepTo
+unfolding stepBy
 returns-2 c = rw (c .before .before .before .before .step .given .1, c .look-word .ensures)
 
 pub look-step-spec : {M : Type 1} → statement M
