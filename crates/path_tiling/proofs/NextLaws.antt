@@ -1,22 +1,17 @@
 -- What is taken of a range at once, of what the code has at hand. Assumes nothing.
 --     took-next    the first reference, where its line lies within one tile
 --     ran-next     else those that name its line, on segments and tags where nothing was written yet
-use Prim.Native.Nat.{ℕ, _+_, _-_, _<_}
-use mathlib.Core.Path.{_≡_, refl, sym, ap, subst, _∙_}
+use Prim.Native.Nat.{ℕ, _+_, _<_}
+use mathlib.Core.Path.{_≡_}
 use mathlib.Core.Bool.{Bool, true, false}
-use lib.ListN.{getD}
-use Rattle.panel.specs.Paths.{beamAt}
 use Rattle.panel.specs.Pieces.{Pieces}
 use Rattle.panel.specs.declared.kinds.Answer.the-variants.{Done}
-use Rattle.panel.specs.declared.kinds.Verdict.the-variants.{Fine}
-use Rattle.walk.specs.declared.kinds.Walked.{Walked}
-use Rattle.path_tiling.specs.Look.{Lent, lineAt, packedAt, tagOf, foundOf, foundTo, lookOf}
-use Rattle.path_tiling.specs.Tiling.{one, oneOf}
-use Rattle.path_tiling.specs.Runs.{Run, run, runOf, NextMet}
+use Rattle.path_tiling.specs.Look.{Lent, lineAt, packedAt}
+use Rattle.path_tiling.specs.Runs.{Run, run, lineRun, NextMet}
 use Rattle.path_tiling.specs.One.{TookMet}
 use Rattle.path_tiling.proofs.RangeLaws.{look-is}
 use Rattle.path_tiling.proofs.OneLaws.{took-yes, took-no}
-use Rattle.path_tiling.proofs.RunLaws.{tagged, next-one, next-run}
+use Rattle.path_tiling.proofs.RunLaws.{next-one, next-run}
 
 module _ (to : ℕ) (L : Lent) (slots : ℕ) (p : Pieces) (k line packed : ℕ) (v : Bool) (p′ : Pieces) (h : k < to) (e : line ≡ lineAt (L .refs) k)
     (t : TookMet (L .pathNos) (L .coords) (L .paths) (L .stored) slots line packed p v p′) where
@@ -25,9 +20,7 @@ module _ (to : ℕ) (L : Lent) (slots : ℕ) (p : Pieces) (k line packed : ℕ) 
       let here = took-yes (L .pathNos) (L .coords) (L .paths) (L .stored) slots line packed p v p′ y t in
       next-one to L slots p k p′ h (rw (look-is L slots k) (rw (e, f) at here))
 
-  pub ran-next : v ≡ false → (found : Walked) (path tag : ℕ) (r : Run) → found ≡ foundOf (L .pathNos) (L .coords) (L .paths) line
-      → path ≡ getD (L .pathNos) line 0 → tag ≡ beamAt (L .paths) path
-      → r ≡ runOf (L .stored) slots (L .refs) found tag line (to - k) k p′ → NextMet k to L slots p r
-  ran-next n found path tag r f a b g =
+  pub ran-next : v ≡ false → (r : Run) → r ≡ lineRun L slots line to k p′ → NextMet k to L slots p r
+  ran-next n r g =
       let same = took-no (L .pathNos) (L .coords) (L .paths) (L .stored) slots line packed p v p′ n t in
-      next-run to L slots p k r h (rw (f, tagged (L .pathNos) (L .paths) line path tag a b, e, same) at g)
+      next-run to L slots p k r h (rw (e, same) at g)

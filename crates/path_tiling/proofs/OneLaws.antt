@@ -48,7 +48,7 @@ use Rattle.segment.specs.Clips.{cornerOf, makeOf, edgeOf, offOf, turnOf, firstO
 use Rattle.segment.specs.declared.Piece.the-variants.{Kept, Crooked}
 use Rattle.path_tiling.specs.Look.{stepNo, sliceNo, pieceTo, wordTo, stepTo, foundTo, foundOf}
 use Rattle.path_tiling.specs.Tiling.{one, oneOf}
-use Rattle.path_tiling.specs.One.{innerOf, seenOf, SeenMet, Comes, PieceMet, ShortMet, PutMet, TookMet}
+use Rattle.path_tiling.specs.One.{innerOf, seenOf, SeenMet, Comes, PieceMet, ShortMet, PutMet, TriedMet, TookMet}
 use Rattle.path_tiling.specs.declared.one.Short.{Short}
 use Rattle.path_tiling.specs.declared.one.Short.the-variants as Short
 use Rattle.path_tiling.specs.declared.one.Inside.{Inside}
@@ -237,15 +237,17 @@ pub put-fine : (slots word slice : ℕ) (s : Segment) → skips word ≡ false �
 unfolding wordTo pieceTo
 put-fine slots word slice s e h = let room : slotOf word slice + 1 ≤ slots = omega arith in rw (e, le-ltb _ _ room) refl
 
-pub short-in : (ns : List ℕ) (cs : List Float) (ps stored : List ℕ) (l : ℕ) {r : Short} {s : Segment} {word tag : ℕ} → r ≡ Short.In s word tag
-    → ShortMet ns cs ps stored l r → Comes ns cs ps stored l s word tag
-short-in ns cs ps stored l e h = rw e at h
-
-pub took : (ns : List ℕ) (cs : List Float) (ps stored : List ℕ) (l : ℕ) (s : Segment) (word tag slots packed : ℕ) (p : Pieces) (v : Bool) (p′ : Pieces)
+took : (ns : List ℕ) (cs : List Float) (ps stored : List ℕ) (l : ℕ) (s : Segment) (word tag slots packed : ℕ) (p : Pieces) (v : Bool) (p′ : Pieces)
     → Comes ns cs ps stored l s word tag → PutMet slots word packed s tag p v p′ → TookMet ns cs ps stored slots l packed p v p′
 took ns cs ps stored l s word tag slots packed p true p′ c h =
     rw (sym (c .tagged), c .look slots packed (h .0)) (h .1)
 took ns cs ps stored l s word tag slots packed p false p′ c h = h
+
+-- so of a line as it was tried
+pub took-tried : (ns : List ℕ) (cs : List Float) (ps stored : List ℕ) (l slots packed : ℕ) (r : Short) (p : Pieces) (v : Bool) (p′ : Pieces)
+    → ShortMet ns cs ps stored l r → TriedMet slots packed r p v p′ → TookMet ns cs ps stored slots l packed p v p′
+took-tried ns cs ps stored l slots packed (Short.In s word tag) p v p′ c h = took ns cs ps stored l s word tag slots packed p v p′ c h
+took-tried ns cs ps stored l slots packed Short.Other p v p′ c h = rw (h .0) (h .1)
 
 pub took-yes : (ns : List ℕ) (cs : List Float) (ps stored : List ℕ) (slots l packed : ℕ) (p : Pieces) (v : Bool) (p′ : Pieces) → v ≡ true
     → TookMet ns cs ps stored slots l packed p v p′ → one Fine p′ ≡ oneOf (beamAt ps (getD ns l 0)) (foundTo stored slots packed (foundOf ns cs ps l)) p

@@ -23,7 +23,7 @@ use Rattle.path_tiling.specs.Look.{Lent, lineAt, packedAt, tagOf, foundO
 use Rattle.panel.specs.Paths.{beamAt}
 use Rattle.panel.specs.Pieces.{Pieces, placed}
 use Rattle.path_tiling.specs.Tiling.{Range, range, lookThen, rangeOf, One, one, oneOf, Tiled, tiled, rangeTiled, slotsOf}
-use Rattle.path_tiling.specs.Runs.{Run, run, lookOn, runOf, afterBy, after, NextMet}
+use Rattle.path_tiling.specs.Runs.{Run, run, lookOn, runOf, lineRun, afterBy, after, NextMet}
 use Rattle.path_tiling.specs.declared.look.Look.{Look}
 use Rattle.path_tiling.specs.declared.look.Look.the-variants.{Put, Empty, Against}
 use Rattle.path_tiling.proofs.RangeLaws.{look-is, AsLong, long-self, long-then, long-placed, one-long, ends}
@@ -198,7 +198,7 @@ tagged nos ps l path tag e f = f ∙ ap (beamAt ps) e
 -- some of the references from reference k on
 module _ (to : ℕ) (L : Lent) (slots : ℕ) (p : Pieces) (k : ℕ) where
   abbrev runAt : Run
-  runAt = runOf (L .stored) slots (L .refs) (foundOf (L .pathNos) (L .coords) (L .paths) (lineAt (L .refs) k)) (tagOf L (lineAt (L .refs) k)) (lineAt (L .refs) k) (to - k) k p
+  runAt = lineRun L slots (lineAt (L .refs) k) to k p
 
   -- the run of those that name its line
   pub next-run : (r : Run) → k < to → r ≡ runAt → NextMet k to L slots p r

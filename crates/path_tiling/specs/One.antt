@@ -55,6 +55,11 @@ PutMet slots word packed s tag p true p′ =
     (stepNo packed ≡ 0) × (one Fine p′ ≡ oneOf tag (wordTo slots word (sliceNo packed) (Piece.Kept s)) p)
 PutMet slots word packed s tag p false p′ = p′ ≡ p
 
+-- a reference by what its line comes to
+abbrev pub TriedMet : (slots packed : ℕ) → Short → (p : Pieces) → Bool → (p′ : Pieces) → Type 0
+TriedMet slots packed (In s word tag) p r p′ = PutMet slots word packed s tag p r p′
+TriedMet slots packed Other p r p′ = (r ≡ false) × (p′ ≡ p)
+
 -- a reference to line l: it is fine, or nothing was written
 abbrev pub TookMet : (ns : List ℕ) (cs : List Float) (ps stored : List ℕ) (slots l packed : ℕ) → (p : Pieces) → Bool → (p′ : Pieces) → Type 0
 TookMet ns cs ps stored slots l packed p true p′ =

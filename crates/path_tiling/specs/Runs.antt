@@ -11,7 +11,7 @@ use Rattle.panel.specs.Paths.{pathsAnswer}
 use Rattle.panel.specs.declared.kinds.Answer.{Answer}
 use Rattle.panel.specs.declared.kinds.Answer.the-variants.{Done, Refused}
 use Rattle.walk.specs.declared.kinds.Walked.{Walked}
-use Rattle.path_tiling.specs.Look.{Lent, lineAt, packedAt, foundTo}
+use Rattle.path_tiling.specs.Look.{Lent, lineAt, packedAt, tagOf, foundOf, foundTo}
 use Rattle.path_tiling.specs.Tiling.{rangeOf, Tiled, tiled, rangeTiled}
 use Rattle.panel.specs.Pieces.{Pieces, placed}
 use Rattle.path_tiling.specs.declared.Ran.{Ran}
@@ -43,6 +43,10 @@ runOf stored slots refs found tag line (suc n) k p =
     cond (eqb (lineAt refs k) line)
     (lookOn tag k (foundTo stored slots (packedAt refs k) found) (runOf stored slots refs found tag line n (suc k)) p)
     (run Done k p)
+
+-- the references from reference k up to `to` that name line l, which is found once with its tag
+abbrev pub lineRun : Lent → (slots l to k : ℕ) → Pieces → Run
+lineRun L slots l to k p = runOf (L .stored) slots (L .refs) (foundOf (L .pathNos) (L .coords) (L .paths) l) (tagOf L l) l (to - k) k p
 
 -- ---- a range, some references at once
 

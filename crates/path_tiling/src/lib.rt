@@ -15,7 +15,7 @@ ghost use Rattle.panel.specs.declared.kinds.Answer.the-variants.{Done};
 ghost use Rattle.path_tiling.specs.Look.{lent, FoundFits, foundTo};
 ghost use Rattle.path_tiling.specs.Carry.{HasZs};
 ghost use Rattle.path_tiling.specs.Tiling.{one, oneOf, slotsOf, wholeOf, Ready, rangeOf, tiled, rangeTiled, TileMet};
-ghost use Rattle.path_tiling.specs.Runs.{ranOf, runOf, aloneOf, Some, NextMet};
+ghost use Rattle.path_tiling.specs.Runs.{ranOf, runOf, lineRun, aloneOf, Some, NextMet};
 use look::Look;
 use panel::kinds::Answer;
 use panel::kinds::LineNo;
@@ -132,6 +132,42 @@ fn alone(refs: &[u32], from: u32, to: u32) -> bool
     named != after
 }
 
+// The references from `from` up to `to` as long as they name this line, which is found here with its tag.
+fn tile_line(
+    line: LineNo,
+    from: u32,
+    to: u32,
+    path_nos: &[u32],
+    coords: &[f32],
+    paths: &[u32],
+    stored: &[u32],
+    refs: &[u32],
+    slots: u32,
+    segments: &mut [f32],
+    tags: &mut [u32],
+) -> Ran
+    requires { ⌜ Some from to (lent (now «path_nos») (now coords) (now paths) (now stored) (now refs)) slots (pieces (now segments) (now tags)) ⌝ }
+    ensures { λ r. ⌜ ranOf r (pieces (now (segments .exit)) (now (tags .exit)))
+        ≡ lineRun (lent (now («path_nos» .entry)) (now (coords .entry)) (now (paths .entry)) (now (stored .entry)) (now (refs .entry)))
+        slots (line .0) to from (pieces (now (segments .entry)) (now (tags .entry))) ⌝ }
+{
+    let found = look::found_at(path_nos, coords, paths, line);
+    let path = beams::path_of(path_nos, line);
+    let tag = beams::tag_of(paths, path);
+    tile_run(
+        found,
+        tag,
+        line,
+        from,
+        to,
+        stored,
+        refs,
+        slots,
+        segments,
+        tags,
+    )
+}
+
 // The references from `from` up to `to`, as many as are taken at once: the first, where its line lies within one tile, and
 // else those that name its line.
 fn tile_next(
@@ -150,38 +186,22 @@ fn tile_next(
     ensures { λ r. ⌜ NextMet from to (lent (now («path_nos» .entry)) (now (coords .entry)) (now (paths .entry)) (now (stored .entry)) (now (refs .entry)))
         slots (pieces (now (segments .entry)) (now (tags .entry))) (ranOf r (pieces (now (segments .exit)) (now (tags .exit)))) ⌝ }
 {
-    let named = named_at(refs, from);
-    let line = LineNo(named);
+    let line = LineNo(named_at(refs, from));
     let packed = packed_at(refs, from);
     let tried = alone(refs, from, to);
-    let taken = one::tile_short(
-        tried,
-        line,
-        packed,
-        path_nos,
-        coords,
-        paths,
-        stored,
-        slots,
-        segments,
-        tags,
-    );
-    if taken {
+    let short = one::try_short(tried, path_nos, coords, paths, stored, line);
+    if one::put_tried(short, packed, slots, segments, tags) {
         let answer = Answer::Done;
-        return Ran {
-            answer,
-            next: from + 1,
-        };
+        let next = from + 1;
+        return Ran { answer, next };
     }
-    let found = look::found_at(path_nos, coords, paths, line);
-    let path = beams::path_of(path_nos, line);
-    let tag = beams::tag_of(paths, path);
-    tile_run(
-        found,
-        tag,
+    tile_line(
         line,
         from,
         to,
+        path_nos,
+        coords,
+        paths,
         stored,
         refs,
         slots,

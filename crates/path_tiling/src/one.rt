@@ -12,7 +12,7 @@ ghost use Rattle.panel.specs.Widths.{lineFloats, segmentFloats};
 ghost use Rattle.panel.specs.Paths.{pathsAnswer};
 ghost use Rattle.panel.specs.Pieces.{pieces};
 ghost use Rattle.panel.specs.declared.kinds.Answer.the-variants.{Done};
-ghost use Rattle.path_tiling.specs.One.{innerOf, SeenMet, PieceMet, ShortMet, PutMet, TookMet};
+ghost use Rattle.path_tiling.specs.One.{innerOf, SeenMet, PieceMet, ShortMet, PutMet, TriedMet};
 use float32::SHIFT;
 use panel::kinds::LineNo;
 use panel::kinds::SlotNo;
@@ -121,6 +121,24 @@ fn short_at(path_nos: &[u32], coords: &[f32], paths: &[u32], stored: &[u32], lin
     Short::In(s, word, beam_at(paths, path))
 }
 
+// The same, where it is to be tried so.
+pub(crate) fn try_short(
+    tried: bool,
+    path_nos: &[u32],
+    coords: &[f32],
+    paths: &[u32],
+    stored: &[u32],
+    line: LineNo,
+) -> Short
+    requires { ⌜ (length (now «path_nos») * lineFloats ≤ length (now coords)) × (pathsAnswer (now paths) (length (now stored)) ≡ Done) ⌝ }
+    ensures { λ r. ⌜ ShortMet (now («path_nos» .entry)) (now (coords .entry)) (now (paths .entry)) (now (stored .entry)) (line .0) r ⌝ }
+{
+    if !tried {
+        return Short::Other;
+    }
+    short_at(path_nos, coords, paths, stored, line)
+}
+
 // Its segment and its tag, written for a reference to step 0 whose tile isn't empty and whose slot is there; and whether they were.
 fn put_short(
     s: Segment,
@@ -149,28 +167,17 @@ fn put_short(
     true
 }
 
-// A reference to a line, by its second word, where it is to be tried so: whether it was written here.
-pub(crate) fn tile_short(
-    tried: bool,
-    line: LineNo,
+// A reference to a line, by its second word and what the line comes to: whether it was written here.
+pub(crate) fn put_tried(
+    short: Short,
     packed: u32,
-    path_nos: &[u32],
-    coords: &[f32],
-    paths: &[u32],
-    stored: &[u32],
     slots: u32,
     segments: &mut [f32],
     tags: &mut [u32],
 ) -> bool
-    requires { ⌜ (length (now «path_nos») * lineFloats ≤ length (now coords)) × (pathsAnswer (now paths) (length (now stored)) ≡ Done)
-        × (slots * segmentFloats ≤ length (now segments)) × (slots ≤ length (now tags)) ⌝ }
-    ensures { λ r. ⌜ TookMet (now («path_nos» .entry)) (now (coords .entry)) (now (paths .entry)) (now (stored .entry)) slots (line .0) packed
-        (pieces (now (segments .entry)) (now (tags .entry))) r (pieces (now (segments .exit)) (now (tags .exit))) ⌝ }
+    requires { ⌜ (slots * segmentFloats ≤ length (now segments)) × (slots ≤ length (now tags)) ⌝ }
+    ensures { λ r. ⌜ TriedMet slots packed short (pieces (now (segments .entry)) (now (tags .entry))) r (pieces (now (segments .exit)) (now (tags .exit))) ⌝ }
 {
-    if !tried {
-        return false;
-    }
-    let short = short_at(path_nos, coords, paths, stored, line);
     let Short::In(s, word, tag) = short else {
         return false;
     };

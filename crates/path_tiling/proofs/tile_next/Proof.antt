@@ -4,7 +4,7 @@ use native.Mathlib.Omega.{arith}
 use borrow.Author.Needs.{needs}
 use Rattle.panel.specs.Pieces.{pieces}
 use Rattle.path_tiling.specs.Look.{lent}
-use Rattle.path_tiling.proofs.RangeLaws.{found-fits}
+use Rattle.path_tiling.proofs.OneLaws.{took-tried}
 use Rattle.path_tiling.proofs.NextLaws.{took-next, ran-next}
 use Rattle.path_tiling.proofs.tile_next.Statement.{statement}
 use Rattle.path_tiling.proofs.tile_next.Tie as tie
@@ -18,11 +18,14 @@ packed-at-requires c κs = search needs
 alone-requires : tie.Need-alone-requires
 alone-requires c κs = search needs
 
-tile-short-requires : tie.Need-tile-short-requires
-tile-short-requires c κs = search needs
+try-short-requires : tie.Need-try-short-requires
+try-short-requires c κs = search needs
 
-add-t25 : tie.Need-add-t25
-add-t25 c = search needs
+put-tried-requires : tie.Need-put-tried-requires
+put-tried-requires c κs = search needs
+
+add-next : tie.Need-add-next
+add-next c = search needs
 
 same-length : tie.Need-same-length
 same-length c = search needs
@@ -33,31 +36,27 @@ same-length-2 c = search needs
 returns : tie.Need-returns
 returns c =
     let t = c .before .before .before .before .before in
-    let a = t .before .before .before .before .before .before .before .before .before .before .before .before .before .args in
-    let s = t .tile-short in
+    let s = t .before .before .before .before .before .before .before .before .before .before .before .before .before .before in
+    let a = s .args in
+    let w = t .put-tried in
+    let p′ = pieces (w .last .1 .1 .1 .0) (w .last .1 .1 .1 .1 .0) in
     took-next (a .to) (lent (now (a .path-nos)) (now (a .coords)) (now (a .paths)) (now (a .stored)) (now (a .refs))) (a .slots)
-    (pieces (now (a .segments)) (now (a .tags))) (a .from) _ _ (s .result) (pieces (s .last .1 .1 .1 .1 .1 .1 .1 .1 .0) (s .last .1 .1 .1 .1 .1 .1 .1 .1 .1 .0))
-    (t .before .before .before .before .before .before .before .before .before .before .before .before .before .pre .some) (t .before .before .before .before .before .named-at .ensures) (s .ensures) (t .before .before .before .before .packed-at .ensures) (c .if1 .taken)
+    (pieces (now (a .segments)) (now (a .tags))) (a .from) _ _ (w .result) p′ (s .pre .some) (t .before .before .before .before .before .before .named-at .ensures)
+    (took-tried (now (a .path-nos)) (now (a .coords)) (now (a .paths)) (now (a .stored)) _ (a .slots) _ (t .before .before .before .try-short .result)
+    (pieces (now (a .segments)) (now (a .tags))) (w .result) p′ (t .before .before .before .try-short .ensures) (w .ensures))
+    (t .before .before .before .before .before .packed-at .ensures) (c .if1 .taken)
 
-found-at-requires : tie.Need-found-at-requires
-found-at-requires c κs = search needs
-
-path-of-requires : tie.Need-path-of-requires
-path-of-requires c κs = search needs
-
-tag-of-requires : tie.Need-tag-of-requires
-tag-of-requires c κs = search needs
-
-tile-run-requires : tie.Need-tile-run-requires
-tile-run-requires c κs =
-    let t = c .before .before .before .before .before .before .before .before .before .before in
-    let p = t .before .before .before .before .before .before .before .before .before .before .before .before .before .pre in (
-      rw (c .before .before .before .before .found-at .ensures) (found-fits _ _ _ _ _ (p .paths)),
-      omega (arith, p .room, c .before .before .before .before .before .before .before .before .before .segments .given),
-      omega (arith, p .tagged, c .before .before .before .before .before .before .before .tags .given),
-      omega (arith, p .some),
-      p .there,
-    )
+tile-line-requires : tie.Need-tile-line-requires
+tile-line-requires c κs =
+    let p = c .before .before .before .before .before .before .before .before .before .before .before .before .before .before .before .before .before .before .before .before .before .pre in
+    record {
+      some = p .some;
+      there = p .there;
+      lines = p .lines;
+      paths = p .paths;
+      room = omega (arith, p .room, c .before .before .before .before .before .before .segments .given);
+      tagged = omega (arith, p .tagged, c .before .before .before .before .tags .given);
+    }
 
 same-length-3 : tie.Need-same-length-3
 same-length-3 c = search needs
@@ -67,13 +66,16 @@ same-length-4 c = search needs
 
 returns-2 : tie.Need-returns-2
 returns-2 c =
-    let t = c .before .before .before .before .before .before .before .before .before .before .before .before .before .before .before in
-    let a = t .before .before .before .before .before .before .before .before .before .before .before .before .before .args in
-    let s = t .tile-short in
+    let t = c .before .before .before .before .before .before .before .before .before .before .before .before in
+    let s = t .before .before .before .before .before .before .before .before .before .before .before .before .before .before in
+    let a = s .args in
+    let w = t .put-tried in
+    let p′ = pieces (w .last .1 .1 .1 .0) (w .last .1 .1 .1 .1 .0) in
     ran-next (a .to) (lent (now (a .path-nos)) (now (a .coords)) (now (a .paths)) (now (a .stored)) (now (a .refs))) (a .slots)
-    (pieces (now (a .segments)) (now (a .tags))) (a .from) _ _ (s .result) (pieces (s .last .1 .1 .1 .1 .1 .1 .1 .1 .0) (s .last .1 .1 .1 .1 .1 .1 .1 .1 .1 .0))
-    (t .before .before .before .before .before .before .before .before .before .before .before .before .before .pre .some) (t .before .before .before .before .before .named-at .ensures) (s .ensures) (c .before .before .before .before .before .before .before .before .before .before .if1 .left)
-    _ _ _ _ (c .before .before .before .before .before .before .before .before .before .found-at .ensures) (c .before .before .before .before .before .before .before .before .path-of .ensures) (c .before .before .before .before .before .before .before .tag-of .ensures) (c .before .before .before .before .tile-run .ensures)
+    (pieces (now (a .segments)) (now (a .tags))) (a .from) _ _ (w .result) p′ (s .pre .some) (t .before .before .before .before .before .before .named-at .ensures)
+    (took-tried (now (a .path-nos)) (now (a .coords)) (now (a .paths)) (now (a .stored)) _ (a .slots) _ (t .before .before .before .try-short .result)
+    (pieces (now (a .segments)) (now (a .tags))) (w .result) p′ (t .before .before .before .try-short .ensures) (w .ensures))
+    (c .before .before .before .before .before .before .before .if1 .left) _ (c .before .before .before .before .tile-line .ensures)
 
 pub tile-next-spec : {M : Type 1} → statement M
 tile-next-spec =
@@ -82,15 +84,13 @@ tile-next-spec =
     named-at-requires
     packed-at-requires
     alone-requires
-    tile-short-requires
-    add-t25
+    try-short-requires
+    put-tried-requires
+    add-next
     same-length
     same-length-2
     returns
-    found-at-requires
-    path-of-requires
-    tag-of-requires
-    tile-run-requires
+    tile-line-requires
     same-length-3
     same-length-4
     returns-2)
