@@ -23,7 +23,6 @@ use Rattle.walk.specs.declared.step.Step.the-variants as On
 use Rattle.walk.proofs.Walks.{StartsAt}
 use Rattle.walk.proofs.CarryLaws.{none-carried, own-carried}
 use Rattle.segment.specs.By.{cornerAt, pieceBy}
-use Rattle.segment.specs.declared.Piece.{Piece}
 use Rattle.segment.proofs.By.{piece-is}
 use Rattle.path_tiling.specs.Look.{wordTo, stepTo}
 use Rattle.path_tiling.specs.Carry.{stepBy, Carries, HasZs}

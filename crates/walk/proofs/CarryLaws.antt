@@ -1,8 +1,8 @@
 -- What is carried from a step is the next step's: its z is the z before, and its z after is the z. Assumes nothing.
 --     next-float     a step number as a float, with 1 added
---     carried-on     the z before and the z, of the step after
+--     before-on, z-on     the z before and the z, of the step after
 --     none-carried, own-carried     what may be carried
-use mathlib.Core.Path.{_≡_, refl, sym, ap, _∙_, subst}
+use mathlib.Core.Path.{_≡_, refl, sym, ap, _∙_}
 use mathlib.Core.Bool.{false}
 use Prim.Native.Nat.{ℕ, _+_, _≤_, _<_, _^_}
 use native.Mathlib.Nat.{le-refl, le-of-lt}

@@ -1,5 +1,4 @@
 -- `path_tiling::look::look_line` meets its contract: a step by its z's, and by its corner from the walk's floats, is the step. Assumes nothing.
-use mathlib.Core.Path.{_≡_}
 use borrow.Author.Needs.{needs}
 use Rattle.path_tiling.proofs.LookLaws.{step-fits}
 use Rattle.path_tiling.proofs.CarryLaws.{z-is, step-by}

@@ -1,5 +1,5 @@
 -- `walk::edges::step_with` meets its contract: what passes the tests by floats is in the box, and its column and row are whole. Assumes nothing.
-use mathlib.Core.Path.{_≡_, sym, _∙_}
+use mathlib.Core.Path.{_∙_}
 use native.Mathlib.Omega.{arith}
 use lib.Ieee.{toSigned}
 use Rattle.exact.proofs.Limits.{far}
