@@ -1,6 +1,7 @@
 -- What is carried from a step is the next step's: its z is the z before, and its z after is the z. Assumes nothing.
 --     next-float     a step number as a float, with 1 added
---     before-on, z-on     the z before and the z, of the step after
+--     carried-on     so the z's of the step after
+--     worked-out     and those of any step
 --     none-carried, own-carried     what may be carried
 use mathlib.Core.Path.{_≡_, refl, sym, ap, _∙_}
 use mathlib.Core.Bool.{false}
@@ -29,13 +30,23 @@ module _ (p : Pace) (s : Zs) (c : Carried p s) (i : ℕ) (h : i < stepRange) (e 
   before-at : s .at < stepRange
   before-at = omega arith
 
-  pub before-on : s .z ≡ lastZ p i
+  before-on : s .z ≡ lastZ p i
   before-on = ap (λ (v : Zs). v .z) (c .own before-at) ∙ sym (last-z p (s .at) before-at) ∙ ap (lastZ p) e
 
-  pub z-on : s .after ≡ zAt (p .a) (p .b) (float i)
+  z-on : s .after ≡ zAt (p .a) (p .b) (float i)
   z-on =
       ap (λ (v : Zs). v .after) (c .own before-at)
       ∙ ap (λ (f : Float). zAt (p .a) (p .b) f) (next-float (s .at) (omega (arith, far .steps)) ∙ ap float e)
+
+  -- so the step's own are these
+  pub carried-on : (f : Float) → f ≡ zAt (p .a) (p .b) (add binary32 (float i) one)
+      → _≡_ {A = Zs} (record { at = i; before = s .z; z = s .after; after = f }) (zsOf p i)
+  carried-on f q = rw (before-on, z-on, q)
+
+-- worked out
+pub worked-out : (p : Pace) (i : ℕ) (b f a : Float) → b ≡ lastZ p i → f ≡ zAt (p .a) (p .b) (float i) → a ≡ zAt (p .a) (p .b) (add binary32 (float i) one)
+    → _≡_ {A = Zs} (record { at = i; before = b; z = f; after = a }) (zsOf p i)
+worked-out p i b f a x y z = rw (x, y, z)
 
 pub none-carried : (p : Pace) → Carried p noZs
 none-carried p = record { most = le-refl _; own = λ h. absurd (omega arith) }

@@ -11,7 +11,7 @@ int-to-float-y c = in-float _ (omega (arith, packs .float))
 
 returns : tie.Need-returns
 unfolding cornerAt
-returns c = cc
+returns c = c .new .ensures
 
 pub corner-at-spec : {M : Type 1} → statement M
 corner-at-spec = tie.close (tie.spec int-to-float-y (λ c κs. tt) returns)

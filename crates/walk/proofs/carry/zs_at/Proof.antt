@@ -3,7 +3,7 @@ use borrow.Author.Needs.{needs}
 use native.Mathlib.Omega.{arith}
 use Rattle.exact.proofs.Limits.{far}
 use Rattle.walk.proofs.Counts.{in-float}
-use Rattle.walk.proofs.CarryLaws.{before-on, z-on}
+use Rattle.walk.proofs.CarryLaws.{carried-on, worked-out}
 use Rattle.walk.proofs.carry.zs_at.Statement.{statement}
 use Rattle.walk.proofs.carry.zs_at.Tie as tie
 
@@ -19,12 +19,7 @@ add-if1 c = omega (arith, c .before .before .before .pre .1 .most, far .steps)
 returns : tie.Need-returns
 returns c =
     let s = c .before .before .before .before in
-    let p = s .args .p in
-    rw (
-      before-on p (s .args .last) (s .pre .1) (s .args .i) (s .pre .0) (c .if1 .taken),
-      z-on p (s .args .last) (s .pre .1) (s .args .i) (s .pre .0) (c .if1 .taken),
-      c .before .before .z-at .ensures,
-    )
+    carried-on (s .args .p) (s .args .last) (s .pre .1) (s .args .i) (s .pre .0) (c .if1 .taken) _ (c .before .before .z-at .ensures)
 
 z-at-requires-2 : tie.Need-z-at-requires-2
 z-at-requires-2 c κs = search needs
@@ -33,7 +28,9 @@ z-at-requires-3 : tie.Need-z-at-requires-3
 z-at-requires-3 c κs = search needs
 
 returns-2 : tie.Need-returns-2
-returns-2 c = rw (c .before .z-at2 .ensures, c .z-at3 .ensures, c .before .before .before .before .z-at .ensures)
+returns-2 c =
+    let s = c .before .before .before .before .before .before in
+    worked-out (s .args .p) (s .args .i) _ _ _ (c .before .z-at2 .ensures) (c .z-at3 .ensures) (c .before .before .before .before .z-at .ensures)
 
 pub zs-at-spec : {M : Type 1} → statement M
 zs-at-spec = tie.close (tie.spec int-to-float-f z-at-requires add-if1 returns z-at-requires-2 z-at-requires-3 returns-2)
