@@ -1,4 +1,4 @@
--- The three arms of `stepRow`, over the pixels from a up to b: `add_row` and `add_low_row` branch so. Assumes nothing.
+-- The three arms of `stepRow`, over the pixels from a up to b: `add_row` and `add_own_row` branch so. Assumes nothing.
 use mathlib.Core.Path.{_≡_, _∙_}
 use mathlib.Core.Bool.{true, false}
 use mathlib.Core.List.{List}

@@ -4,7 +4,7 @@ pub mod Sizes
 pub mod Rises
 pub mod Arms
 pub mod RowsLaws
-pub mod LowLaws
+pub mod OwnLaws
 pub mod Steps
 pub mod NarrowLaws
 pub mod Grounds

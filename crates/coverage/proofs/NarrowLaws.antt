@@ -43,7 +43,7 @@ use Rattle.coverage.specs.declared.row.Row.{Row}
 use Rattle.coverage.specs.declared.row.Reach.{Reach}
 use Rattle.coverage.specs.declared.narrow.Four.{Four}
 use Rattle.coverage.proofs.Rises.{sub-rises, sub-falls, int-rises, at-most-trans}
-use Rattle.coverage.proofs.LowLaws.{sub-number, less-number, int-finite, one-no-zero}
+use Rattle.coverage.proofs.OwnLaws.{sub-number, less-number, int-finite, one-no-zero}
 use Rattle.coverage.proofs.Vertical.{less-itself}
 use Rattle.coverage.proofs.Steps.{tiny, noneF, farLeft, some-left}
 

@@ -20,7 +20,7 @@ use Rattle.float32.proofs.Floors.{few-digits, not-low}
 use Rattle.float32.proofs.Tests.{below-or-not}
 use Rattle.float32.proofs.Whole.{round-no-nan}
 use Rattle.coverage.proofs.Rises.{sum-rd, rd-order, nought, sub-falls, at-most-trans}
-use Rattle.coverage.proofs.LowLaws.{sub-number}
+use Rattle.coverage.proofs.OwnLaws.{sub-number}
 
 -- the smallest float above 0, epsilon, 0 and -15
 abbrev pub tiny : Float

@@ -1,9 +1,8 @@
 // The areas of a tile's pixels, row by row, segment by segment, and what they end as: fine.rs, lines
 // 51 to 109.
-use crate::low::LOW;
-use crate::low::edgeless;
-use crate::low::guess;
-use crate::low::only;
+use crate::own::edgeless;
+use crate::own::guess;
+use crate::own::only;
 use crate::narrow::PARTS;
 use crate::narrow::SPAN_WIDTH;
 use crate::narrow::add_narrow;
@@ -110,8 +109,8 @@ pub fn add_row(area: &mut [f32], w: Way, r: Row, yi: usize)
     }
 }
 
-// Row yi of a segment that is low, which is r. Its part is looked for in the span that starts at column g.
-pub fn add_low_row(
+// Row yi of a segment that goes through it, which is r. Its part is looked for in the span that starts at column g.
+pub fn add_own_row(
     area: &mut [f32],
     w: Way,
     r: Row,
@@ -132,8 +131,7 @@ pub fn add_low_row(
     }
 }
 
-// Four rows of a segment from yi on, whose numbers are these. Most segments are low: four rows that get
-// nothing are passed over by one test.
+// Four rows of a segment from yi on, whose numbers are these. Four rows that get nothing are passed over by one test.
 pub fn add_four(
     area: &mut [f32],
     w: Way,
@@ -211,13 +209,13 @@ pub fn add_few(
     let g = left_column(w);
     let mut yi = from;
     while yi < to {
-        add_low_row(area, w, row_of(w, yt, yi), yi, g, cols, parts);
+        add_own_row(area, w, row_of(w, yt, yi), yi, g, cols, parts);
         yi += 1;
     }
 }
 
-// A segment. One that is low and has no y_edge goes through its own rows only, where the guess at them is right. The lists
-// are those of `columns` and `parts`.
+// A segment. One that has no y_edge goes through its own rows only, where the guess at them is right. The lists are those
+// of `columns` and `parts`.
 pub fn add_segment(
     area: &mut [f32],
     w: Way,
@@ -231,8 +229,8 @@ pub fn add_segment(
     let end = w.y + w.dy;
     let low = pick(end < w.y, end, w.y);
     let high = pick(end < w.y, w.y, end);
-    let flat = (0.0 <= low) & (high <= TILE_SIDE) & (high - low < LOW) & edgeless(w, yt);
-    if flat {
+    let plain = (0.0 <= low) & (high <= TILE_SIDE) & edgeless(w, yt);
+    if plain {
         let from = guess(low - 0.5);
         let to = guess(high + 0.5);
         let right = only(w, yt, from, to);

@@ -2,7 +2,7 @@
 // with refusals 1 and 13 before it. docs/RULES.md, "Coverage and colour".
 pub mod area;
 pub mod ground;
-pub mod low;
+pub mod own;
 pub mod narrow;
 pub mod row;
 pub mod rows;

@@ -1,7 +1,7 @@
 // Parts of a segment that are narrow, as most are: within their row they lie in a few columns that stand side by side, a
 // span. Only in these is anything divided. The columns left of the span get what y_edge adds, and those right of it that
 // and the part's whole height.
-use crate::low::guess;
+use crate::own::guess;
 use crate::row::Reach;
 use crate::row::Way;
 use crate::row::added_at;

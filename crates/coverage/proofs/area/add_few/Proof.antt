@@ -7,7 +7,7 @@ use Rattle.lists.specs.Grid.{mapi, within}
 use Rattle.lists.specs.GridLaws.{within-none}
 use Rattle.coverage.specs.Tile.{rowStart}
 use Rattle.coverage.specs.Row.{stepWay}
-use Rattle.coverage.proofs.LowLaws.{row-more}
+use Rattle.coverage.proofs.OwnLaws.{row-more}
 use Rattle.ranges.proofs.Turn.{Done}
 use native.Mathlib.Omega.{arith}
 use borrow.Author.Needs.{needs}
@@ -29,8 +29,8 @@ left-column-requires c κs = search needs
 row-of-requires : tie.Need-row-of-requires Inv-loop μ-loop
 row-of-requires c κs = search needs
 
-add-low-row-requires : tie.Need-add-low-row-requires Inv-loop μ-loop
-add-low-row-requires c κs = search needs
+add-own-row-requires : tie.Need-add-own-row-requires Inv-loop μ-loop
+add-own-row-requires c κs = search needs
 
 add-yi : tie.Need-add-yi Inv-loop μ-loop
 add-yi c = search needs
@@ -45,7 +45,7 @@ loop-again c =
       omega arith,
       omega arith,
       row-more (a .w) (a .yt) (l .yi) (c .before .before .before .row-of .result) (c .before .before .before .row-of .ensures) (rowStart (a .from)) _ (l .area) _ (omega arith)
-          (l .inv .2) (c .before .before .add-low-row .ensures),
+          (l .inv .2) (c .before .before .add-own-row .ensures),
     )
 
 same-length : tie.Need-same-length Inv-loop μ-loop
@@ -67,7 +67,7 @@ add-few-spec =
     left-column-requires
     loop-holds
     row-of-requires
-    add-low-row-requires
+    add-own-row-requires
     add-yi
     loop-less
     loop-again

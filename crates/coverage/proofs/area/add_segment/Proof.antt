@@ -1,6 +1,6 @@
--- `coverage::area::add_segment` meets its contract: the rows that aren't gone through get nothing (`LowLaws.antt`). Assumes nothing.
+-- `coverage::area::add_segment` meets its contract: the rows that aren't gone through get nothing (`OwnLaws.antt`). Assumes nothing.
 use mathlib.Core.Path.{sym, _∙_}
-use Rattle.coverage.proofs.LowLaws.{low-number, high-number, tried-order, tried-tile, tried-few}
+use Rattle.coverage.proofs.OwnLaws.{low-number, high-number, tried-order, tried-tile, tried-few}
 use borrow.Author.Needs.{needs}
 use Rattle.coverage.proofs.area.add_segment.Statement.{statement}
 use Rattle.coverage.proofs.area.add_segment.Tie as tie
@@ -18,13 +18,13 @@ guess-requires : tie.Need-guess-requires
 guess-requires c κs =
     let s = c in
     let a = s .before .before .before .before .before .before .before .before .args in
-    low-number (a .w) (a .yt) _ _ _ _ (s .before .before .before .before .pick .ensures) (s .before .before .pick2 .ensures) (s .before .edgeless .ensures) (s .if1 .taken)
+    low-number (a .w) (a .yt) _ _ _ (s .before .before .before .before .pick .ensures) (s .before .before .pick2 .ensures) (s .before .edgeless .ensures) (s .if1 .taken)
 
 guess-requires-2 : tie.Need-guess-requires-2
 guess-requires-2 c κs =
     let s = c .before in
     let a = s .before .before .before .before .before .before .before .before .args in
-    high-number (a .w) (a .yt) _ _ _ _ (s .before .before .before .before .pick .ensures) (s .before .before .pick2 .ensures) (s .before .edgeless .ensures) (s .if1 .taken)
+    high-number (a .w) (a .yt) _ _ _ (s .before .before .before .before .pick .ensures) (s .before .before .pick2 .ensures) (s .before .edgeless .ensures) (s .if1 .taken)
 
 only-requires : tie.Need-only-requires
 only-requires c κs = search needs
@@ -35,8 +35,8 @@ add-few-requires c κs =
     let a = s .before .before .before .before .before .before .before .before .args in
     let a-pre = s .before .before .before .before .before .before .before .before .pre in
     let o = sym (c .before .before .only .ensures) ∙ c .before .if2 .taken in (
-      tried-order (a .w) (a .yt) _ _ _ _ (s .before .before .before .before .pick .ensures) (s .before .before .pick2 .ensures) (s .before .edgeless .ensures) (s .if1 .taken) _ _ o,
-      tried-tile (a .w) (a .yt) _ _ _ _ (s .before .before .before .before .pick .ensures) (s .before .before .pick2 .ensures) (s .before .edgeless .ensures) (s .if1 .taken) _ _ o,
+      tried-order (a .w) (a .yt) _ _ _ (s .before .before .before .before .pick .ensures) (s .before .before .pick2 .ensures) (s .before .edgeless .ensures) (s .if1 .taken) _ _ o,
+      tried-tile (a .w) (a .yt) _ _ _ (s .before .before .before .before .pick .ensures) (s .before .before .pick2 .ensures) (s .before .edgeless .ensures) (s .if1 .taken) _ _ o,
       search needs,
       a-pre .1,
       a-pre .2,
@@ -51,7 +51,7 @@ returns c =
     let t = s .before .before .before .before .before .before .before .before in
     let a = t .args in
     let o = sym (c .before .before .before .before .before .only .ensures) ∙ c .before .before .before .before .if2 .taken in
-    tried-few (a .w) (a .yt) _ _ _ _ (s .before .before .before .before .pick .ensures) (s .before .before .pick2 .ensures) (s .before .edgeless .ensures) (s .if1 .taken) _ _ o _ _
+    tried-few (a .w) (a .yt) _ _ _ (s .before .before .before .before .pick .ensures) (s .before .before .pick2 .ensures) (s .before .edgeless .ensures) (s .if1 .taken) _ _ o _ _
     (t .pre .0) (c .before .before .add-few .ensures)
 
 add-all-requires : tie.Need-add-all-requires

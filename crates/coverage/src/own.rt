@@ -1,4 +1,4 @@
-// Segments that are low, as most are: they go through a few of the tile's sixteen rows. Which few is guessed by the
+// The rows that a segment with no y_edge goes through, mostly a few of the tile's sixteen. Which ones is guessed by the
 // bits of the segment's ends, and the guess is tried at the rows beside: further from the segment than a row that
 // gets nothing no row gets anything, so that the rest are passed over unseen.
 use crate::row::Way;
@@ -11,10 +11,7 @@ ghost use Prim.Native.Nat.{_<_};
 ghost use lib.Dec.{T};
 ghost use lib.Ieee.{isNan};
 ghost use Rattle.coverage.specs.Tile.{tileHeight};
-ghost use Rattle.coverage.specs.Low.{guesses, aboveOf, belowOf, edgelessOf, onlyOf};
-
-// A segment is low that is less high than this, in rows.
-pub const LOW: f32 = 4.0;
+ghost use Rattle.coverage.specs.Own.{guesses, aboveOf, belowOf, edgelessOf, onlyOf};
 
 // A guess is one of so many numbers, from 0 on: more than a tile has rows or columns.
 pub const GUESSES: u32 = 32;

@@ -1,15 +1,15 @@
--- `coverage::low::only` meets its contract. Assumes nothing.
+-- `coverage::own::only` meets its contract. Assumes nothing.
 use mathlib.Core.Path.{_≡_, ap, _∙_}
 use mathlib.Core.Bool.{Bool, _&&_, _||_}
 use Prim.Native.Nat.{ℕ, _+_, _-_, _%_}
 use lib.Dec.{eqb, leb}
 use lib.Ieee.{Float}
 use Rattle.coverage.specs.Tile.{tileHeight}
-use Rattle.coverage.specs.Low.{aboveOf, belowOf, onlyOf}
+use Rattle.coverage.specs.Own.{aboveOf, belowOf, onlyOf}
 use Rattle.coverage.specs.declared.row.Way.{Way}
 use borrow.Author.Needs.{needs}
-use Rattle.coverage.proofs.low.only.Statement.{statement}
-use Rattle.coverage.proofs.low.only.Tie as tie
+use Rattle.coverage.proofs.own.only.Statement.{statement}
+use Rattle.coverage.proofs.own.only.Tie as tie
 
 -- the two rows that are tried
 by-rows : (w : Way) (yt : Float) (from to : ℕ) (a b : Bool) → a ≡ aboveOf w yt ((from + (tileHeight - 1)) % tileHeight) → b ≡ belowOf w yt (to % tileHeight)

@@ -1,4 +1,4 @@
--- `coverage::area::add_low_row` meets its contract: its three arms are those of `stepRow`. Assumes nothing.
+-- `coverage::area::add_own_row` meets its contract: its three arms are those of `stepRow`. Assumes nothing.
 use mathlib.Core.Path.{_≡_, sym, subst}
 use mathlib.Core.Bool.{false}
 use lib.Ieee.{lt}
@@ -6,8 +6,8 @@ use Rattle.coverage.specs.declared.row.Reach.{Reach}
 use Rattle.coverage.proofs.Arms.{slant, edge, neither}
 use Rattle.coverage.proofs.NarrowLaws.{ends-in-order}
 use borrow.Author.Needs.{needs}
-use Rattle.coverage.proofs.area.add_low_row.Statement.{statement}
-use Rattle.coverage.proofs.area.add_low_row.Tie as tie
+use Rattle.coverage.proofs.area.add_own_row.Statement.{statement}
+use Rattle.coverage.proofs.area.add_own_row.Tie as tie
 
 reach-of-requires : tie.Need-reach-of-requires
 reach-of-requires c κs = search needs
@@ -48,8 +48,8 @@ returns-3 c =
     let a = c .before .before .before .args in
     neither (a .w) (a .r) _ _ _ (c .before .if1 .left) (c .if2 .left)
 
-pub add-low-row-spec : {M : Type 1} → statement M
-add-low-row-spec =
+pub add-own-row-spec : {M : Type 1} → statement M
+add-own-row-spec =
     tie.close
     (tie.spec
     reach-of-requires

@@ -1,9 +1,9 @@
--- `coverage::low::below` meets its contract. Assumes nothing.
-use Rattle.coverage.specs.Low.{belowOf}
+-- `coverage::own::below` meets its contract. Assumes nothing.
+use Rattle.coverage.specs.Own.{belowOf}
 use Rattle.coverage.proofs.Laws.{small}
 use borrow.Author.Needs.{needs}
-use Rattle.coverage.proofs.low.below.Statement.{statement}
-use Rattle.coverage.proofs.low.below.Tie as tie
+use Rattle.coverage.proofs.own.below.Statement.{statement}
+use Rattle.coverage.proofs.own.below.Tie as tie
 
 int-to-float-y : tie.Need-int-to-float-y
 int-to-float-y c = small _ (search needs)

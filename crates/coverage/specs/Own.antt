@@ -1,4 +1,4 @@
--- Which rows of a tile a segment has nothing for, told by the rows beside them. What the functions of src/low.rt and src/area.rt tell each other; no promise leans on it.
+-- Which rows of a tile a segment has nothing for, told by the rows beside them. What the functions of src/own.rt and src/area.rt tell each other; no promise leans on it.
 -- Definitions only.
 use mathlib.Core.Bool.{Bool, _&&_, _||_}
 use Prim.Native.Nat.{ℕ, _+_, _-_, _%_}

@@ -1,9 +1,9 @@
--- `coverage::low::above` meets its contract. Assumes nothing.
-use Rattle.coverage.specs.Low.{aboveOf}
+-- `coverage::own::above` meets its contract. Assumes nothing.
+use Rattle.coverage.specs.Own.{aboveOf}
 use Rattle.coverage.proofs.Laws.{small}
 use borrow.Author.Needs.{needs}
-use Rattle.coverage.proofs.low.above.Statement.{statement}
-use Rattle.coverage.proofs.low.above.Tie as tie
+use Rattle.coverage.proofs.own.above.Statement.{statement}
+use Rattle.coverage.proofs.own.above.Tie as tie
 
 int-to-float-y : tie.Need-int-to-float-y
 int-to-float-y c = small _ (search needs)

@@ -1,4 +1,4 @@
--- `coverage::low::edgeless` meets its contract. Assumes nothing.
+-- `coverage::own::edgeless` meets its contract. Assumes nothing.
 use mathlib.Core.Path.{_≡_, ap, _∙_}
 use mathlib.Core.Bool.{Bool, _&&_}
 use Prim.Native.Nat.{_-_}
@@ -6,12 +6,12 @@ use lib.Ieee.{Float, le}
 use lib.Ieee.Scale.{finite}
 use Rattle.util.specs.Constants.{zero}
 use Rattle.coverage.specs.Tile.{tileHeight}
-use Rattle.coverage.specs.Low.{leftOf, edgelessOf}
+use Rattle.coverage.specs.Own.{leftOf, edgelessOf}
 use Rattle.coverage.specs.declared.row.Way.{Way}
 use Rattle.coverage.proofs.Laws.{small}
 use borrow.Author.Needs.{needs}
-use Rattle.coverage.proofs.low.edgeless.Statement.{statement}
-use Rattle.coverage.proofs.low.edgeless.Tie as tie
+use Rattle.coverage.proofs.own.edgeless.Statement.{statement}
+use Rattle.coverage.proofs.own.edgeless.Tie as tie
 
 -- the last row is tried, where the sign and y_edge are finite
 by-last : (w : Way) (yt : Float) (s e : Bool) → s ≡ finite (w .sign) → e ≡ finite (w .edge) → ((s && e) && le (leftOf w yt (tileHeight - 1)) zero) ≡ edgelessOf w yt

@@ -1,9 +1,9 @@
--- `coverage::low::guess` meets its contract: a number and a finite one have no NaN for a sum. Assumes nothing.
+-- `coverage::own::guess` meets its contract: a number and a finite one have no NaN for a sum. Assumes nothing.
 use lib.Ieee.{ofBits}
-use Rattle.coverage.proofs.LowLaws.{add-number}
+use Rattle.coverage.proofs.OwnLaws.{add-number}
 use borrow.Author.Needs.{needs}
-use Rattle.coverage.proofs.low.guess.Statement.{statement}
-use Rattle.coverage.proofs.low.guess.Tie as tie
+use Rattle.coverage.proofs.own.guess.Statement.{statement}
+use Rattle.coverage.proofs.own.guess.Tie as tie
 
 float-to-bits-result : tie.Need-float-to-bits-result
 float-to-bits-result c = add-number _ _ (c .pre) (unfold ofBits in tt)

@@ -30,7 +30,7 @@ use Rattle.lists.specs.GridLaws.{within-cong}
 use Rattle.ranges.proofs.Turn.{Done, turned-to, ended, kept}
 use Rattle.coverage.specs.Tile.{tileWidth, tileHeight, tileSize, rowStart, rowEnd}
 use Rattle.coverage.specs.Row.{rowOf, stepRow, stepWay}
-use Rattle.coverage.specs.Low.{topOf, startOf, endOf, leftOf, aboveOf, belowOf, edgelessOf, onlyOf}
+use Rattle.coverage.specs.Own.{topOf, startOf, endOf, leftOf, aboveOf, belowOf, edgelessOf, onlyOf}
 use Rattle.coverage.specs.declared.row.Way.{Way}
 use Rattle.coverage.specs.declared.row.Row.{Row}
 use Rattle.coverage.proofs.Rises.{add-rises, add-rises′, sub-rises, sub-falls, int-rises, at-most-trans}
@@ -414,17 +414,17 @@ module _ (w : Way) (yt : Float) (yi : ℕ) (r : Row) (e : r ≡ rowOf w yt yi) w
       subst (λ (z : ℕ). Done (stepWay w yt) a z l₀ m) n
       (turned-to (stepWay w yt) nan a (rowStart yi) (rowEnd yi) l₀ l m h (omega arith) done (q ∙ within-cong (stepRow w r) (stepWay w yt) (rowStart yi) (rowEnd yi) nan l here))
 
--- ---- the tests of `add_segment`: the lower end is 0 or more and the higher 16 or less, some other, and no y_edge
-module _ (w : Way) (yt low high : Float) (c g : Bool)
+-- ---- the tests of `add_segment`: the lower end is 0 or more and the higher 16 or less, and no y_edge
+module _ (w : Way) (yt low high : Float) (g : Bool)
     (l-is : low ≡ cond (lt (add binary32 (w .y) (w .dy)) (w .y)) (add binary32 (w .y) (w .dy)) (w .y))
     (h-is : high ≡ cond (lt (add binary32 (w .y) (w .dy)) (w .y)) (w .y) (add binary32 (w .y) (w .dy)))
     (g-is : g ≡ edgelessOf w yt)
-    (tests : (((le Number.zero low && le high Number.tileSide) && c) && g) ≡ true) where
+    (tests : ((le Number.zero low && le high Number.tileSide) && g) ≡ true) where
   abbrev ends-in : Bool
   ends-in = le Number.zero low && le high Number.tileSide
 
   both-in : ends-in ≡ true
-  both-in = first ends-in c (first (ends-in && c) g tests)
+  both-in = first ends-in g tests
 
   low-in : le Number.zero low ≡ true
   low-in = first (le Number.zero low) (le high Number.tileSide) both-in
@@ -433,7 +433,7 @@ module _ (w : Way) (yt low high : Float) (c g : Bool)
   high-in = second (le Number.zero low) (le high Number.tileSide) both-in
 
   no-left : edgelessOf w yt ≡ true
-  no-left = sym g-is ∙ second (ends-in && c) g tests
+  no-left = sym g-is ∙ second ends-in g tests
 
   pub low-number : T (not (isNan (sub binary32 low Number.half)))
   low-number = less-number low Number.half (le-right Number.zero low low-in) (unfold ofBits in tt)
