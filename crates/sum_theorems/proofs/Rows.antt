@@ -33,7 +33,7 @@ use Rattle.coverage.specs.Row.{wayOf, rowOf, reachOf, addedOf}
 use Rattle.coverage.specs.declared.row.Way.{Way}
 use Rattle.coverage.specs.declared.row.Row.{Row}
 use Rattle.sum_theorems.specs.Sums.{Tame}
-use Rattle.coverage.proofs.LowLaws.{add-number as number-more}
+use Rattle.coverage.proofs.OwnLaws.{add-number as number-more}
 use Rattle.coverage.proofs.Rises.{rd-order}
 use Rattle.sum_theorems.proofs.Signed.{own-at, sub-rd, at-order}
 use Rattle.sum_theorems.proofs.Tame.{div-wild, sub-wild-left, mul-tame, add-tame}
