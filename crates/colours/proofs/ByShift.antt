@@ -16,7 +16,7 @@ use Rattle.float32.proofs.Floors.{lt-plus, gt-plus}
 use Rattle.float32.proofs.Laws.{size-plus, whole-u32}
 use Rattle.float32.proofs.Magic.{own, div-is}
 use Rattle.util.specs.Constants.{zero, one, byteMost}
-use Rattle.coverage.proofs.Even.{shape}
+use Rattle.rounded.proofs.Shapes.{shape}
 use Rattle.colours.specs.Colour.{byteMany, byteOf}
 use Rattle.colours.proofs.Bytes.{nearest-small, minus-cast, nan-byte, times, is-true}
 use Rattle.colours.proofs.BitOrder.{plain}

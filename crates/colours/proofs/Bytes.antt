@@ -9,22 +9,23 @@ use lib.IntN.{ℤ, pos}
 use lib.Ieee.{Float, nan, inf, fin, binary32, up, down, le, lt, isNan, mul, round, ofBits, toUnsigned}
 use lib.Ieee.Fits.{down-pos}
 use lib.Ieee.Order.{round-mono}
-use Rattle.float32.specs.Meaning.{whole, near-div, clampOf, roundOf}
+use Rattle.float32.specs.Meaning.{whole, near-div, clampOf, roundOf, signed}
 use Rattle.float32.proofs.Laws.{clamp-in, size-plus, whole-u32}
 use Rattle.util.specs.Constants.{zero, one, byteMost}
-use Rattle.coverage.proofs.Even.{withSign, round-with, shape}
+use Rattle.exact.proofs.Exact.{round-signed}
+use Rattle.rounded.proofs.Shapes.{shape}
 use Rattle.colours.specs.Colour.{byteMany, byteOf}
 
 -- ---- a minus sign is kept, and casts to 0
 whole-minus : (n : ℕ) → toUnsigned 32 (whole true n) ≡ 0
-unfolding toUnsigned
-whole-minus n = ap (toUnsigned 32) (round-with binary32 true n 1) ∙ shape (λ z. toUnsigned 32 (withSign true z) ≡ 0) refl (λ m e. refl) binary32 n 1
+unfolding toUnsigned signed
+whole-minus n = ap (toUnsigned 32) (round-signed true n 1) ∙ shape (λ z. toUnsigned 32 (signed true z) ≡ 0) refl (λ m e. refl) binary32 n 1
 
 pub minus-cast : (a c : ℕ) → toUnsigned 32 (roundOf (round binary32 true a c)) ≡ 0
-unfolding roundOf
+unfolding roundOf signed
 minus-cast a c =
-    ap (λ (z : Float). toUnsigned 32 (roundOf z)) (round-with binary32 true a c)
-    ∙ shape (λ z. toUnsigned 32 (roundOf (withSign true z)) ≡ 0) inf-minus (λ m e. whole-minus (near-div (m * up e) (down e))) binary32 a c
+    ap (λ (z : Float). toUnsigned 32 (roundOf z)) (round-signed true a c)
+    ∙ shape (λ z. toUnsigned 32 (roundOf (signed true z)) ≡ 0) inf-minus (λ m e. whole-minus (near-div (m * up e) (down e))) binary32 a c
   where
     inf-minus : toUnsigned 32 (inf true) ≡ 0
     inf-minus = unfold toUnsigned in refl

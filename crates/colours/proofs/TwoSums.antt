@@ -20,8 +20,8 @@ use Rattle.float32.specs.Meaning.{near-div}
 use Rattle.float32.proofs.Floors.{lt-plus}
 use Rattle.float32.proofs.Tests.{yes, below-or-not}
 use Rattle.whole.proofs.Shifted.{same-test}
-use Rattle.coverage.proofs.Even.{shape}
-use Rattle.coverage.proofs.Rises.{add-rises}
+use Rattle.rounded.proofs.Shapes.{shape}
+use Rattle.rounded.proofs.Rises.{add-rises}
 use Rattle.colours.specs.Colour.{byteMany}
 use Rattle.colours.proofs.Bytes.{nearest-small}
 use Rattle.colours.proofs.BitOrder.{plain, bits-rise, bits-climb}

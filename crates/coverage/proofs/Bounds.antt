@@ -24,7 +24,7 @@ use Rattle.coverage.specs.Coverage.{areaAfter, finishOf, sumOf, pixelOf,
 use Rattle.coverage.specs.Fill.{fillOf, fillChecks, ifFine}
 use Rattle.coverage.specs.declared.row.Way.{Way}
 use Rattle.coverage.specs.declared.row.Row.{Row}
-use Rattle.coverage.proofs.Even as Even
+use Rattle.rounded.proofs.Even as Even
 
 -- x lies in 0..1
 abbrev pub InUnit : Float → Type 0

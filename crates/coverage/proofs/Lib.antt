@@ -1,16 +1,12 @@
 pub mod Past
 pub mod Laws
-pub mod Sizes
-pub mod Rises
 pub mod Arms
 pub mod RowsLaws
 pub mod OwnLaws
-pub mod Steps
 pub mod NarrowLaws
 pub mod Grounds
 pub mod Crooked
 pub mod Page
-pub mod Even
 pub mod Bounds
 pub mod Traces
 pub mod Vertical

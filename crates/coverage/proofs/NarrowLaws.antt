@@ -6,32 +6,33 @@
 use mathlib.Core.Path.{_≡_, refl, sym, ap, subst, _∙_}
 use mathlib.Core.Bool.{Bool, true, false, not, cond, _&&_, true≢false}
 use mathlib.Core.List.{List}
-use mathlib.Core.Logic.{inl, inr, ⊎-elim}
-use Prim.Native.Nat.{ℕ, zero, suc, _+_, _-_, _*_, _%_, _^_, _≤_, _<_, zero-le}
-use native.Mathlib.Nat.{mul-pos, zero-mul, mul-comm, zero-lt-suc}
+use mathlib.Core.Logic.{⊎-elim}
+use Prim.Native.Nat.{ℕ, _+_, _-_, _%_, _^_, _≤_, _<_, zero-le}
 use native.Mathlib.Omega.{arith}
-use lib.Dec.{T, leb, ltb, lit<, lit≤}
+use lib.Dec.{T, leb, ltb, lit≤}
 use lib.ListN.{length, getD, set}
 use lib.IntN.{ℤ, pos, _-ℤ_, natAbs}
-use lib.Ieee.{Float, nan, inf, fin, binary32, up, down, unlike, round, sum, add, sub, mul, div, neg, lt, eq, le, fits, isNan, ofBits, ofInt}
-use lib.Ieee.Bits.{ofBits-fits}
-use lib.Ieee.Fits.{up-pos, down-pos, sub-fits}
-use lib.Ieee.Scale.{finite, round-same}
-use borrow.Author.Tests.{le-leb, le-ltb, lt-ltb, leb-true, ltb-true, ltb-false, ne-eqb}
+use lib.Ieee.{Float, nan, binary32, round, sum, add, sub, mul, neg, lt, le, isNan, ofBits, ofInt}
+use lib.Ieee.Fits.{sub-fits}
+use lib.Ieee.Scale.{finite}
+use borrow.Author.Tests.{le-leb, le-ltb, lt-ltb, leb-true, ltb-true}
 use Rattle.util.specs.Constants as Number
-use Rattle.float32.specs.Meaning.{minOf, maxOf}
-use Rattle.float32.proofs.Alike.{IsZero, Alike, alike-then, alike-lt, alike-sum, alike-sub}
-use Rattle.float32.proofs.MinMax.{min-first, min-last, max-last, min-left, max-left, min-of-nan, max-of-nan}
-use Rattle.float32.proofs.Order.{not-lt-of-le, le-left, le-right, lt-irreflexive}
-use Rattle.float32.proofs.Same.{sub-zero}
+use Rattle.float32.proofs.Order.{not-lt-of-le, le-left, le-right}
 use Rattle.float32.proofs.Tests as Test
-use Rattle.float32.proofs.Tests.{no, below-or-not}
+use Rattle.float32.proofs.Tests.{below-or-not}
 use Rattle.float32.proofs.Ints.{int-no-nan}
 use Rattle.exact.specs.Whole.{IsWhole}
 use Rattle.exact.proofs.Signs.{less-plus}
 use Rattle.exact.proofs.Exact.{nat-whole, add-whole, sub-whole}
 use Rattle.exact.proofs.Compare.{lt-whole}
 use Rattle.exact.proofs.Spans.{one-whole}
+use Rattle.rounded.specs.Share.{shareOf}
+use Rattle.rounded.proofs.Rises.{sub-rises, sub-falls, int-rises, at-most-trans}
+use Rattle.rounded.proofs.Numbers.{less-number, int-finite}
+use Rattle.rounded.proofs.Cuts.{smaller-first}
+use Rattle.rounded.proofs.Zeros.{less-itself}
+use Rattle.rounded.proofs.Epsilon.{farLeft}
+use Rattle.rounded.proofs.Beside.{share-left, share-right}
 use Rattle.lists.specs.Grid.{mapi, within}
 use Rattle.lists.specs.GridLaws.{length-mapi, getD-mapi, mapi-is, within-none, getD-tabulate}
 use Rattle.ranges.proofs.Turn.{Done, turned, turned-at}
@@ -42,236 +43,18 @@ use Rattle.coverage.specs.declared.row.Way.{Way}
 use Rattle.coverage.specs.declared.row.Row.{Row}
 use Rattle.coverage.specs.declared.row.Reach.{Reach}
 use Rattle.coverage.specs.declared.narrow.Four.{Four}
-use Rattle.coverage.proofs.Rises.{sub-rises, sub-falls, int-rises, at-most-trans}
-use Rattle.coverage.proofs.OwnLaws.{sub-number, less-number, int-finite, one-no-zero}
-use Rattle.coverage.proofs.Vertical.{less-itself}
-use Rattle.coverage.proofs.Steps.{tiny, noneF, farLeft, some-left}
 
 -- ---- a part's ends
-smaller-first : (x y : Float) → lt (maxOf x y) (minOf x y) ≡ false
-smaller-first x y = go (isNan x) refl
-  where
-    go : (s : Bool) → isNan x ≡ s → lt (maxOf x y) (minOf x y) ≡ false
-    go true e = rw (max-of-nan x y e, min-of-nan x y e) (lt-irreflexive y)
-    go false e =
-        at-most-trans (minOf x y) x (maxOf x y) (no e) (not-lt-of-le (minOf x y) x (min-left x y (no e))) (not-lt-of-le x (maxOf x y) (max-left x y (no e)))
-
 pub ends-in-order : (w : Way) (r : Row) → lt (reachOf w r .right) (reachOf w r .left) ≡ false
 unfolding reachOf
 ends-in-order w r = smaller-first _ _
 
--- ---- finite numbers
-between : (lo hi x : Float) → T (finite lo) → T (finite hi) → T (not (isNan x)) → lt x lo ≡ false → lt hi x ≡ false → T (finite x)
-unfolding lt isNan
-between lo hi nan a b n h k = absurd n
-between nan hi (inf s) a b n h k = absurd a
-between (inf t) hi (inf s) a b n h k = absurd a
-between (fin t m e) nan (inf s) a b n h k = absurd b
-between (fin t m e) (inf u) (inf s) a b n h k = absurd b
-between (fin t m e) (fin u l d) (inf true) a b n h k = absurd (true≢false h)
-between (fin t m e) (fin u l d) (inf false) a b n h k = absurd (true≢false k)
-between lo hi (fin s m e) a b n h k = tt
-
--- what is not below the smallest float above 0 is not 0
-no-zero : (x : Float) → lt x tiny ≡ false → IsZero x → ⊥
-no-zero x h z = true≢false (sym (alike-lt x noneF (inr (z, refl)) tiny ∙ under) ∙ h)
-  where
-    under : lt noneF tiny ≡ true
-    under = unfold lt in refl
-
--- a float divided by itself is 1
-one-is : round binary32 false 1 1 ≡ Number.one
-unfolding round ofBits
-one-is = refl
-
-like : (s : Bool) → unlike s s ≡ false
-like true = refl
-like false = refl
-
-itself : (x : Float) → T (finite x) → (IsZero x → ⊥) → div binary32 x x ≡ Number.one
-unfolding div
-itself nan f z = absurd f
-itself (inf s) f z = absurd f
-itself (fin s zero e) f z = absurd (z refl)
-itself (fin s (suc m) e) f z =
-    let k = suc m * up e * down e in
-    let K : 0 < k = mul-pos (mul-pos (zero-lt-suc m) (up-pos e)) (down-pos e) in
-    rw (ne-eqb (suc m) 0 (λ (q : suc m ≡ 0). omega arith), like s) (round-same binary32 false k k 1 1 K (lit< tt) (mul-comm k 1) ∙ one-is)
-
--- 0 divided by what is above 0 is 0
-nothing-over : (x : Float) → T (not (isNan x)) → lt x tiny ≡ false → div binary32 noneF x ≡ noneF
-unfolding div lt isNan
-nothing-over nan n h = absurd n
-nothing-over (inf true) n h = absurd (true≢false h)
-nothing-over (inf false) n h = refl
-nothing-over (fin true m e) n h = absurd (clash (m * up e * 2 ^ 149) (down e) (ltb-false 0 (m * up e * 2 ^ 149 + 1 * 1 * down e) h) (down-pos e))
-  where
-    clash : (a d : ℕ) → a + 1 * 1 * d ≤ 0 → 0 < d → ⊥
-    clash a d p q = omega arith
-nothing-over (fin false zero e) n h = absurd (no-zero (fin false zero e) h refl)
-nothing-over (fin false (suc m) e) n h =
-    let k = suc m * up e * 1 in
-    let K : 0 < k = mul-pos (mul-pos (zero-lt-suc m) (up-pos e)) (lit< tt) in
-    rw (ne-eqb (suc m) 0 (λ (q : suc m ≡ 0). omega arith))
-    (round-same binary32 false (0 * 1 * down e) k 0 1 K (lit< tt) (omega (arith, zero-mul (down e), zero-mul k)) ∙ (unfold round in refl))
-
--- ---- how much of dy a column gets, by where the part's ends lie from the column's left side on
-abbrev shareBy : (xmin b xmax : Float) → Float
-shareBy xmin b xmax =
-    div binary32
-    (sub binary32 (add binary32 b (mul binary32 Number.half (sub binary32 (mul binary32 (maxOf xmin Number.zero) (maxOf xmin Number.zero)) (mul binary32 (maxOf b Number.zero) (maxOf b Number.zero))))) xmin)
-    (sub binary32 xmax xmin)
-
-abbrev share : (x y : Float) → Float
-share x y = shareBy (sub binary32 (minOf x Number.one) Number.epsilon) (minOf y Number.one) y
-
-one-number : T (not (isNan Number.one))
-unfolding ofBits isNan
-one-number = tt
-
-zero-number : T (not (isNan Number.zero))
-unfolding ofBits isNan
-zero-number = tt
-
-up-to-one : (x : Float) → T (fits binary32 x) → lt x Number.one ≡ false → minOf x Number.one ≡ Number.one
-up-to-one x f h = min-last x Number.one f (ofBits-fits binary32 0x3f80_0000) one-number one-no-zero h
-
--- both ends right of the column
-abbrev almost : Float
-almost = sub binary32 Number.one Number.epsilon
-
-nothing-left : sub binary32 (add binary32 Number.one (mul binary32 Number.half (sub binary32 (mul binary32 (maxOf almost Number.zero) (maxOf almost Number.zero)) (mul binary32 (maxOf Number.one Number.zero) (maxOf Number.one Number.zero))))) almost ≡ Number.zero
-unfolding maxOf ofBits sub add mul neg sum round lt eq le isNan
-nothing-left = refl
-
-above-almost : lt (sub binary32 Number.one almost) tiny ≡ false
-unfolding ofBits sub add neg sum round lt
-above-almost = refl
-
-almost-finite : T (finite almost)
-unfolding ofBits sub add neg sum round
-almost-finite = tt
-
-zero-is : Number.zero ≡ noneF
-unfolding ofBits
-zero-is = refl
-
-share-left : (x y : Float) → T (fits binary32 x) → T (fits binary32 y) → T (not (isNan y)) → lt x Number.one ≡ false → lt y Number.one ≡ false → share x y ≡ Number.zero
-share-left x y f k n h l =
-    ap (λ (z : Float). shareBy (sub binary32 z Number.epsilon) (minOf y Number.one) y) (up-to-one x f h)
-    ∙ ap (λ (z : Float). shareBy almost z y) (up-to-one y k l)
-    ∙ ap (λ (z : Float). div binary32 z (sub binary32 y almost)) (nothing-left ∙ zero-is)
-    ∙ nothing-over (sub binary32 y almost) (less-number y almost n almost-finite) far
-    ∙ sym zero-is
-  where
-    far : lt (sub binary32 y almost) tiny ≡ false
-    far =
-        at-most-trans tiny (sub binary32 Number.one almost) (sub binary32 y almost) (less-number Number.one almost one-number almost-finite) above-almost
-        (sub-rises Number.one y almost l)
-
--- both ends left of the column, and no further than a tile's width
-under-one : (x : Float) → T (not (isNan x)) → lt Number.zero x ≡ false → lt x Number.one ≡ true
-under-one x n h = go (lt x Number.one) refl
-  where
-    strict : lt Number.zero Number.one ≡ true
-    strict = unfold ofBits lt in refl
-
-    go : (b : Bool) → lt x Number.one ≡ b → lt x Number.one ≡ true
-    go true e = e
-    go false e = absurd (true≢false (sym strict ∙ at-most-trans Number.one x Number.zero n e h))
-
-from-zero : (x : Float) → T (fits binary32 x) → lt Number.zero x ≡ false → maxOf x Number.zero ≡ Number.zero
-unfolding ofBits
-from-zero x f h = max-last x f h
-
-nothing-more : mul binary32 Number.half (sub binary32 (mul binary32 Number.zero Number.zero) (mul binary32 Number.zero Number.zero)) ≡ noneF
-unfolding ofBits sub add mul neg sum round
-nothing-more = refl
-
-epsilon-less : lt Number.zero (sub binary32 Number.zero Number.epsilon) ≡ false
-unfolding ofBits sub add neg sum round lt
-epsilon-less = refl
-
-epsilon-finite : T (finite Number.epsilon)
-unfolding ofBits
-epsilon-finite = tt
-
--- the furthest a part lies left of a column, and epsilon more
-abbrev furthest : Float
-furthest = sub binary32 Number.zero (sub binary32 farLeft Number.epsilon)
-
-furthest-finite : T (finite furthest)
-unfolding ofBits sub add neg sum round
-furthest-finite = tt
-
-add-none : (x : Float) → T (fits binary32 x) → Alike (add binary32 x noneF) x
-unfolding sub neg
-add-none x f = alike-then (add binary32 x noneF) (add binary32 x (neg noneF)) x (alike-sum x x noneF (neg noneF) (inl refl) (inr (refl, refl))) (inl (sub-zero x f))
-
-same-as : (x y : Float) → Alike x y → (IsZero y → ⊥) → x ≡ y
-same-as x y (inl e) z = e
-same-as x y (inr p) z = absurd (z (p .1))
-
-module _ (x y : Float) (f : T (fits binary32 x)) (k : T (fits binary32 y)) (n : T (not (isNan x))) (m : T (not (isNan y)))
-    (order : lt y x ≡ false) (low : lt x farLeft ≡ false) (high : lt Number.zero y ≡ false) where
-  x-high : lt Number.zero x ≡ false
-  x-high = at-most-trans x y Number.zero m order high
-
-  y-low : lt y farLeft ≡ false
-  y-low = at-most-trans farLeft x y n low order
-
-  x-finite : T (finite x)
-  x-finite = between farLeft Number.zero x tt (unfold ofBits in tt) n low x-high
-
-  y-finite : T (finite y)
-  y-finite = between farLeft Number.zero y tt (unfold ofBits in tt) m y-low high
-
-  -- the left end less epsilon
-  abbrev xmin : Float
-  xmin = sub binary32 x Number.epsilon
-
-  xmin-number : T (not (isNan xmin))
-  xmin-number = less-number x Number.epsilon n epsilon-finite
-
-  xmin-high : lt Number.zero xmin ≡ false
-  xmin-high =
-      at-most-trans xmin (sub binary32 Number.zero Number.epsilon) Number.zero (less-number Number.zero Number.epsilon zero-number epsilon-finite)
-      (sub-rises x Number.zero Number.epsilon x-high) epsilon-less
-
-  abbrev gap : Float
-  gap = sub binary32 y xmin
-
-  gap-number : T (not (isNan gap))
-  gap-number = sub-number y xmin y-finite xmin-number
-
-  gap-low : lt gap tiny ≡ false
-  gap-low =
-      at-most-trans tiny (sub binary32 x xmin) gap (sub-number x xmin x-finite xmin-number) (some-left x f (subst (λ (z : Float). lt z x ≡ false) zero-is x-high) low)
-      (sub-rises x y xmin order)
-
-  gap-high : lt furthest gap ≡ false
-  gap-high =
-      at-most-trans gap (sub binary32 Number.zero xmin) furthest (sub-number Number.zero xmin (unfold ofBits in tt) xmin-number) (sub-rises y Number.zero xmin high)
-      (sub-falls (sub binary32 farLeft Number.epsilon) xmin Number.zero (sub-rises farLeft x Number.epsilon low))
-
-  gap-finite : T (finite gap)
-  gap-finite = between tiny furthest gap tt furthest-finite gap-number gap-low gap-high
-
-  share-right : share x y ≡ Number.one
-  share-right =
-      ap (λ (z : Float). shareBy (sub binary32 z Number.epsilon) (minOf y Number.one) y) (min-first x Number.one (under-one x n x-high))
-      ∙ ap (λ (z : Float). shareBy xmin z y) (min-first y Number.one (under-one y m high))
-      ∙ ap (λ (z : Float). div binary32 (sub binary32 (add binary32 y (mul binary32 Number.half (sub binary32 (mul binary32 z z) (mul binary32 (maxOf y Number.zero) (maxOf y Number.zero))))) xmin) gap)
-      (from-zero xmin (sub-fits binary32 x Number.epsilon) xmin-high)
-      ∙ ap (λ (z : Float). div binary32 (sub binary32 (add binary32 y (mul binary32 Number.half (sub binary32 (mul binary32 Number.zero Number.zero) (mul binary32 z z)))) xmin) gap) (from-zero y k high)
-      ∙ ap (λ (z : Float). div binary32 (sub binary32 (add binary32 y z) xmin) gap) nothing-more
-      ∙ ap (λ (z : Float). div binary32 z gap)
-      (same-as (sub binary32 (add binary32 y noneF) xmin) gap (alike-sub (add binary32 y noneF) y xmin xmin (add-none y k) (inl refl)) (no-zero gap gap-low))
-      ∙ itself gap gap-finite (no-zero gap gap-low)
-
 -- ---- columns
 column-number : (i : ℕ) → T (not (isNan (columnAt i)))
 column-number i = int-no-nan i
+
+column-finite : (i : ℕ) → i < tileWidth → T (finite (columnAt i))
+column-finite i h = int-finite i (omega arith)
 
 column-whole : (i : ℕ) → i < tileWidth → IsWhole (columnAt i) (pos i)
 column-whole i h = nat-whole i (omega arith)
@@ -317,23 +100,23 @@ module _ (p : Reach) (g : ℕ) (room : g ≤ lastSpan) (order : lt (p .right) (p
     y = sub binary32 (p .right) (columnAt i)
 
     x-number : T (not (isNan x))
-    x-number = less-number (p .left) (columnAt i) left-number (int-finite i l)
+    x-number = less-number (p .left) (columnAt i) left-number (column-finite i l)
 
     y-number : T (not (isNan y))
-    y-number = less-number (p .right) (columnAt i) right-number (int-finite i l)
+    y-number = less-number (p .right) (columnAt i) right-number (column-finite i l)
 
     in-order : lt y x ≡ false
     in-order = sub-rises (p .left) (p .right) (columnAt i) order
 
-    left-share : i < g → share x y ≡ Number.zero
+    left-share : i < g → shareOf x y ≡ Number.zero
     left-share h = share-left x y (sub-fits binary32 (p .left) (columnAt i)) (sub-fits binary32 (p .right) (columnAt i)) y-number beyond (at-most-trans Number.one x y x-number beyond in-order)
       where
         beyond : lt x Number.one ≡ false
         beyond =
-            at-most-trans Number.one (sub binary32 (columnAt (i + 1)) (columnAt i)) x (less-number (columnAt (i + 1)) (columnAt i) (column-number (i + 1)) (int-finite i l))
+            at-most-trans Number.one (sub binary32 (columnAt (i + 1)) (columnAt i)) x (less-number (columnAt (i + 1)) (columnAt i) (column-number (i + 1)) (column-finite i l))
             (next-column i (omega arith)) (sub-rises (columnAt (i + 1)) (p .left) (columnAt i) (after (i + 1) (omega arith)))
 
-    right-share : g + span ≤ i → share x y ≡ Number.one
+    right-share : g + span ≤ i → shareOf x y ≡ Number.one
     right-share h =
         share-right x y (sub-fits binary32 (p .left) (columnAt i)) (sub-fits binary32 (p .right) (columnAt i)) x-number y-number in-order low high
       where
@@ -342,7 +125,7 @@ module _ (p : Reach) (g : ℕ) (room : g ≤ lastSpan) (order : lt (p .right) (p
 
         low : lt x farLeft ≡ false
         low =
-            at-most-trans farLeft (sub binary32 (columnAt 0) (columnAt i)) x (less-number (columnAt 0) (columnAt i) (column-number 0) (int-finite i l)) last
+            at-most-trans farLeft (sub binary32 (columnAt 0) (columnAt i)) x (less-number (columnAt 0) (columnAt i) (column-number 0) (column-finite i l)) last
             (sub-rises (columnAt 0) (p .left) (columnAt i) (after 0 zero-le))
 
         beside : lt (columnAt i) (p .right) ≡ false
@@ -351,7 +134,7 @@ module _ (p : Reach) (g : ℕ) (room : g ≤ lastSpan) (order : lt (p .right) (p
             (not-lt-of-le (p .right) (add binary32 (columnAt g) spanWidth) to) (past-span g i h l)
 
         high : lt Number.zero y ≡ false
-        high = subst (λ (z : Float). lt z y ≡ false) (less-itself (columnAt i) (int-finite i l)) (sub-rises (p .right) (columnAt i) (columnAt i) beside)
+        high = subst (λ (z : Float). lt z y ≡ false) (less-itself (columnAt i) (column-finite i l)) (sub-rises (p .right) (columnAt i) (columnAt i) beside)
 
     pub left-of : (edge dy : Float) → i < g → addedOf p edge dy i ≡ add binary32 edge (mul binary32 Number.zero dy)
     unfolding addedOf

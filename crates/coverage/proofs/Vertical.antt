@@ -1,31 +1,15 @@
 -- A vertical segment goes down for its y_edge: signum of 0 is 1, so a y_edge lent inside the tile is kept, and not lost. Assumes nothing.
-use Prim.Native.Nat.{ℕ, _*_, _-_, _<_}
-use native.Mathlib.Nat.{mul-pos}
-use native.Mathlib.Omega.{arith}
+use Prim.Native.Nat.{ℕ}
 use mathlib.Core.Path.{_≡_, refl, ap, _∙_}
-use mathlib.Core.Bool.{Bool, true, false, not}
-use lib.Dec.{T, lit<}
+use lib.Dec.{T}
 use lib.IntN.{pos}
-use lib.Ieee.{Float, nan, inf, fin, binary32, up, down, add, sub, mul, sum, round, ofBits, ofInt}
-use lib.Ieee.Fits.{down-pos}
-use lib.Ieee.Scale.{finite, round-same}
-use borrow.Author.Tests.{le-ltb}
+use lib.Ieee.{Float, binary32, add, sub, mul, ofBits, ofInt}
+use lib.Ieee.Scale.{finite}
 use Rattle.float32.specs.Meaning.{signumOf, clampOf}
 use Rattle.util.specs.Constants as Number
+use Rattle.rounded.proofs.Zeros.{less-itself}
 use Rattle.coverage.specs.Row.{wayOf, rowOf}
 use Rattle.panel.specs.declared.segments.Segment.{Segment}
-
-none-left : (s : Bool) (a c : ℕ) → 0 < c → sum binary32 s a (not s) a c ≡ Number.zero
-unfolding sum ofBits round
-none-left true a c C = rw (le-ltb a a (omega arith), round-same binary32 false (a - a) c 0 1 C (lit< tt) (omega arith))
-none-left false a c C = rw (le-ltb a a (omega arith), round-same binary32 false (a - a) c 0 1 C (lit< tt) (omega arith))
-
--- x less x is +0
-pub less-itself : (x : Float) → T (finite x) → sub binary32 x x ≡ Number.zero
-unfolding sub
-less-itself nan t = absurd t
-less-itself (inf s) t = absurd t
-less-itself (fin s m e) t = none-left s (m * up e * down e) (down e * down e) (mul-pos (down-pos e) (down-pos e))
 
 plus-sign : signumOf Number.zero ≡ Number.one
 unfolding signumOf ofBits

@@ -7,9 +7,9 @@ use Prim.Native.Nat.{ℕ, _+_, _-_, _%_}
 use lib.Dec.{ltb}
 use lib.IntN.{pos}
 use lib.ListN.{getD, set}
-use lib.Ieee.{Float, nan, binary32, ofBits, ofInt, add, sub, mul, div, lt, le}
-use Rattle.float32.specs.Meaning.{minOf, maxOf}
-use Rattle.util.specs.Constants.{zero, half, one, epsilon}
+use lib.Ieee.{Float, nan, binary32, ofBits, ofInt, add, sub, mul, lt, le}
+use Rattle.util.specs.Constants.{zero, one}
+use Rattle.rounded.specs.Share.{shareOf}
 use Rattle.lists.specs.Grid.{tabulate}
 use Rattle.coverage.specs.Tile.{tileWidth}
 use Rattle.coverage.specs.declared.row.Reach.{Reach}
@@ -37,14 +37,7 @@ partList = tabulate (tileWidth + lastSpan) (λ n. cond (ltb n tileWidth) zero on
 
 -- y_edge + a * dy at the column whose left side is x
 unfoldable pub addedAt : Reach → Float → Float → Float → Float
-addedAt p edge dy x =
-    let xmin = sub binary32 (minOf (sub binary32 (p .left) x) one) epsilon in
-    let xmax = sub binary32 (p .right) x in
-    let b = minOf xmax one in
-    let c = maxOf b zero in
-    let d = maxOf xmin zero in
-    let a = div binary32 (sub binary32 (add binary32 b (mul binary32 half (sub binary32 (mul binary32 d d) (mul binary32 c c)))) xmin) (sub binary32 xmax xmin) in
-    add binary32 edge (mul binary32 a dy)
+addedAt p edge dy x = add binary32 edge (mul binary32 (shareOf (sub binary32 (p .left) x) (sub binary32 (p .right) x)) dy)
 
 -- what pixel k becomes, in column i; what the pixels from `at` on become, in the columns from g on; and four numbers written there
 abbrev pub pixelAdded : Reach → Float → Float → List Float → ℕ → List Float → ℕ → Float

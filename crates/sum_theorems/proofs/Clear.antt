@@ -33,11 +33,13 @@ use Rattle.errors.proofs.Relative.{closest-half}
 use Rattle.errors.proofs.Sizes.{sub-small, round-below}
 use Rattle.errors.proofs.Parts.{parts-pos, round-parts}
 use Rattle.util.specs.Constants as Number
-use Rattle.coverage.proofs.Rises.{Rd, rd-order}
+use Rattle.rounded.specs.Share.{lowOf, heldOf, shareOf}
+use Rattle.rounded.proofs.Rises.{Rd, rd-order}
+use Rattle.rounded.proofs.Numbers.{zero-number, one-number}
 use Rattle.sum_theorems.proofs.Signed.{At, Place, own-at, own-rd, sub-rd, rd-abs, rd-size, rd-number, at-order, at-plus, at-minus}
 use Rattle.sum_theorems.proofs.Tame.{of-most, sum-size, mul-small, half-small}
-use Rattle.sum_theorems.proofs.Shares.{lowOf, heldOf, shareOf, Eps, eps-of, eps-place, parts-same, parts-many, wide, taken-bound}
-use Rattle.sum_theorems.proofs.Shares.{zero-at, one-at, zero-fits, one-fits, at-finite, at-number, one-number, low-fits, low-under}
+use Rattle.sum_theorems.proofs.Shares.{Eps, eps-of, eps-place, parts-same, parts-many, wide, taken-bound}
+use Rattle.sum_theorems.proofs.Shares.{zero-at, one-at, zero-fits, one-fits, at-finite, at-number, low-fits, low-under}
 use Rattle.sum_theorems.proofs.Rows.{unit-small}
 
 -- ---- sizes up to powers of two
@@ -214,10 +216,6 @@ gap-number u x r px nx pr nr f hx hr o =
     (is-true (le (round binary32 false 1 parts) (round binary32 false k parts)) (round-mono binary32 1 parts k parts parts-pos parts-pos (mul-le-mul-right parts one′)))))
 
 -- ---- the share
-zero-number : T (not (isNan Number.zero))
-unfolding isNan ofBits
-zero-number = tt
-
 eps-small : Small Number.epsilon 1
 unfolding ofBits
 eps-small = omega arith

@@ -30,10 +30,11 @@ use Rattle.errors.proofs.Parts.{parts-pos}
 use Rattle.coverage.specs.Tile.{tileWidth, tileHeight}
 use Rattle.coverage.specs.Row.{wayOf, rowOf, reachOf, addedOf}
 use Rattle.sum_theorems.specs.Sums.{Tame, leastHeight, High}
-use Rattle.coverage.proofs.Rises.{Gap, sum-rd, rd-order, nought}
+use Rattle.rounded.specs.Share.{shareOf}
+use Rattle.rounded.proofs.Rises.{Gap, sum-rd, rd-order, nought}
 use Rattle.sum_theorems.proofs.Signed.{At, Place, Between, own-at, own-rd, add-rd, sub-rd, mul-rd, at-order, at-plus, squeeze}
 use Rattle.sum_theorems.proofs.Tame.{sum-size, mul-small}
-use Rattle.sum_theorems.proofs.Shares.{shareOf, shareMost, at-number}
+use Rattle.sum_theorems.proofs.Shares.{shareMost, at-number}
 use Rattle.sum_theorems.proofs.Rows.{in-small, clamp-small, small-number, small-int, no-size, zero-only, edge-small, dy-small, y-small, rise-small, ordered, moved, int-finite, share-moved}
 use Rattle.sum_theorems.proofs.Clear.{big-round, big-add, big-sub, big-mul, big-more, share-number}
 use Rattle.sum_theorems.proofs.Turns.{over-place, toward, along}

@@ -33,11 +33,13 @@ use Rattle.coverage.specs.Row.{wayOf, rowOf, reachOf, addedOf}
 use Rattle.coverage.specs.declared.row.Way.{Way}
 use Rattle.coverage.specs.declared.row.Row.{Row}
 use Rattle.sum_theorems.specs.Sums.{Tame}
-use Rattle.coverage.proofs.OwnLaws.{add-number as number-more}
-use Rattle.coverage.proofs.Rises.{rd-order}
+use Rattle.rounded.specs.Share.{lowOf, heldOf, shareOf}
+use Rattle.rounded.proofs.Numbers.{add-number, less-number}
+use Rattle.rounded.proofs.Numbers as Numbers
+use Rattle.rounded.proofs.Rises.{rd-order}
 use Rattle.sum_theorems.proofs.Signed.{own-at, sub-rd, at-order}
 use Rattle.sum_theorems.proofs.Tame.{div-wild, sub-wild-left, mul-tame, add-tame}
-use Rattle.sum_theorems.proofs.Shares.{lowOf, heldOf, shareOf, shareMost, share-tame}
+use Rattle.sum_theorems.proofs.Shares.{shareMost, share-tame}
 
 -- ---- sizes
 
@@ -104,23 +106,9 @@ sized t nan h = absurd h
 sized t (inf s) h = absurd h
 sized t (fin s m e) h = small-round (unlike t s) (1 * (m * up e)) (1 * down e) 1 (mul-pos (lit< tt) (down-pos e)) (omega arith) (omega (arith, h))
 
--- a sum with a finite number is a number
-pub add-number : (x y : Float) → T (not (isNan x)) → finite y ≡ true → T (not (isNan (add binary32 x y)))
-add-number x y n f = number-more x y n (yes f)
-
-neg-finite : (x : Float) → finite x ≡ true → finite (neg x) ≡ true
-unfolding neg
-neg-finite nan f = f
-neg-finite (inf s) f = f
-neg-finite (fin s m e) f = refl
-
-pub sub-number : (x y : Float) → T (not (isNan x)) → finite y ≡ true → T (not (isNan (sub binary32 x y)))
-unfolding sub
-sub-number x y n f = add-number x (neg y) n (neg-finite y f)
-
-one-finite : finite Number.one ≡ true
+one-finite : T (finite Number.one)
 unfolding ofBits
-one-finite = refl
+one-finite = tt
 
 -- ---- a row of a tile at 0, 0
 module _ (s : Segment) (xt : Float) (taken : Straight s) (yi : ℕ) (low : yi < tileHeight) where
@@ -141,7 +129,7 @@ module _ (s : Segment) (xt : Float) (taken : Straight s) (yi : ℕ) (low : yi < 
   unfolding rowOf wayOf
   edge-small =
       let height = add binary32 (sub binary32 top (s .«y_edge»)) Number.one in
-      let k = clamp-small height (add-number (sub binary32 top (s .«y_edge»)) Number.one (sub-number top (s .«y_edge») (small-number top 16 top-small) (taken .edge)) one-finite) in
+      let k = clamp-small height (add-number (sub binary32 top (s .«y_edge»)) Number.one (less-number top (s .«y_edge») (small-number top 16 top-small) (yes (taken .edge))) one-finite) in
       let w = way-sign in
       subst (λ (x : Float). Small (mul binary32 x (clampOf height Number.zero Number.one)) 1) (sym (w .1)) (sized (w .0) (clampOf height Number.zero Number.one) k)
 
@@ -240,7 +228,7 @@ share-moved x y i fx fy fi gi = go (finite (sub binary32 (maxOf x y) i)) refl
     go true h =
         let f = back h (finite (maxOf x y)) refl in
         let o = ordered x y (finite-number (maxOf x y) f) in
-        share-tame (sub binary32 (minOf x y) i) (sub binary32 (maxOf x y) i) (sub-fits binary32 (minOf x y) i) (sub-fits binary32 (maxOf x y) i) (sub-number (minOf x y) i (o .0) gi)
+        share-tame (sub binary32 (minOf x y) i) (sub binary32 (maxOf x y) i) (sub-fits binary32 (minOf x y) i) (sub-fits binary32 (maxOf x y) i) (less-number (minOf x y) i (o .0) (yes gi))
         (moved (minOf x y) (maxOf x y) i (min-fits x y fx fy) (max-fits x y fx fy) fi (is gi) f (o .0) (o .1))
 
 -- ---- what a segment adds to a pixel
@@ -248,7 +236,7 @@ abbrev pub addedMost : ℕ
 addedMost = 1 + shareMost * 2
 
 pub int-finite : (i : ℕ) → i < tileWidth → finite (ofInt binary32 (pos i)) ≡ true
-int-finite i h = lib.Ieee.Bits.is-true (finite (ofInt binary32 (pos i))) (small-finite (ofInt binary32 (pos i)) i (small-int i (omega (arith, h))))
+int-finite i h = lib.Ieee.Bits.is-true (finite (ofInt binary32 (pos i))) (Numbers.int-finite i (omega (arith, h)))
 
 pub added-tame : (w : Way) (r : Row) (edge dy : Float) (i : ℕ) → i < tileWidth → Small edge 1 → Small dy 2 → Tame (addedOf (reachOf w r) edge dy i) addedMost
 unfolding addedOf reachOf

@@ -30,26 +30,11 @@ use Rattle.errors.proofs.Parts.{parts-pos}
 use Rattle.errors.proofs.Rounds.{round-error}
 use Rattle.util.specs.Constants as Number
 use Rattle.sum_theorems.specs.Sums.{Tame}
-use Rattle.coverage.proofs.Rises.{Rd, rd-order}
+use Rattle.rounded.specs.Share.{lowOf, heldOf, quotOf, shareOf}
+use Rattle.rounded.proofs.Rises.{Rd, rd-order}
+use Rattle.rounded.proofs.Numbers.{one-number}
 use Rattle.sum_theorems.proofs.Signed.{At, Place, Between, own-at, own-rd, sub-rd, add-rd, mul-rd, neg-at, rd-abs, at-order, at-plus, at-minus, squeeze}
 use Rattle.sum_theorems.proofs.Tame.{speck, div-wild, div-under, div-wide, sub-wild-left, sub-wild-right, mul-small, half-small}
-
--- a, of the segment's ends in the row, taken from the pixel's left side
-abbrev pub lowOf : Float → Float
-lowOf l = sub binary32 (minOf l Number.one) Number.epsilon
-
-abbrev pub heldOf : Float → Float → Float
-heldOf x r =
-    let b = minOf r Number.one in
-    let c = maxOf b Number.zero in
-    let d = maxOf x Number.zero in
-    add binary32 b (mul binary32 Number.half (sub binary32 (mul binary32 d d) (mul binary32 c c)))
-
-abbrev pub quotOf : Float → Float → Float
-quotOf x r = div binary32 (sub binary32 (heldOf x r) x) (sub binary32 r x)
-
-abbrev pub shareOf : Float → Float → Float
-shareOf l r = quotOf (lowOf l) r
 
 -- ---- the constants, in parts
 pub zero-at : At Number.zero 0 0
@@ -124,10 +109,6 @@ pub at-finite : (x : Float) (p n : ℕ) → At x p n → T (finite x)
 at-finite nan p n h = absurd h
 at-finite (inf s) p n h = absurd h
 at-finite (fin s m e) p n h = tt
-
-pub one-number : T (not (isNan Number.one))
-unfolding isNan ofBits
-one-number = tt
 
 one-plus : lt Number.one Number.zero ≡ false
 unfolding lt ofBits

@@ -17,7 +17,7 @@ use borrow.Author.Tests.{ltb-false}
 use Rattle.float32.specs.Meaning.{absOf, signOf}
 use Rattle.float32.proofs.Same.{round-own}
 use Rattle.float32.proofs.Whole.{round-no-nan}
-use Rattle.coverage.proofs.Rises.{Gap, Rd, pl, mi, sum-rd, nought, rd-order}
+use Rattle.rounded.proofs.Rises.{Gap, Rd, pl, mi, sum-rd, nought, rd-order}
 use Rattle.errors.specs.Sizes.{parts}
 use Rattle.errors.proofs.Sizes.{abs-round}
 use Rattle.errors.proofs.Parts.{parts-pos, own-parts}

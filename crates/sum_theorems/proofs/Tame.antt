@@ -24,7 +24,7 @@ use Rattle.errors.specs.Sizes.{AtMost}
 use Rattle.errors.proofs.Sizes.{add-small, most-of-le, abs-round}
 use Rattle.util.specs.Constants as Number
 use Rattle.sum_theorems.specs.Sums.{Tame}
-use Rattle.coverage.proofs.Rises.{Gap, pl, mi, sum-rd, nought}
+use Rattle.rounded.proofs.Rises.{Gap, pl, mi, sum-rd, nought}
 
 -- ---- quotients
 pub div-wild : (u w : Float) (N : ℕ) → finite w ≡ false → Tame (div binary32 u w) N

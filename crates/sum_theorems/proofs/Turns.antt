@@ -22,7 +22,8 @@ use Rattle.errors.proofs.Signs.{round-none}
 use Rattle.errors.proofs.Relative.{grid-high}
 use Rattle.errors.proofs.Parts.{parts-pos, round-parts, one-over}
 use Rattle.util.specs.Constants as Number
-use Rattle.coverage.proofs.Rises.{Rd, Gap, rd-order, nought}
+use Rattle.rounded.proofs.Rises.{Rd, Gap, rd-order, nought}
+use Rattle.rounded.proofs.Numbers.{neg-finite}
 use Rattle.sum_theorems.proofs.Signed.{At, Place, Between, own-at, own-rd, add-rd, sub-rd, mul-rd, neg-at, at-order, at-plus, at-minus, squeeze}
 use Rattle.sum_theorems.proofs.Shares.{zero-at, one-at, zero-fits, one-fits, plus-at, minus-at, at-finite}
 use Rattle.sum_theorems.proofs.Clear.{zero-one}
@@ -248,12 +249,6 @@ mul-turned (fin true m e) (fin true n d) f g = refl
 mul-turned (fin true m e) (fin false n d) f g = refl
 mul-turned (fin false m e) (fin true n d) f g = refl
 mul-turned (fin false m e) (fin false n d) f g = refl
-
-neg-finite : (x : Float) → T (finite x) → T (finite (neg x))
-unfolding neg
-neg-finite nan f = f
-neg-finite (inf s) f = f
-neg-finite (fin s m e) f = tt
 
 over-neg : (y : Float) (p n : ℕ) → At y p n → 0 < p + n → div binary32 Number.one (neg y) ≡ neg (div binary32 Number.one y)
 over-neg nan p n h o = absurd h

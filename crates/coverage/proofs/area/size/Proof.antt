@@ -1,7 +1,7 @@
 -- `coverage::area::size` meets its contract: of a number and 0 less it the larger is its size (`Sizes.antt`). Assumes nothing.
 use mathlib.Core.Path.{_∙_}
 use Rattle.float32.proofs.Tests.{yes}
-use Rattle.coverage.proofs.Sizes.{larger-is}
+use Rattle.rounded.proofs.Larger.{larger-is}
 use borrow.Author.Needs.{needs}
 use Rattle.coverage.proofs.area.size.Statement.{statement}
 use Rattle.coverage.proofs.area.size.Tie as tie

@@ -4,7 +4,8 @@ use mathlib.Core.Bool.{not}
 use lib.Dec.{T}
 use lib.Ieee.{Float, isNan, ofBits}
 use Rattle.util.specs.Constants.{half}
-use Rattle.coverage.proofs.OwnLaws.{less-number, from-zero-number}
+use Rattle.rounded.proofs.Numbers.{less-number}
+use Rattle.rounded.proofs.Cuts.{from-zero-number}
 use borrow.Author.Needs.{needs}
 use Rattle.coverage.proofs.narrow.left_column.Statement.{statement}
 use Rattle.coverage.proofs.narrow.left_column.Tie as tie

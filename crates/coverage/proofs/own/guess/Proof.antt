@@ -1,6 +1,6 @@
 -- `coverage::own::guess` meets its contract: a number and a finite one have no NaN for a sum. Assumes nothing.
 use lib.Ieee.{ofBits}
-use Rattle.coverage.proofs.OwnLaws.{add-number}
+use Rattle.rounded.proofs.Numbers.{add-number}
 use borrow.Author.Needs.{needs}
 use Rattle.coverage.proofs.own.guess.Statement.{statement}
 use Rattle.coverage.proofs.own.guess.Tie as tie

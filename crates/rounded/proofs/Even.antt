@@ -1,7 +1,7 @@
 -- The even-odd coverage of a finite area lies in 0..1: what `round` takes away is the nearest even number, and what is left is at most 1. Assumes nothing.
 use mathlib.Core.Path.{_≡_, refl, sym, ap, subst, _∙_}
 use mathlib.Core.Bool.{Bool, true, false, not, cond, _&&_, _||_}
-use mathlib.Core.Logic.{_⊎_, inl, inr, ⊎-elim}
+use mathlib.Core.Logic.{⊎-elim}
 use Prim.Native.Nat.{ℕ, zero, suc, _+_, _-_, _*_, _%_, _^_, _<_, _≤_, zero-le}
 use native.Mathlib.Nat.{
   zero-mul,
@@ -26,66 +26,40 @@ use native.Mathlib.Nat.{
   mul-pos,
 }
 use native.Mathlib.Omega.{arith}
-use lib.Dec.{T, leb, ltb, eqb, ltb→lt}
 use native.Mathlib.Numerals.{add-one}
+use lib.Dec.{T, ltb, eqb, leb→le, lit<, lit≤}
+use lib.Pow.{pow-add, pow-mono, shl-lt}
 use lib.IntN.{ℤ, pos, negsuc}
-use lib.Ieee.{mul, fits, Float, nan, inf, fin, Format, binary32, prec, emax, low, round, units, odd, add, sub, neg, sum, le, up, down}
-use lib.Ieee.Fits.{down-pos}
-use lib.Ieee.Exact.{HasValue}
-use lib.Ieee.Order.{round-mono}
-use lib.Ieee.Exact.{round-exact}
+use lib.Ieee.{mul, fits, Float, nan, inf, fin, binary32, round, add, sub, neg, sum, le, up, down}
 use lib.Ieee.Back.{round-whole}
-use lib.Pow.{pow-pos, pow-add, pow-mono, shl-lt}
-use lib.Dec.{lit<, lit≤}
+use lib.Ieee.Exact.{HasValue, round-exact}
+use lib.Ieee.Fits.{down-pos}
 use lib.Ieee.Nearest.{div-same}
+use lib.Ieee.Order.{round-mono}
 use lib.Ieee.Scale.{finite}
-use Rattle.float32.specs.Meaning.{absOf, roundOf, near-div}
-use borrow.Author.Tests.{le-ltb, ne-eqb}
-
-le-or-lt : (a b : ℕ) → (a ≤ b) ⊎ (b < a)
-le-or-lt zero b = inl zero-le
-le-or-lt (suc a) zero = inr (omega arith)
-le-or-lt (suc a) (suc b) = ⊎-elim (λ p. inl (omega arith)) (λ q. inr (omega arith)) (le-or-lt a b)
-
-abbrev pub zeroF : Float
-zeroF = fin false 0 (pos 0)
-
-abbrev pub oneF : Float
-oneF = fin false 1 (pos 0)
+use Rattle.float32.specs.Meaning.{unit, absOf, roundOf, near-div, signed}
+use Rattle.float32.proofs.Floors.{few-digits, not-high}
+use Rattle.float32.proofs.Laws.{zero-plus}
+use Rattle.float32.proofs.Order.{at-most}
+use Rattle.float32.proofs.Tests.{below-or-not}
+use Rattle.exact.proofs.Exact.{round-signed}
+use Rattle.rounded.proofs.Shapes.{round-abs, shape}
 
 abbrev pub InUnit : Float → Type 0
-InUnit x = T (le zeroF x) × T (le x oneF)
+InUnit x = T (le zero-plus x) × T (le x (unit false))
 
--- a rounded fraction's sign goes along
-odd-abs : (d : ℕ) (s : Bool) (q k l : ℕ) → absOf (odd d s q k l) ≡ odd d false q k l
-unfolding odd absOf
-odd-abs d s zero k l = refl
-odd-abs d s (suc q) k l = refl
-
-units-abs : (f : Format) (s : Bool) (q k : ℕ) → absOf (units f s q k) ≡ units f false q k
-unfolding units absOf
-units-abs f s q k = go (ltb (q * 2 ^ k) (2 ^ (low f + suc (emax f))))
-  where
-    go : (b : Bool) → absOf (cond b (odd (suc (prec f)) s q k (low f)) (inf s)) ≡ cond b (odd (suc (prec f)) false q k (low f)) (inf false)
-    go true = odd-abs (suc (prec f)) s q k (low f)
-    go false = refl
-
-round-abs : (f : Format) (s : Bool) (a b : ℕ) → absOf (round f s a b) ≡ round f false a b
-unfolding round
-round-abs f s a b = units-abs f s _ _
-
-one-rounds : round binary32 false 1 1 ≡ oneF
+one-rounds : round binary32 false 1 1 ≡ unit false
 unfolding round
 one-rounds = refl
 
-zero-rounds : round binary32 false 0 1 ≡ zeroF
+zero-rounds : round binary32 false 0 1 ≡ zero-plus
 unfolding round
 zero-rounds = refl
 
 -- a fraction of at most 1 rounds to a value in 0..1, of either sign
 pub unit-rounds : (s : Bool) (k c : ℕ) → 0 < c → k ≤ c → InUnit (absOf (round binary32 s k c))
 unit-rounds s k c p h =
-    subst InUnit (sym (round-abs binary32 s k c)) (
+    subst InUnit (sym (round-abs s k c)) (
       subst (λ (z : Float). T (le z (round binary32 false k c))) zero-rounds (round-mono binary32 0 1 k c (omega arith) p (omega (arith, mul-one k))),
       subst (λ (z : Float). T (le (round binary32 false k c) z)) one-rounds (round-mono binary32 k c 1 1 p (omega arith) (omega (arith, mul-one k, one-mul c))),
     )
@@ -177,47 +151,6 @@ away-value (fin t m e) s a c p v =
               (λ (z : ℕ). z * 2) (mul-comm de c),
         )
 
-abbrev pub withSign : Bool → Float → Float
-withSign s nan = nan
-withSign s (inf t) = inf s
-withSign s (fin t m e) = fin s m e
-
-odd-with : (d : ℕ) (s : Bool) (q k l : ℕ) → odd d s q k l ≡ withSign s (odd d false q k l)
-unfolding odd
-odd-with d s zero k l = refl
-odd-with d s (suc q) k l = refl
-
-units-with : (f : Format) (s : Bool) (q k : ℕ) → units f s q k ≡ withSign s (units f false q k)
-unfolding units
-units-with f s q k = go (ltb (q * 2 ^ k) (2 ^ (low f + suc (emax f))))
-  where
-    go : (b : Bool) → cond b (odd (suc (prec f)) s q k (low f)) (inf s) ≡ withSign s (cond b (odd (suc (prec f)) false q k (low f)) (inf false))
-    go true = odd-with (suc (prec f)) s q k (low f)
-    go false = refl
-
-pub round-with : (f : Format) (s : Bool) (a b : ℕ) → round f s a b ≡ withSign s (round f false a b)
-unfolding round
-round-with f s a b = units-with f s _ _
-
--- a rounded fraction that is not negative is an infinity or a finite value with the sign clear
-module _ (P : Float → Type 0) (i : P (inf false)) (g : (m : ℕ) (e : ℤ) → P (fin false m e)) where
-  shape-odd : (d q k l : ℕ) → P (odd d false q k l)
-  unfolding odd
-  shape-odd d zero k l = g zero (pos zero)
-  shape-odd d (suc q) k l = g _ _
-
-  shape-units : (f : Format) (q k : ℕ) → P (units f false q k)
-  unfolding units
-  shape-units f q k = go (ltb (q * 2 ^ k) (2 ^ (low f + suc (emax f))))
-    where
-      go : (b : Bool) → P (cond b (odd (suc (prec f)) false q k (low f)) (inf false))
-      go true = shape-odd (suc (prec f)) q k (low f)
-      go false = i
-
-  pub shape : (f : Format) (a b : ℕ) → P (round f false a b)
-  unfolding round
-  shape f a b = shape-units f _ _
-
 -- the largest value below 1/2
 abbrev topF : Float
 topF = fin false 16777215 (negsuc 24)
@@ -232,25 +165,25 @@ zero-signed true = refl
 zero-signed false = refl
 
 from-le : (X Y : ℕ) → T (ltb X Y || (eqb X Y && true)) → X ≤ Y
-from-le X Y h = ⊎-elim (λ (p : X ≤ Y). p) (λ (q : Y < X). absurd (simp (le-ltb X Y (omega arith), ne-eqb X Y (λ (e : X ≡ Y). omega arith)) at h)) (le-or-lt X Y)
+from-le X Y h = leb→le X Y (subst T (at-most X Y) h)
 
 -- below 1/2 the whole number is 0
 abbrev LowAway : Bool → Float → Type 0
-LowAway s z = T (le z topF) → roundOf (withSign s z) ≡ fin s 0 (pos 0)
+LowAway s z = T (le z topF) → roundOf (signed s z) ≡ fin s 0 (pos 0)
 
 low-inf : (s : Bool) → LowAway s (inf false)
-unfolding le
+unfolding le signed
 low-inf s h = absurd h
 
 low-fin : (s : Bool) (m : ℕ) (e : ℤ) → LowAway s (fin false m e)
-unfolding le roundOf
+unfolding le roundOf signed
 low-fin s m e h =
     let g : m * up e * 33554432 ≤ 16777215 * down e = from-le (m * up e * 33554432) (16777215 * down e) h in
     ap (λ (z : ℕ). round binary32 s z 1) (div-eq-of-lt {n = m * up e * 2 + down e} {m = down e * 2} (omega (arith, down-pos e))) ∙ zero-signed s
 
 low-away : (s : Bool) (a b : ℕ) → 0 < b → a * 33554432 ≤ 16777215 * b → roundOf (round binary32 s a b) ≡ fin s 0 (pos 0)
 low-away s a b p h =
-    ap roundOf (round-with binary32 s a b)
+    ap roundOf (round-signed s a b)
     ∙ shape (LowAway s) (low-inf s) (low-fin s) binary32 a b
     (subst (λ (z : Float). T (le (round binary32 false a b) z)) top-rounds (round-mono binary32 a b 16777215 33554432 p (omega arith) h))
 
@@ -297,7 +230,7 @@ evenOdd x = absOf (sub binary32 x (mul binary32 twoF (roundOf (mul binary32 half
 
 -- ---- a magnitude below 1: the multiple of 2 taken away is 0
 under-one : (n d : ℕ) → n < d → n < 16777216 → n * 33554432 ≤ 16777215 * (2 * d)
-under-one n d h k = ⊎-elim (λ (p : d ≤ 16777216). omega arith) (λ (p : 16777216 < d). omega arith) (le-or-lt d 16777216)
+under-one n d h k = ⊎-elim (λ (p : d < 16777216). omega arith) (λ (p : 16777216 ≤ d). omega arith) (below-or-not d 16777216)
 
 low-case : (s : Bool) (m : ℕ) (e : ℤ) → m * up e < down e → m * up e < 16777216 → InUnit (evenOdd (fin s m e))
 low-case s m e h k =
@@ -383,42 +316,19 @@ large-case s m k a b =
     (half-is s m (pos (suc k)) ∙ ap (λ (x : ℕ). round binary32 s x 2) (one-mul N))
     (ap (mul binary32 twoF) (away-value h s N 2 (lit< tt) vh ∙ ap (λ (z : ℕ). round binary32 s z 1) whole)) vy (near-lo M N twice-M) (near-hi M N twice-M)
 
--- ---- what fitting says of a finite value
-and-l : (a b : Bool) → T (a && b) → T a
-and-l true b t = tt
-and-l false b t = absurd t
-
-and-r : (a b : Bool) → T (a && b) → T b
-and-r true b t = t
-and-r false b t = absurd t
-
-fits-small : (s : Bool) (m : ℕ) (e : ℤ) → T (fits binary32 (fin s m e)) → m < 16777216
-unfolding fits
-fits-small s zero e t = lit< tt
-fits-small s (suc m) e t =
-    let A = eqb (suc m % 2) 1 in
-    let B = ltb (suc m) 16777216 in
-    let C = leb (down e) (2 ^ 149) in
-    let D = ltb (suc m * up e) (2 ^ 128 * down e) in
-    ltb→lt (suc m) 16777216 (and-r A B (and-l (A && B) C (and-l (A && B && C) D t)))
-
-fits-under : (s : Bool) (m : ℕ) (e : ℤ) → T (fits binary32 (fin s m e)) → m * up e < 2 ^ 128 * down e
-unfolding fits
-fits-under s zero e t = subst (λ (z : ℕ). z < 2 ^ 128 * down e) (sym (zero-mul (up e))) (mul-pos (pow-pos 128) (down-pos e))
-fits-under s (suc m) e t = ltb→lt (suc m * up e) (2 ^ 128 * down e) (and-r (eqb (suc m % 2) 1 && ltb (suc m) 16777216 && leb (down e) (2 ^ 149)) (ltb (suc m * up e) (2 ^ 128 * down e)) t)
-
 by-size : (s : Bool) (m : ℕ) (e : ℤ) → m < 16777216 → m * up e < 2 ^ 128 * down e → InUnit (evenOdd (fin s m e))
 by-size s m (pos zero) a b =
     let n : m * 1 ≡ m = mul-one m in
-    ⊎-elim (λ (p : 1 ≤ m * 1). small-case s m (pos zero) 0 refl zero-le p (omega arith)) (λ (q : m * 1 < 1). low-case s m (pos zero) q (omega arith)) (le-or-lt 1 (m * 1))
+    ⊎-elim (λ (q : m * 1 < 1). low-case s m (pos zero) q (omega arith)) (λ (p : 1 ≤ m * 1). small-case s m (pos zero) 0 refl zero-le p (omega arith)) (below-or-not (m * 1) 1)
 by-size s m (pos (suc k)) a b = large-case s m k a b
 by-size s m (negsuc k) a b =
     let n : m * 1 ≡ m = mul-one m in
     ⊎-elim
+    (λ (q : m * 1 < 2 ^ suc k). low-case s m (negsuc k) q (omega arith))
     (λ (p : 2 ^ suc k ≤ m * 1).
-    ⊎-elim (λ (q : suc k ≤ 148). small-case s m (negsuc k) (suc k) refl q p (omega arith))
-    (λ (q : 148 < suc k). let g : 2 ^ 24 ≤ 2 ^ suc k = pow-mono {i = 24} {j = suc k} (omega arith) in absurd (clash (2 ^ suc k) m g (omega arith) a)) (le-or-lt (suc k) 148))
-    (λ (q : m * 1 < 2 ^ suc k). low-case s m (negsuc k) q (omega arith)) (le-or-lt (2 ^ suc k) (m * 1))
+    ⊎-elim (λ (q : suc k < 149). small-case s m (negsuc k) (suc k) refl (omega arith) p (omega arith))
+    (λ (q : 149 ≤ suc k). let g : 2 ^ 24 ≤ 2 ^ suc k = pow-mono {i = 24} {j = suc k} (omega arith) in absurd (clash (2 ^ suc k) m g (omega arith) a)) (below-or-not (suc k) 149))
+    (below-or-not (m * 1) (2 ^ suc k))
   where
     clash : (x m : ℕ) → 16777216 ≤ x → x ≤ m → m < 16777216 → ⊥
     clash x m p q r = omega arith
@@ -427,4 +337,4 @@ by-size s m (negsuc k) a b =
 pub even-odd-in-unit : (x : Float) → T (fits binary32 x) → T (finite x) → InUnit (evenOdd x)
 even-odd-in-unit nan f t = absurd t
 even-odd-in-unit (inf s) f t = absurd t
-even-odd-in-unit (fin s m e) f t = by-size s m e (fits-small s m e f) (fits-under s m e f)
+even-odd-in-unit (fin s m e) f t = by-size s m e (few-digits s m e f) (not-high s m e f)

@@ -2,9 +2,9 @@
 -- difference that is not 0. Assumes nothing.
 --     some-left    x less (x less epsilon) is at least the smallest float above 0
 use mathlib.Core.Path.{_≡_, refl, sym, ap, subst, _∙_}
-use mathlib.Core.Bool.{Bool, true, false, not, true≢false, false≢true}
+use mathlib.Core.Bool.{Bool, true, false, true≢false, false≢true}
 use mathlib.Core.Logic.{⊎-elim, inl, inr}
-use Prim.Native.Nat.{ℕ, zero, suc, _+_, _-_, _*_, _^_, _≤_, _<_}
+use Prim.Native.Nat.{ℕ, suc, _+_, _-_, _*_, _^_, _≤_, _<_}
 use native.Mathlib.Nat.{add-mul, mul-comm, mul-assoc, mul-right-comm, mul-one, one-mul, zero-mul, mul-pos, mul-le-mul-right, mul-le-mul-left, le-of-mul-le-mul-right, le-trans, le-of-eq, lt-of-lt-of-le}
 use native.Mathlib.Omega.{arith}
 use lib.Dec.{T, lit<}
@@ -17,20 +17,16 @@ use borrow.Author.Tests.{ltb-false}
 use Rattle.util.specs.Constants.{epsilon}
 use Rattle.float32.proofs.Alike.{IsZero, Alike, alike-sub, alike-lt}
 use Rattle.float32.proofs.Floors.{few-digits, not-low}
+use Rattle.float32.proofs.Laws.{zero-plus}
 use Rattle.float32.proofs.Tests.{below-or-not}
 use Rattle.float32.proofs.Whole.{round-no-nan}
-use Rattle.coverage.proofs.Rises.{sum-rd, rd-order, nought, sub-falls, at-most-trans}
-use Rattle.coverage.proofs.OwnLaws.{sub-number}
+use Rattle.rounded.proofs.Rises.{sum-rd, rd-order, nought, sub-falls, at-most-trans}
+use Rattle.rounded.proofs.Numbers.{sub-number}
+use Rattle.rounded.proofs.Zeros.{tiny}
 
--- the smallest float above 0, epsilon, 0 and -15
-abbrev pub tiny : Float
-tiny = fin false 1 (negsuc 148)
-
+-- epsilon, and -15
 abbrev little : Float
 little = fin false 8796093 (negsuc 42)
-
-abbrev pub noneF : Float
-noneF = fin false 0 (pos 0)
 
 abbrev pub farLeft : Float
 farLeft = fin true 15 (pos 0)
@@ -176,7 +172,7 @@ of-zero x z =
     zero-like : Alike x nought-f
     zero-like = inr (z, refl)
 
-by-sign : (x : Float) → T (fits binary32 x) → lt noneF x ≡ false → lt x farLeft ≡ false → Left x
+by-sign : (x : Float) → T (fits binary32 x) → lt zero-plus x ≡ false → lt x farLeft ≡ false → Left x
 unfolding lt
 by-sign nan f h k = unfold sub add in refl
 by-sign (inf true) f h k = absurd (true≢false k)
@@ -184,6 +180,6 @@ by-sign (inf false) f h k = absurd (true≢false h)
 by-sign (fin true m e) f h k = by-size m e (few-digits true m e f) (not-low true m e f) (omega (arith, ltb-false (15 * 1 * down e) (m * up e * 1) k, mul-one (m * up e)))
 by-sign (fin false m e) f h k = of-zero (fin false m e) (nought m (up e) (up-pos e) (omega (arith, ltb-false (0 * 1 * down e) (m * up e * 1) h, mul-one (m * up e), zero-mul (down e))))
 
-pub some-left : (x : Float) → T (fits binary32 x) → lt noneF x ≡ false → lt x farLeft ≡ false → lt (sub binary32 x (sub binary32 x epsilon)) tiny ≡ false
+pub some-left : (x : Float) → T (fits binary32 x) → lt zero-plus x ≡ false → lt x farLeft ≡ false → lt (sub binary32 x (sub binary32 x epsilon)) tiny ≡ false
 unfolding ofBits
 some-left x f h k = by-sign x f h k

@@ -1,6 +1,6 @@
 -- Of a float and 0 less it the larger is its size: a NaN stays, and a zero is +0. Assumes nothing.
 -- Of `fin s m e` the size is A / D, with A = m * up e and D = down e.
-use mathlib.Core.Path.{_≡_, refl, sym, ap, subst, _∙_}
+use mathlib.Core.Path.{_≡_, refl, ap, _∙_}
 use mathlib.Core.Bool.{Bool, true, false, cond}
 use Prim.Native.Nat.{ℕ, _+_, _-_, _*_, _<_, _≤_}
 use native.Mathlib.Nat.{one-mul, mul-pos}

@@ -1,0 +1,2 @@
+-- What a column gets of a part. Definitions only.
+pub mod Share
