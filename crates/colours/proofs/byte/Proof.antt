@@ -1,4 +1,4 @@
--- `colours::byte` meets its contract: the bits of two sums of what the picks leave say the channel's byte (`ByShift.antt`). Assumes nothing.
+-- `colours::byte` meets its contract: the bits of two sums of what the picks leave say the channel's byte (`rounded`, ByShift). Assumes nothing.
 use mathlib.Core.Path.{_≡_, sym, ap, _∙_, subst}
 use mathlib.Core.Bool.{cond}
 use Prim.Native.Nat.{ℕ, _<_}
@@ -6,9 +6,9 @@ use lib.Dec.{T}
 use lib.Ieee.{Float, binary32, ofBits, lt, mul, fits}
 use Rattle.float32.proofs.Tests.{yes}
 use Rattle.util.specs.Constants.{zero, one, byteMost}
+use Rattle.rounded.proofs.ByShift.{Lifted, kept-by}
 use Rattle.colours.specs.Colour.{byteMany, byteOf}
-use Rattle.colours.proofs.Bytes.{byte-small}
-use Rattle.colours.proofs.ByShift.{Lifted, kept-by, lifted}
+use Rattle.colours.proofs.Bytes.{byte-small, lifted}
 use borrow.Author.Needs.{needs}
 use Rattle.colours.proofs.byte.Statement.{statement}
 use Rattle.colours.proofs.byte.Tie as tie

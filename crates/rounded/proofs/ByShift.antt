@@ -1,4 +1,4 @@
--- What `byte` makes of a channel, by picks and by the bits of two sums (`TwoSums.antt`), is the channel's byte. Assumes nothing.
+-- A float that is cut to 0..1, multiplied by 255, rounded and cast: the same by picks and by the bits of two sums (`TwoSums.antt`). Assumes nothing.
 -- Of `fin s m e` the size is A / D, with A = m * up e and D = down e.
 use mathlib.Core.Path.{_≡_, refl, sym, ap, _∙_, subst}
 use mathlib.Core.Bool.{Bool, true, false, not, cond}
@@ -8,6 +8,7 @@ use native.Mathlib.Omega.{arith}
 use lib.Dec.{T, ltb, lit<, lit≤}
 use lib.IntN.{ℤ, pos}
 use lib.Ieee.{Float, nan, inf, fin, binary32, up, down, lt, le, mul, round, fits, isNan, ofBits, toUnsigned}
+use lib.Ieee.Bits.{is-true}
 use lib.Ieee.Fits.{down-pos, mul-fits}
 use lib.Ieee.Order.{round-mono}
 use borrow.Author.Tests.{le-ltb, ltb-true, ltb-false}
@@ -16,11 +17,10 @@ use Rattle.float32.proofs.Floors.{lt-plus, gt-plus}
 use Rattle.float32.proofs.Laws.{size-plus, whole-u32}
 use Rattle.float32.proofs.Magic.{own, div-is}
 use Rattle.util.specs.Constants.{zero, one, byteMost}
 use Rattle.rounded.proofs.Shapes.{shape}
-use Rattle.colours.specs.Colour.{byteMany, byteOf}
-use Rattle.colours.proofs.Bytes.{nearest-small, minus-cast, nan-byte, times, is-true}
-use Rattle.colours.proofs.BitOrder.{plain}
-use Rattle.colours.proofs.TwoSums.{partedBits, lift, bits, lift-plain, bits-low, bits-high}
+use Rattle.rounded.proofs.Nearest.{many, castOf, top-size, one-size, nearest-small, minus-cast, nan-cast, times}
+use Rattle.rounded.proofs.BitOrder.{plain}
+use Rattle.rounded.proofs.TwoSums.{partedBits, lift, bits, lift-plain, bits-low, bits-high}
 
 -- ---- what stands on the way
 -- at least 0, a NaN and -0 too; at most 1; times 255
@@ -76,9 +76,6 @@ kept-by (fin false m e) h = go (lt zero (fin false m e))
     x : Float
     x = fin false m e
 
-    one-size : whole false 1 ≡ one
-    one-size = unfold round in refl
-
     level : (A D : ℕ) → 1 * D ≤ A → A ≤ 1 * D → A ≡ 1 * D
     level A D p q = omega arith
 
@@ -105,10 +102,6 @@ kept-by (fin false m e) h = go (lt zero (fin false m e))
     go false = refl
 
 -- ---- times 255 it lies from +0 to 255
-top-size : whole false 255 ≡ fin false 255 (pos 0)
-unfolding round
-top-size = refl
-
 abbrev Most : Float → Type 0
 Most z = T (le z (whole false 255)) → Plus 255 z
 
@@ -133,7 +126,7 @@ scaled-plus v =
 pub record Lifted (b : ℕ) (x : Float) : Type 0 where
   pub real : T (not (isNan (lift x)))
   pub least : partedBits ≤ bits x
-  pub is : (bits x - partedBits) / byteMany ≡ b
+  pub is : (bits x - partedBits) / many ≡ b
 
 no-nan : (y : Float) → T (plain y) → T (not (isNan y))
 unfolding isNan
@@ -151,11 +144,11 @@ lifted-plus m e f l =
     record {
       real = no-nan (lift (fin false m e)) (lift-plain m e f l);
       least = omega (arith, lo);
-      is = div-is (bits (fin false m e) - partedBits) byteMany n (omega (arith, lo)) (omega (arith, lo, hi)) ∙ sym u;
+      is = div-is (bits (fin false m e) - partedBits) many n (omega (arith, lo)) (omega (arith, lo, hi)) ∙ sym u;
     }
 
 -- ---- the byte of what is kept
-pub zero-byte : toUnsigned 32 (roundOf (mul binary32 zero byteMost)) ≡ 0
+zero-byte : castOf zero ≡ 0
 unfolding ofBits mul roundOf round toUnsigned
 zero-byte = refl
 
@@ -163,17 +156,14 @@ zero-whole : whole false 0 ≡ zero
 unfolding ofBits round
 zero-whole = refl
 
-abbrev byteAt : Float → ℕ
-byteAt z = toUnsigned 32 (roundOf (mul binary32 z byteMost))
-
-pub kept-byte : (v : Float) → T (fits binary32 v) → byteOf v ≡ toUnsigned 32 (roundOf (scaled v))
-unfolding byteOf clampOf ofBits lt le
-kept-byte nan h = nan-byte ∙ sym zero-byte
+kept-byte : (v : Float) → T (fits binary32 v) → castOf (clampOf v zero one) ≡ castOf (kept v)
+unfolding clampOf ofBits lt le
+kept-byte nan h = nan-cast ∙ sym zero-byte
 kept-byte (inf true) h = refl
 kept-byte (inf false) h = refl
 kept-byte (fin true m e) h = go (lt (fin true m e) zero)
   where
-    go : (b : Bool) → toUnsigned 32 (roundOf (mul binary32 (cond b zero (fin true m e)) byteMost)) ≡ toUnsigned 32 (roundOf (mul binary32 zero byteMost))
+    go : (b : Bool) → castOf (cond b zero (fin true m e)) ≡ castOf zero
     go true = refl
     go false = ap (λ (z : Float). toUnsigned 32 (roundOf z)) (times true m e) ∙ minus-cast (m * up e * 255) (down e * 1) ∙ sym zero-byte
 kept-byte (fin false m e) h = go (lt zero (fin false m e)) refl
@@ -193,13 +183,13 @@ kept-byte (fin false m e) h = go (lt zero (fin false m e)) refl
         sym zero-whole ∙ ap (whole false) (sym (ap (λ (n : ℕ). n / down e) z ∙ mul-div-cancel 0 (down-pos e))) ∙ sym (own false m e 0 h z)
 
     go : (b : Bool) → lt zero (fin false m e) ≡ b
-        → byteAt (cond (lt (fin false m e) zero) zero (cond (lt one (fin false m e)) one (fin false m e)))
-        ≡ byteAt (cond (lt one (cond b (fin false m e) zero)) one (cond b (fin false m e) zero))
+        → castOf (cond (lt (fin false m e) zero) zero (cond (lt one (fin false m e)) one (fin false m e)))
+        ≡ castOf (cond (lt one (cond b (fin false m e) zero)) one (cond b (fin false m e) zero))
     go true i = rw not-below refl
-    go false i = subst (λ (z : Float). byteAt (cond (lt z zero) zero (cond (lt one z) one z)) ≡ byteAt zero) (is-zero i) refl
+    go false i = subst (λ (z : Float). castOf (cond (lt z zero) zero (cond (lt one z) one z)) ≡ castOf zero) (is-zero i) refl
 
 -- ---- all of it
-pub lifted : (v x : Float) → T (fits binary32 v) → x ≡ scaled v → Lifted (byteOf v) x
+pub lifted : (v x : Float) → T (fits binary32 v) → x ≡ scaled v → Lifted (castOf (clampOf v zero one)) x
 lifted v x h e =
     let p = scaled-plus v in
     let f = subst (λ (z : Float). T (fits binary32 z)) (p .is) (mul-fits binary32 (kept v) byteMost) in

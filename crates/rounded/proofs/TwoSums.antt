@@ -20,11 +20,10 @@ use Rattle.float32.specs.Meaning.{near-div}
 use Rattle.float32.proofs.Floors.{lt-plus}
 use Rattle.float32.proofs.Tests.{yes, below-or-not}
 use Rattle.whole.proofs.Shifted.{same-test}
 use Rattle.rounded.proofs.Shapes.{shape}
 use Rattle.rounded.proofs.Rises.{add-rises}
-use Rattle.colours.specs.Colour.{byteMany}
-use Rattle.colours.proofs.Bytes.{nearest-small}
-use Rattle.colours.proofs.BitOrder.{plain, bits-rise, bits-climb}
+use Rattle.rounded.proofs.Nearest.{many, nearest-small}
+use Rattle.rounded.proofs.BitOrder.{plain, bits-rise, bits-climb}
 
 -- ---- the two sums
 -- 1/2 less 1/512 and 1/2 ^ 25
@@ -83,23 +82,23 @@ abbrev greatest : ℕ → Float
 greatest n = ofBits binary32 (toBits binary32 (half n) - 1)
 
 abbrev lowOk : ℕ → Bool
-lowOk n = plain (lift (least n)) && leb (partedBits + byteMany * n) (bits (least n))
+lowOk n = plain (lift (least n)) && leb (partedBits + many * n) (bits (least n))
 
 abbrev highOk : ℕ → Bool
 highOk n =
     plain (half n) && (plain (greatest n) && (eqb (toBits binary32 (half n)) (toBits binary32 (greatest n) + 1)
-    && (plain (lift (greatest n)) && ltb (bits (greatest n)) (partedBits + byteMany * (n + 1)))))
+    && (plain (lift (greatest n)) && ltb (bits (greatest n)) (partedBits + many * (n + 1)))))
 
 -- whether p passes for each number below k
 all : ℕ → (ℕ → Bool) → Bool
 all zero p = true
 all (suc k) p = p k && all k p
 
-lows : all byteMany lowOk ≡ true
+lows : all many lowOk ≡ true
 unfolding add round toBits all least
 lows = refl
 
-highs : all byteMany highOk ≡ true
+highs : all many highOk ≡ true
 unfolding add round toBits ofBits all
 highs = refl
 
@@ -118,31 +117,31 @@ each (suc k) p n h l = go (each k p n (and-r (p k) (all k p) h)) (below-or-not n
 -- the same, said of the floats
 record Low (n : ℕ) : Type 0 where
   sum-plain : T (plain (lift (least n)))
-  reaches : partedBits + byteMany * n ≤ bits (least n)
+  reaches : partedBits + many * n ≤ bits (least n)
 
 record High (n : ℕ) : Type 0 where
   half-plain : T (plain (half n))
   its-plain : T (plain (greatest n))
   next : toBits binary32 (half n) ≡ toBits binary32 (greatest n) + 1
   sum-plain : T (plain (lift (greatest n)))
-  stays : bits (greatest n) < partedBits + byteMany * (n + 1)
+  stays : bits (greatest n) < partedBits + many * (n + 1)
 
-low-of : (n : ℕ) → n < byteMany → Low n
+low-of : (n : ℕ) → n < many → Low n
 low-of n l =
-    let t = each byteMany lowOk n (yes lows) l in
+    let t = each many lowOk n (yes lows) l in
     record {
-      sum-plain = and-l (plain (lift (least n))) (leb (partedBits + byteMany * n) (bits (least n))) t;
-      reaches = leb→le (partedBits + byteMany * n) (bits (least n)) (and-r (plain (lift (least n))) (leb (partedBits + byteMany * n) (bits (least n))) t);
+      sum-plain = and-l (plain (lift (least n))) (leb (partedBits + many * n) (bits (least n))) t;
+      reaches = leb→le (partedBits + many * n) (bits (least n)) (and-r (plain (lift (least n))) (leb (partedBits + many * n) (bits (least n))) t);
     }
 
-high-of : (n : ℕ) → n < byteMany → High n
+high-of : (n : ℕ) → n < many → High n
 high-of n l =
     let a = plain (half n) in
     let b = plain (greatest n) in
     let c = eqb (toBits binary32 (half n)) (toBits binary32 (greatest n) + 1) in
     let d = plain (lift (greatest n)) in
-    let f = ltb (bits (greatest n)) (partedBits + byteMany * (n + 1)) in
-    let t = each byteMany highOk n (yes highs) l in
+    let f = ltb (bits (greatest n)) (partedBits + many * (n + 1)) in
+    let t = each many highOk n (yes highs) l in
     let u = and-r a (b && (c && (d && f))) t in
     let v = and-r b (c && (d && f)) u in
     let w = and-r c (d && f) v in
@@ -151,11 +150,11 @@ high-of n l =
       its-plain = and-l b (c && (d && f)) u;
       next = eqb→eq (toBits binary32 (half n)) (toBits binary32 (greatest n) + 1) (and-l c (d && f) v);
       sum-plain = and-l d f w;
-      stays = ltb→lt (bits (greatest n)) (partedBits + byteMany * (n + 1)) (and-r d f w);
+      stays = ltb→lt (bits (greatest n)) (partedBits + many * (n + 1)) (and-r d f w);
     }
 
 -- ---- x against n and a half
-half-value : (n : ℕ) → n < byteMany → HasValue (half n) false (n * 2 + 1) 2
+half-value : (n : ℕ) → n < many → HasValue (half n) false (n * 2 + 1) 2
 half-value n l =
     let q : n * 2 + 1 < 2 ^ 24 = omega arith in
     round-exact binary32 false (n * 2 + 1) 2 (n * 2 + 1) 148 (lit< tt) q (lt-of-lt-of-le (shl-lt 24 148 q) (lit≤ tt)) (sym (mul-assoc (n * 2 + 1) (2 ^ 148) 2))
@@ -192,7 +191,7 @@ module _ (m : ℕ) (e : ℤ) (f : T (fits binary32 (fin false m e))) (most : m *
   abbrev n : ℕ
   n = near-div (m * up e) (down e)
 
-  few : n < byteMany
+  few : n < many
   few = nearest-small (m * up e) (down e) (down-pos e) most
 
   not-less : lt x (least n) ≡ false
@@ -205,7 +204,7 @@ module _ (m : ℕ) (e : ℤ) (f : T (fits binary32 (fin false m e))) (most : m *
       some : (k A D : ℕ) → suc k * D * 2 ≤ A * 2 + D → (k * 2 + 1) * D ≤ A * 2
       some k A D h = omega arith
 
-      go : (j : ℕ) → j < byteMany → j * down e * 2 ≤ m * up e * 2 + down e → lt x (least j) ≡ false
+      go : (j : ℕ) → j < many → j * down e * 2 ≤ m * up e * 2 + down e → lt x (least j) ≡ false
       go zero l h = lt-plus m e (fin false 0 (pos 0)) 0 (refl, refl) ∙ none (m * up e) (down e)
       go (suc k) l h = below-half m e (half k) k (half-value k (omega arith)) ∙ le-ltb (m * up e * 2) ((k * 2 + 1) * down e) (some k (m * up e) (down e) h)
 
@@ -233,12 +232,12 @@ module _ (m : ℕ) (e : ℤ) (f : T (fits binary32 (fin false m e))) (most : m *
   pub lift-plain : T (plain (lift x))
   lift-plain = under-plain m e (lift (greatest n)) (high-of n few .sum-plain) (lift-rises x (greatest n) not-more)
 
-  pub bits-low : partedBits + byteMany * n ≤ bits x
+  pub bits-low : partedBits + many * n ≤ bits x
   bits-low =
       let h = low-of n few in
       le-trans (h .reaches) (bits-rise (lift (least n)) (lift x) (h .sum-plain) lift-plain (lift-rises (least n) x not-less))
 
-  pub bits-high : bits x < partedBits + byteMany * (n + 1)
+  pub bits-high : bits x < partedBits + many * (n + 1)
   bits-high =
       let h = high-of n few in
       lt-of-le-of-lt (bits-rise (lift x) (lift (greatest n)) lift-plain (h .sum-plain) (lift-rises x (greatest n) not-more)) (h .stays)
