@@ -1,14 +1,14 @@
 // The areas of a tile's pixels, row by row, segment by segment, and what they end as: fine.rs, lines
 // 51 to 109.
-use crate::own::edgeless;
-use crate::own::guess;
-use crate::own::only;
 use crate::narrow::PARTS;
 use crate::narrow::SPAN_WIDTH;
 use crate::narrow::add_narrow;
 use crate::narrow::columns;
 use crate::narrow::left_column;
 use crate::narrow::parts;
+use crate::own::edgeless;
+use crate::own::guess;
+use crate::own::only;
 use crate::row::Reach;
 use crate::row::Row;
 use crate::row::Way;

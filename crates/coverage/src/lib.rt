@@ -2,8 +2,8 @@
 // with refusals 1 and 13 before it. docs/RULES.md, "Coverage and colour".
 pub mod area;
 pub mod ground;
-pub mod own;
 pub mod narrow;
+pub mod own;
 pub mod row;
 pub mod rows;
 pub mod tile;
