@@ -2,7 +2,7 @@
 --     most-of-le     what a comparison with p / c tells
 --     round-most     a fraction that is p / 2 ^ j at most, rounded
 --     add-small, sub-small   a sum and a difference of numbers that are N and M at most
-use mathlib.Core.Path.{_≡_, refl, sym, ap, _∙_, subst}
+use mathlib.Core.Path.{_≡_, sym, ap, subst}
 use mathlib.Core.Bool.{Bool, true, false, not, cond, _&&_, true≢false, false≢true}
 use Prim.Native.Nat.{ℕ, suc, _+_, _-_, _*_, _^_, _≤_, _<_}
 use native.Mathlib.Nat.{le-trans, le-of-eq, add-mul, mul-assoc, mul-comm, mul-pos, mul-one, mul-le-mul-right, mul-right-comm}
@@ -17,12 +17,12 @@ use lib.Ieee.Exact.{HasValue}
 use lib.Ieee.Order.{round-mono}
 use lib.Ieee.Positive.{through}
 use borrow.Author.Tests.{ltb-false}
-use Rattle.float32.specs.Meaning.{absOf, signed}
+use Rattle.float32.specs.Meaning.{absOf}
 use Rattle.float32.proofs.Order.{not-lt-of-le}
 use Rattle.float32.proofs.Nearest.{part-exact}
 use Rattle.exact.specs.Whole.{Small}
-use Rattle.exact.proofs.Exact.{round-signed}
 use Rattle.exact.proofs.Bounds.{small-round}
+pub use Rattle.walk.proofs.Apart.{abs-round}
 use Rattle.errors.specs.Sizes.{AtMost}
 
 -- ---- what a comparison tells
@@ -40,14 +40,6 @@ most-of-le (fin s m e) (fin true n d) p c v h = absurd (true≢false (v .0))
 most-of-le (fin s m e) (fin false n d) p c v h = through (m * up e) (n * up d) p (down e) (down d) c (down-pos d) (cross-of-le m e n d h) (le-of-eq (v .1))
 
 -- ---- rounding
-pub abs-round : (s : Bool) (a c : ℕ) → absOf (round binary32 s a c) ≡ round binary32 false a c
-abs-round s a c = ap absOf (round-signed s a c) ∙ same s (round binary32 false a c) ∙ sym (round-signed false a c)
-  where
-    same : (s : Bool) (y : Float) → absOf (signed s y) ≡ signed false y
-    same s nan = unfold absOf signed in refl
-    same s (inf t) = unfold absOf signed in refl
-    same s (fin t m e) = unfold absOf signed in refl
-
 -- p / c is a number that an `f32` holds
 pub round-below : (s : Bool) (a c p d : ℕ) → 0 < c → 0 < d → HasValue (round binary32 false p d) false p d → a * d ≤ p * c → AtMost (round binary32 s a c) p d
 round-below s a c p d C D v h =

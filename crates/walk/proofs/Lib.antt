@@ -6,6 +6,7 @@
 --     Sides   a step's tests by the box's edges as floats
 --     Tiles   no tile twice in a line, and one tile for counting and tiling
 --     Walks   what is known of a line that is walked
+--     Apart   how far one float is from another
 --     AroundLaws  what the set-up of a line stands on
 --     Corners   a step's column and row as floats, with no cast and back
 --     CarryLaws   what is carried from a step is the next step's
@@ -16,6 +17,7 @@ pub mod StepTiles
 pub mod Sides
 pub mod Tiles
 pub mod Walks
+pub mod Apart
 pub mod AroundLaws
 pub mod Corners
 pub mod CarryLaws

@@ -5,8 +5,9 @@ ghost use mathlib.Core.Path.{_≡_};
 ghost use mathlib.Core.Bool.{false};
 ghost use Prim.Native.Nat.{_+_, _*_, _<_, _≤_, _^_};
 ghost use lib.ListN.{length};
-ghost use lib.Ieee.{lt};
-ghost use Rattle.float32.specs.Meaning.{floorOf};
+ghost use lib.Ieee.{binary32, sub, lt};
+ghost use Rattle.float32.specs.Meaning.{floorOf, absOf};
+ghost use Rattle.exact.specs.Reach.{Near};
 ghost use Rattle.panel.specs.Widths.{lineFloats};
 ghost use Rattle.walk.specs.Setup.{Scaled, endsOf, slopeOf, bOf, aOf, walkOn};
 ghost use Rattle.walk.specs.Skip.{flatOf, pastOf};
@@ -57,13 +58,23 @@ pub fn order(p0: Vec2, p1: Vec2) -> Ends
     }
 }
 
+// b. One comparison chooses: a NaN gives ONE_MINUS_ULP, which is no zero.
 pub fn start(m: Slope, s0: Vec2) -> f32
     ensures { λ r. ⌜ r ≡ bOf m s0 ⌝ }
 {
-    float32::min(
-        (m.dy * m.c + m.dx * (m.ytop - s0.y)) * m.idxdy,
-        ONE_MINUS_ULP,
-    )
+    let b = (m.dy * m.c + m.dx * (m.ytop - s0.y)) * m.idxdy;
+    pick(b < ONE_MINUS_ULP, b, ONE_MINUS_ULP)
+}
+
+// How far it is from a to b: the larger less the smaller, which the tile edges are taken of too. Where they are equal both are a,
+// so that no -0 is left of two zeros.
+fn across(a: f32, b: f32) -> f32
+    requires { ⌜ Near a × Near b ⌝ }
+    ensures { λ r. ⌜ r ≡ absOf (sub binary32 b a) ⌝ }
+{
+    let least = pick(b < a, b, a);
+    let last = pick(a < b, b, a);
+    last - least
 }
 
 // How many tiles lie from the edge `low` to the edge `high`; at least one. Of a checked line that is
@@ -78,10 +89,10 @@ fn span(low: f32, high: f32) -> u32
 
 // Whether a line has no length, or lies along tiles' edges; `top` is the row that s0 is in.
 pub fn flat(s0: Vec2, s1: Vec2, top: f32) -> bool
-    requires { ⌜ top ≡ floorOf (s0 .y) ⌝ }
+    requires { ⌜ Scaled s0 × Scaled s1 × (top ≡ floorOf (s0 .y)) ⌝ }
     ensures { λ r. ⌜ r ≡ flatOf s0 s1 ⌝ }
 {
-    let dx = float32::abs(s1.x - s0.x);
+    let dx = across(s0.x, s1.x);
     let dy = s1.y - s0.y;
     (dx + dy == 0.0) | ((dy == 0.0) & (top == s0.y))
 }
@@ -115,7 +126,7 @@ pub fn incline(s0: Vec2, s1: Vec2, left: f32, right: f32, top: f32, bottom: f32)
     requires { ⌜ Around s0 s1 left right top bottom ⌝ }
     ensures { λ r. ⌜ r ≡ slopeOf s0 s1 ⌝ }
 {
-    let dx = float32::abs(s1.x - s0.x);
+    let dx = across(s0.x, s1.x);
     let dy = s1.y - s0.y;
     let idxdy = 1.0 / (dx + dy);
     let is_positive_slope = s1.x >= s0.x;

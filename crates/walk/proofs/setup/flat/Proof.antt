@@ -4,12 +4,12 @@ use Rattle.walk.specs.Skip.{flatOf}
 use Rattle.walk.proofs.setup.flat.Statement.{statement}
 use Rattle.walk.proofs.setup.flat.Tie as tie
 
-abs-requires : tie.Need-abs-requires
-abs-requires c κs = search needs
+across-requires : tie.Need-across-requires
+across-requires c κs = search needs
 
 returns : tie.Need-returns
 unfolding flatOf
 returns c = cc
 
 pub flat-spec : {M : Type 1} → statement M
-flat-spec = tie.close (tie.spec abs-requires returns)
+flat-spec = tie.close (tie.spec across-requires returns)

@@ -8,8 +8,8 @@ use Rattle.walk.proofs.AroundLaws.{column, same-row, off-is}
 use Rattle.walk.proofs.setup.incline.Statement.{statement}
 use Rattle.walk.proofs.setup.incline.Tie as tie
 
-abs-requires : tie.Need-abs-requires
-abs-requires c κs = search needs
+across-requires : tie.Need-across-requires
+across-requires c κs = search needs
 
 pick-requires : tie.Need-pick-requires
 pick-requires c κs = search needs
@@ -23,12 +23,12 @@ pick-requires-3 c κs = search needs
 returns : tie.Need-returns
 unfolding slopeOf
 returns c =
-    let s = c .before .before .before .before .before .before .before .before .before .before .before .before .before .before .before in
+    let s = c .before .before .before .before .before .before .before .before .before .before .before .before .before in
     rw (
       c .pick3 .ensures,
       c .before .before .before .before .pick2 .ensures,
       c .before .before .before .before .before .before .before .pick .ensures,
-      c .before .before .before .before .before .before .before .before .before .before .before .before .abs .ensures,
+      c .before .before .before .before .before .before .before .before .before .before .before .before .across .ensures,
       column (s .args .s0) (s .args .s1) (s .pre),
       s .pre .at-top,
       s .pre .at-bottom,
@@ -37,4 +37,4 @@ returns c =
     )
 
 pub incline-spec : {M : Type 1} → statement M
-incline-spec = tie.close (tie.spec abs-requires pick-requires pick-requires-2 pick-requires-3 returns)
+incline-spec = tie.close (tie.spec across-requires pick-requires pick-requires-2 pick-requires-3 returns)

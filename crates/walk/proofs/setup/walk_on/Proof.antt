@@ -22,7 +22,11 @@ floor-near-requires c κs =
     near-within _ (e .0 .in-y)
 
 flat-requires : tie.Need-flat-requires
-flat-requires c κs = search needs
+flat-requires c κs =
+    let o = c .before .before .before in
+    let s = o .before in
+    let e : Scaled (o .order .result .s0) × Scaled (o .order .result .s1) = rw (o .order .ensures) (ends-scaled (s .args .p0) (s .args .p1) (s .pre)) in
+    (e .0, e .1, c .floor-near .ensures)
 
 past-requires : tie.Need-past-requires
 past-requires c κs =
