@@ -103,11 +103,11 @@ high-end N S D p l b =
     let h : N < 16777217 = lt-of-mul-lt-mul-right D (omega arith) in
     omega arith
 
-pub no-value-nan : (y : Float) (N : ℕ) → HasValue y false N 1 → T (not (isNan y))
+pub no-value-nan : (y : Float) (s : Bool) (N : ℕ) → HasValue y s N 1 → T (not (isNan y))
 unfolding isNan
-no-value-nan nan N v = absurd v
-no-value-nan (inf s) N v = absurd v
-no-value-nan (fin s m e) N v = tt
+no-value-nan nan t N v = absurd v
+no-value-nan (inf s) t N v = absurd v
+no-value-nan (fin s m e) t N v = tt
 
 added-plus : (m : ℕ) (e : ℤ) → add binary32 (fin false m e) magic ≡ round binary32 false (m * up e + 12582912 * down e) (down e)
 unfolding add sum
@@ -174,7 +174,7 @@ module _ (m : ℕ) (e : ℤ) (l : m * up e < 4194304 * down e) where
         S = S;
         D = down e;
         some = p;
-        real = no-value-nan (add binary32 x magic) N value;
+        real = no-value-nan (add binary32 x magic) false N value;
         bits = value-bits (add binary32 x magic) N (add-fits binary32 x magic) value lo most;
         least = lo;
         most = most;
@@ -255,7 +255,7 @@ module _ (m : ℕ) (e : ℤ) (l : m * up e < 4194304 * down e) where
         S = U;
         D = down e;
         some = p;
-        real = no-value-nan (add binary32 y magic) M worth;
+        real = no-value-nan (add binary32 y magic) false M worth;
         bits = value-bits (add binary32 y magic) M (add-fits binary32 y magic) worth over (omega (arith, not-over));
         least = over;
         most = omega (arith, not-over);

@@ -1,27 +1,29 @@
 -- The bits of x + 3 * 2 ^ 22 by x's floor; `bitsOf` by two natural numbers, for `omega`; and floats that are small enough. Assumes nothing.
 --     bits-parts, same-bits      what `bitsOf` is, and that it tells two whole numbers apart
 --     floor-shifted, whole-shifted   the two functions' answers
+--     not-up-to      the test turned round
 --     small-within, whole-within, floor-within   what lies below 2 ^ 22 in size
 use mathlib.Core.Path.{_≡_, refl, sym, ap, _∙_, subst}
-use mathlib.Core.Bool.{Bool, true, false}
+use mathlib.Core.Bool.{Bool, true, false, not, true≢false, false≢true}
 use mathlib.Core.Logic.{_⊎_, inl, inr}
 use Prim.Native.Nat.{ℕ, suc, _+_, _-_, _*_, _/_, _^_, _≤_, _<_}
 use native.Mathlib.Nat.{one-mul, add-mul, le-of-eq, mod-lt, div-add-mod', mul-lt-mul-of-pos-right, lt-of-mul-lt-mul-right}
 use native.Mathlib.Omega.{arith}
 use lib.Dec.{T, ltb}
 use lib.IntN.{ℤ, pos, negsuc, natAbs}
-use lib.Ieee.{Float, nan, inf, fin, binary32, up, down, add, lt, toBits, toSigned}
+use lib.Ieee.{Float, nan, inf, fin, binary32, up, down, add, lt, le, fits, isNan, toBits, toSigned}
 use lib.Ieee.Fits.{down-pos}
 use lib.Ieee.Scale.{finite}
 use borrow.Author.Tests.{lt-ltb, ltb-true, ltb-false}
 use Rattle.float32.specs.Inner.{Within, limit}
 use Rattle.float32.specs.Meaning.{up-div}
 use Rattle.float32.proofs.Floors.{lt-plus, gt-minus}
-use Rattle.float32.proofs.Magic.{magic, near, div-is}
+use Rattle.float32.proofs.Order.{le-of-not-lt}
+use Rattle.float32.proofs.Magic.{magic, near, floor-near, div-is}
 use Rattle.exact.specs.Whole.{IsWhole, Small, floorZ}
 use Rattle.exact.proofs.Signs.{plusOf, minusOf, one-part, abs-parts, same-parts, abs-signed, neg-minus}
 use Rattle.whole.specs.Bits.{zeroBits, bitsOf}
-use Rattle.whole.proofs.Shifted.{Shift, shifted, up-reach}
+use Rattle.whole.proofs.Shifted.{Shift, shifted, no-value-nan, up-reach}
 
 -- ---- bits by the whole number
 pub bits-parts : (n : ℤ) → minusOf n ≤ zeroBits → bitsOf n + minusOf n ≡ zeroBits + plusOf n
@@ -68,6 +70,21 @@ floor-shifted x h step w =
 
     few : (f : Shift x) → ((lt x (near x) ≡ true) × (step ≡ 1)) ⊎ ((lt x (near x) ≡ false) × (step ≡ 0)) → step ≤ toBits binary32 (add binary32 x magic)
     few f w = omega (arith, f .bits, one f w)
+
+-- what is not up to x lies above it: both are numbers
+pub not-up-to : (x : Float) → T (fits binary32 x) → Within x → le (near x) x ≡ false → lt x (near x) ≡ true
+not-up-to x f h e = go (lt x (near x)) refl
+  where
+    number : (x : Float) → lt x (limit false) ≡ true → T (not (isNan x))
+    number nan l = absurd (unfold lt in false≢true l)
+    number (inf s) l = unfold isNan in tt
+    number (fin s m e) l = unfold isNan in tt
+
+    go : (t : Bool) → lt x (near x) ≡ t → t ≡ true
+    go true q = refl
+    go false q =
+        let v = floor-near x f (h .below) (h .above) .value in
+        absurd (true≢false (sym (le-of-not-lt (near x) x (no-value-nan (near x) (v .0) (v .1) (v .3)) (number x (h .below)) q) ∙ e))
 
 -- ---- a whole number
 pub whole-shifted : (x : Float) (n : ℤ) → Within x → IsWhole x n → toBits binary32 (add binary32 x magic) + minusOf n ≡ zeroBits + plusOf n

@@ -11,13 +11,14 @@ use float32::SHIFT;
 // The bits of SHIFT: those of SHIFT and a whole number are so many more, or fewer.
 pub const ZERO: u32 = 0x4B40_0000;
 
-// The floor of an x below 2^22 in size, as a whole number, ZERO added.
+// The floor of an x below 2^22 in size, as a whole number, ZERO added. Of the two ways to ask, `<=` and its else are a subtraction with
+// the borrow that the comparison leaves.
 pub fn floor_bits(x: f32) -> u32
     requires { ⌜ Within x ⌝ }
     ensures { λ r. ⌜ r ≡ bitsOf (floorZ x) ⌝ }
 {
     let t = x + SHIFT;
-    let step: u32 = if x < t - SHIFT { 1 } else { 0 };
+    let step: u32 = if t - SHIFT <= x { 0 } else { 1 };
     f32::to_bits(t) - step
 }
 

@@ -6,17 +6,21 @@ use Prim.Native.Nat.{_-_, _≤_}
 use native.Mathlib.Omega.{arith}
 use lib.Ieee.{binary32, add, ofBits, toBits}
 use Rattle.exact.specs.Whole.{floorZ}
+use Rattle.float32.proofs.Tests.{yes}
+use Rattle.float32.proofs.Order.{not-lt-of-le}
 use Rattle.float32.proofs.Magic.{magic}
 use Rattle.whole.specs.Bits.{bitsOf}
 use Rattle.whole.proofs.Shifted.{shifted}
-use Rattle.whole.proofs.Steps.{floor-shifted}
+use Rattle.whole.proofs.Steps.{floor-shifted, not-up-to}
 use Rattle.whole.proofs.floor_bits.Statement.{statement}
 use Rattle.whole.proofs.floor_bits.Tie as tie
 
 stepped : (c : tie.Joined1)
     → (c .if1 .step ≤ toBits binary32 (add binary32 (c .before .args .x) magic)) × (toBits binary32 (add binary32 (c .before .args .x) magic) - c .if1 .step ≡ bitsOf (floorZ (c .before .args .x)))
 unfolding ofBits
-stepped c = floor-shifted (c .before .args .x) (c .before .pre) (c .if1 .step) (⊎-elim (λ w. inl (w .0 .taken, w .1)) (λ w. inr (w .0 .left, w .1)) (c .if1 .came))
+stepped c =
+    floor-shifted (c .before .args .x) (c .before .pre) (c .if1 .step)
+    (⊎-elim (λ w. inr (not-lt-of-le _ _ (w .0 .taken), w .1)) (λ w. inl (not-up-to (c .before .args .x) (yes (c .before .good .0 .1)) (c .before .pre) (w .0 .left), w .1)) (c .if1 .came))
 
 float-to-bits-result : tie.Need-float-to-bits-result
 unfolding ofBits
