@@ -1,5 +1,5 @@
 -- From the check of a coordinate to the size of what is computed from it. Assumes nothing.
---     small-of-le, small-between        what a comparison with a whole number tells
+--     small-of-le, le-of-small, small-between   what a comparison with a whole number tells
 --     small-round, small-scale, small-sign   rounding goes beyond no whole number
 --     floor-small, ceil-small           the integer of a floor or a ceil
 --     near-of                           a checked coordinate, in tiles
@@ -19,13 +19,13 @@ use lib.Ieee.Bits.{is-true}
 use lib.Ieee.Exact.{HasValue}
 use lib.Ieee.Order.{round-mono}
 use lib.Ieee.Scale.{finite}
-use borrow.Author.Tests.{ltb-false, lt-ltb}
+use borrow.Author.Tests.{ltb-false, lt-ltb, le-ltb}
 use Rattle.float32.specs.Inner.{limit, Within}
 use Rattle.float32.specs.Meaning.{whole, up-div, floorOf, ceilOf, absOf, signed, unit, minOf, maxOf}
 use Rattle.float32.proofs.Whole.{whole-value}
-use Rattle.float32.proofs.Order.{not-lt-of-le, le-right}
+use Rattle.float32.proofs.Order.{not-lt-of-le, le-of-not-lt, le-right}
 use Rattle.float32.proofs.MinMax.{min-picks, max-picks, max-right}
-use Rattle.float32.proofs.Floors.{trunc-exact, lt-plus, gt-minus}
+use Rattle.float32.proofs.Floors.{trunc-exact, lt-plus, gt-plus, gt-minus}
 use Rattle.float32.proofs.Laws.{size-plus, size-minus, down-most, up-most, up-exact, floor-fits, max-fits, min-fits}
 use Rattle.exact.specs.Whole.{IsWhole, floorZ, ceilZ, turn, Small}
 use Rattle.util.specs.Constants.{zero as zeroF, one, minusOne, tileScale}
@@ -59,6 +59,20 @@ unfolding absOf
 small-of-le nan N b h = absurd (unfold le in false≢true h)
 small-of-le (inf s) N b h = absurd (true≢false (sym (below-inf (whole false N) false N 1 (whole-value false N b)) ∙ not-lt-of-le (inf false) (whole false N) h))
 small-of-le (fin s m e) N b h = size-plus m e N b h
+
+-- and the other way round
+pub le-of-small : (x : Float) (N : ℕ) → N ≤ 2 ^ 24 → Small x N → le (absOf x) (whole false N) ≡ true
+unfolding absOf
+le-of-small nan N b h = absurd h
+le-of-small (inf s) N b h = absurd h
+le-of-small (fin s m e) N b h =
+    let v = whole-value false N b in
+    le-of-not-lt (fin false m e) (whole false N) (unfold isNan in tt) (value-number (whole false N) N v) (gt-plus m e (whole false N) N v ∙ le-ltb (N * down e) (m * up e) h)
+  where
+    value-number : (y : Float) (n : ℕ) → HasValue y false n 1 → T (not (isNan y))
+    value-number nan n v = absurd v
+    value-number (inf s) n v = absurd v
+    value-number (fin s j d) n v = unfold isNan in tt
 
 -- the same check by two comparisons
 pub small-between : (x : Float) (N : ℕ) → N ≤ 2 ^ 24 → le (whole true N) x ≡ true → le x (whole false N) ≡ true → Small x N

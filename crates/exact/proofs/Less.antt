@@ -14,7 +14,7 @@ use lib.Ieee.Scale.{round-same}
 use borrow.Author.Tests.{le-ltb}
 use Rattle.util.specs.Constants.{one}
 
-nat-value : (i : ℕ) → i ≤ 2 ^ 24 → HasValue (ofInt binary32 (pos i)) false i 1
+pub nat-value : (i : ℕ) → i ≤ 2 ^ 24 → HasValue (ofInt binary32 (pos i)) false i 1
 unfolding ofInt
 nat-value i h = round-whole binary32 false i h
 

@@ -8,6 +8,7 @@
 --     Ordered   a coordinate in tiles keeps its order
 --     Spans     a span by the ends' picks, cast without loss
 --     Columns   the first column by the edges of a span
+--     Reaches   a coordinate that is within the limit in tiles is within the limit
 pub mod Signs
 pub mod Exact
 pub mod Compare
@@ -17,3 +18,4 @@ pub mod Less
 pub mod Ordered
 pub mod Spans
 pub mod Columns
+pub mod Reaches

@@ -10,14 +10,16 @@ use Rattle.panel.specs.Limits.{coordMost, coordWhole, edgeMost}
 use Rattle.panel.specs.Widths.{stepRange}
 use Rattle.exact.specs.Reach.{coordTiles}
 
--- the coordinate's limit is a whole number of tiles, of 16 each; it, the box edges' and the step numbers that a reference holds are at most 2 ^ 20
+-- the coordinate's limit is a whole number of tiles, of 16 each; it, the box edges' and the step numbers that a reference holds are at most 2 ^ 20. No
+-- box reaches further than a coordinate
 pub record Far : Type 0 where
   pub coord : coordMost ≡ whole false (coordTiles * 16)
   pub some : 1 ≤ coordTiles
   pub tiles : coordTiles ≤ 2 ^ 20
   pub edge : edgeMost ≤ 2 ^ 20
+  pub reach : edgeMost ≤ coordTiles
   pub steps : stepRange ≤ 2 ^ 20
 
 pub far : Far
 unfolding coordTiles coordMost coordWhole edgeMost stepRange ofBits round
-far = record { coord = refl; some = lit≤ tt; tiles = lit≤ tt; edge = lit≤ tt; steps = lit≤ tt }
+far = record { coord = refl; some = lit≤ tt; tiles = lit≤ tt; edge = lit≤ tt; reach = lit≤ tt; steps = lit≤ tt }

@@ -100,10 +100,12 @@ product-order (fin s m e) (fin t n d) f g h =
     (rounded-order (m * up e * 1) (down e * 16) (n * up d * 1) (down d * 16) (n * up d * down e) (m * up e * down d) 16
     (mul-pos (down-pos e) (lit< tt)) (mul-pos (down-pos d) (lit< tt)) (sixteenth (m * up e) (down d)) (sixteenth (n * up d) (down e)) s t h)
 
+-- of any finite numbers
+pub scaled-order : (p q : Float) → T (finite p) → T (finite q) → lt q p ≡ false → lt (scaled q) (scaled p) ≡ false
+scaled-order p q f g h = subst (λ (k : Float). lt (mul binary32 q k) (mul binary32 p k) ≡ false) (sym scale-is) (product-order p q f g h)
+
 pub scaled-ordered : (p q : Float) → inReach p ≡ true → inReach q ≡ true → le p q ≡ true → lt (scaled q) (scaled p) ≡ false
-scaled-ordered p q f g h =
-    subst (λ (k : Float). lt (mul binary32 q k) (mul binary32 p k) ≡ false) (sym scale-is)
-    (product-order p q (reach-finite p f) (reach-finite q g) (not-lt-of-le p q h))
+scaled-ordered p q f g h = scaled-order p q (reach-finite p f) (reach-finite q g) (not-lt-of-le p q h)
 
 -- and the other way round: both are numbers, so one is at most the other
 pub scaled-turned : (p q : Float) → inReach p ≡ true → inReach q ≡ true → le p q ≡ false → lt (scaled p) (scaled q) ≡ false

@@ -25,11 +25,12 @@ use Rattle.clip.proofs.Unclipped.{Unclipped}
 use Rattle.inside.specs.Stages.{inEdgesOf}
 use Rattle.inside.proofs.NotBelow.{not-below}
 
--- the six comparisons
+-- the seven comparisons
 pub record Told (s0 s1 : Vec2) (b : Path) : Type 0 where
   pub left : le (float (b .x0)) (leastOf (s0 .x) (s1 .x)) ≡ true
   pub before-right : lt (leastOf (s0 .x) (s1 .x)) (float (b .x1)) ≡ true
   pub right : le (lastOf (s0 .x) (s1 .x)) (float (b .x1)) ≡ true
+  pub end-right : le (s1 .x) (float (b .x1)) ≡ true
   pub top : le (float (b .y0)) (s0 .y) ≡ true
   pub before-bottom : lt (s0 .y) (float (b .y1)) ≡ true
   pub bottom : le (s1 .y) (float (b .y1)) ≡ true
@@ -41,12 +42,14 @@ edges-told s0 s1 b h =
     let r = lastOf (s0 .x) (s1 .x) in
     let p = le (float (b .x0)) l && lt l (float (b .x1)) in
     let q = le (float (b .y0)) (s0 .y) && lt (s0 .y) (float (b .y1)) in
-    let a = both (p && le r (float (b .x1))) (q && le (s1 .y) (float (b .y1))) h in
-    let x = both p (le r (float (b .x1))) (a .0) in
+    let e = le r (float (b .x1)) && le (s1 .x) (float (b .x1)) in
+    let a = both (p && e) (q && le (s1 .y) (float (b .y1))) h in
+    let x = both p e (a .0) in
+    let w = both (le r (float (b .x1))) (le (s1 .x) (float (b .x1))) (x .1) in
     let y = both q (le (s1 .y) (float (b .y1))) (a .1) in
     let u = both (le (float (b .x0)) l) (lt l (float (b .x1))) (x .0) in
     let v = both (le (float (b .y0)) (s0 .y)) (lt (s0 .y) (float (b .y1))) (y .0) in
-    record { left = u .0; before-right = u .1; right = x .1; top = v .0; before-bottom = v .1; bottom = y .1 }
+    record { left = u .0; before-right = u .1; right = w .0; end-right = w .1; top = v .0; before-bottom = v .1; bottom = y .1 }
 
 -- what is below is not at least
 not-le-of-lt : (x y : Float) → lt x y ≡ true → le y x ≡ false
@@ -74,7 +77,7 @@ module _ (s0 s1 : Vec2) (b : Path) (near0 : Scaled s0) (near1 : Scaled s1) (orde
   wide e = true≢false (sym (t .before-right) ∙ ap (λ (n : ℕ). lt (leastOf (s0 .x) (s1 .x)) (float n)) e ∙ not-lt-of-le (float (b .x0)) (leastOf (s0 .x) (s1 .x)) (t .left))
 
   below-top : lt (s1 .y) (float (b .y0)) ≡ false
-  below-top = not-below (s1 .y) (s0 .y) (float (b .y0)) (near-finite (s1 .y) (near1 .in-y)) (near-finite (s0 .y) (near0 .in-y)) ordered
+  below-top = not-below (s1 .y) (s0 .y) (float (b .y0)) (near-finite (s0 .y) (near0 .in-y)) ordered
       (not-lt-of-le (float (b .y0)) (s0 .y) (t .top))
 
   -- it is not skipped
@@ -105,7 +108,6 @@ module _ (s0 s1 : Vec2) (b : Path) (near0 : Scaled s0) (near1 : Scaled s1) (orde
       let r = lastOf (s0 .x) (s1 .x) in
       alike-lt (maxOf (s0 .x) (s1 .x)) r (max-alike (s0 .x) (s1 .x) number) (float (b .x0))
       ∙ not-below r l (float (b .x0))
-      (near-finite r (near-pick (lt (s0 .x) (s1 .x)) (s0 .x) (s1 .x) (near0 .in-x) (near1 .in-x)))
       (near-finite l (near-pick (lt (s1 .x) (s0 .x)) (s0 .x) (s1 .x) (near0 .in-x) (near1 .in-x)))
       (last-least (s0 .x) (s1 .x))
       (not-lt-of-le (float (b .x0)) l (t .left))

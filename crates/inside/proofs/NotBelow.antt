@@ -1,4 +1,4 @@
--- Of finite numbers, what is not below the second is not below what the second is not below. Assumes nothing.
+-- What is not below a finite number is not below what that number is not below. Assumes nothing.
 use mathlib.Core.Path.{_≡_, refl, sym, ap, _∙_}
 use mathlib.Core.Bool.{Bool, true, false, true≢false}
 use Prim.Native.Nat.{ℕ, _+_, _*_, _≤_, _<_}
@@ -51,14 +51,17 @@ module _ (A D C F B E : ℕ) (Dp : 0 < D) (Fp : 0 < F) (Ep : 0 < E) where
       let a : A * E ≡ 0 = nothing A E (none A F Fp (left-none (A * F) (C * D) (ltb-false 0 (A * F + C * D) h))) in
       le-ltb (B * D) (A * E) (omega arith)
 
-pub not-below : (x z y : Float) → T (finite x) → T (finite z) → lt x z ≡ false → lt z y ≡ false → lt x y ≡ false
+pub not-below : (x z y : Float) → T (finite z) → lt x z ≡ false → lt z y ≡ false → lt x y ≡ false
 unfolding lt
-not-below nan z y f g h k = absurd f
-not-below (inf s) z y f g h k = absurd f
-not-below (fin s m e) nan y f g h k = absurd g
-not-below (fin s m e) (inf u) y f g h k = absurd g
-not-below (fin s m e) (fin u n d) nan f g h k = refl
-not-below (fin s m e) (fin u n d) (inf true) f g h k = refl
-not-below (fin s m e) (fin u n d) (inf false) f g h k = absurd (true≢false k)
-not-below (fin s m e) (fin u n d) (fin t l c) f g h k =
+not-below x nan y g h k = absurd g
+not-below x (inf u) y g h k = absurd g
+not-below nan (fin u n d) y g h k = refl
+not-below (inf true) (fin u n d) y g h k = absurd (true≢false h)
+not-below (inf false) (fin u n d) nan g h k = refl
+not-below (inf false) (fin u n d) (inf t) g h k = refl
+not-below (inf false) (fin u n d) (fin t l c) g h k = refl
+not-below (fin s m e) (fin u n d) nan g h k = refl
+not-below (fin s m e) (fin u n d) (inf true) g h k = refl
+not-below (fin s m e) (fin u n d) (inf false) g h k = absurd (true≢false k)
+not-below (fin s m e) (fin u n d) (fin t l c) g h k =
     over (m * up e) (down e) (n * up d) (down d) (l * up c) (down c) (down-pos e) (down-pos d) (down-pos c) s u t h k

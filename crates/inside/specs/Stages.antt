@@ -10,12 +10,12 @@ use Rattle.walk.specs.declared.kinds.Pace.{Pace}
 use Rattle.inside.specs.declared.Inside.{Inside}
 use Rattle.inside.specs.declared.Inside.the-variants.{In, Other}
 
--- both ends lie within the edges; a line along the right edge, or from the bottom edge on, does not
+-- both ends lie within the edges, and none is a NaN; a line along the right edge, or from the bottom edge on, does not
 unfoldable pub inEdgesOf : Vec2 → Vec2 → Edges → Bool
 inEdgesOf s0 s1 g =
     let left = leastOf (s0 .x) (s1 .x) in
     let right = lastOf (s0 .x) (s1 .x) in
-    ((le (g .left) left && lt left (g .right)) && le right (g .right))
+    ((le (g .left) left && lt left (g .right)) && (le right (g .right) && le (s1 .x) (g .right)))
     && ((le (g .top) (s0 .y) && lt (s0 .y) (g .bottom)) && le (s1 .y) (g .bottom))
 
 -- the pace of the walk from s0 to s1

@@ -23,7 +23,6 @@ use walk::kinds::Pace;
 use walk::setup::count_steps;
 use walk::setup::flat;
 use walk::setup::incline;
-use walk::setup::reached;
 use walk::setup::rise;
 use walk::setup::start;
 
@@ -53,13 +52,14 @@ fn ends_at(coords: &[f32], place: u32) -> Tiled
     Tiled { s0, s1 }
 }
 
-// Whether both ends lie within a box's edges.
+// Whether both ends lie within a box's edges. The second end's x is held against the right edge once more, as a NaN passes the
+// picks: so a line that passes is within the limit of a coordinate, as every box is, and no other test asks.
 fn in_edges(s0: Vec2, s1: Vec2, g: Edges) -> bool
     ensures { λ r. ⌜ r ≡ inEdgesOf s0 s1 g ⌝ }
 {
     let left = pick(s1.x < s0.x, s1.x, s0.x);
     let right = pick(s0.x < s1.x, s1.x, s0.x);
-    (((g.left <= left) & (left < g.right)) & (right <= g.right))
+    (((g.left <= left) & (left < g.right)) & ((right <= g.right) & (s1.x <= g.right)))
         & (((g.top <= s0.y) & (s0.y < g.bottom)) & (s1.y <= g.bottom))
 }
 
@@ -96,10 +96,9 @@ pub fn inside_at(coords: &[f32], place: u32, b: Path) -> Inside
     requires { ⌜ Boxed b × (place * lineFloats + lineFloats ≤ length (now coords)) ⌝ }
     ensures { λ r. ⌜ InsideMet (lineAt (now (coords .entry)) place) b r ⌝ }
 {
-    let line = line_at(coords, place);
     let t = ends_at(coords, place);
     let g = edges_of(b);
-    if !(reached(line.p0, line.p1) & in_edges(t.s0, t.s1, g)) {
+    if !in_edges(t.s0, t.s1, g) {
         return Inside::Other;
     }
     paced(t.s0, t.s1)

@@ -1,11 +1,11 @@
 -- A float strictly between the whole number t and the next: its floor is t, its ceiling the next, and it lies so by every whole number. Assumes nothing.
 use mathlib.Core.Path.{_≡_, refl, sym, ap, _∙_, subst}
-use mathlib.Core.Bool.{Bool, true, false, not, false≢true}
+use mathlib.Core.Bool.{Bool, true, false, false≢true}
 use mathlib.Core.Logic.{_⊎_, inl, inr}
 use Prim.Native.Nat.{ℕ, _+_, _-_, _*_, _/_, _^_, _≤_, _<_}
 use native.Mathlib.Nat.{le-trans, le-of-lt, le-of-eq, one-mul, add-mul, mul-assoc, mul-right-comm, mul-pos, mul-le-mul-right, le-of-mul-le-mul-right}
 use native.Mathlib.Omega.{arith}
-use lib.Dec.{T, lit<, lit≤}
+use lib.Dec.{T, lit<}
 use lib.IntN.{ℤ, negsuc}
 use lib.Ieee.{Float, nan, inf, fin, binary32, up, down, unlike, round, mul, sub, lt, le, eq, fits, isNan, ofInt, ofBits, toUnsigned}
 use lib.Ieee.Bits.{is-true}
@@ -16,16 +16,15 @@ use borrow.Author.Tests.{lt-ltb, le-ltb}
 use Rattle.float32.specs.Meaning.{whole, up-div, floorOf, ceilOf, absOf, signOf, minOf, maxOf}
 use Rattle.float32.proofs.Tests.{below-or-not}
 use Rattle.float32.proofs.Whole.{whole-value}
-use Rattle.float32.proofs.Floors.{gt-plus, up-more}
+use Rattle.float32.proofs.Floors.{up-more}
 use Rattle.float32.proofs.Magic.{div-is}
 use Rattle.float32.proofs.MinMax.{min-picks, max-picks}
-use Rattle.float32.proofs.Order.{le-of-not-lt, not-lt-of-le, eq-not-lt}
+use Rattle.float32.proofs.Order.{not-lt-of-le, eq-not-lt}
 use Rattle.util.specs.Constants.{one}
 use Rattle.util.specs.Span.{spanOf}
-use Rattle.panel.specs.Limits.{coordWhole, edgeMost}
 use Rattle.exact.specs.Whole.{Small}
 use Rattle.exact.specs.Reach.{inReach, scaled, coordTiles}
-use Rattle.exact.proofs.Bounds.{scale-is, finite-number}
+use Rattle.exact.proofs.Bounds.{le-of-small, scale-is}
 use Rattle.exact.proofs.Limits.{far}
 use Rattle.errors.specs.Sizes.{parts, Is}
 use Rattle.errors.proofs.Parts.{parts-pos}
@@ -125,11 +124,6 @@ off-span u v t o p b = rw (high (max-picks u v), low (min-picks u v), gap) one-i
         ∙ ap (λ (z : ℕ). round binary32 false z 1) (less t)
 
 -- ---- in a box they are within the limit of a coordinate
--- the one law here that the limits' sizes come into
-pub edges-reach : edgeMost ≤ coordTiles
-unfolding edgeMost coordTiles coordWhole
-edges-reach = lit≤ tt
-
 parts-small : (s : Float) (n N : ℕ) → Is s n → n ≤ N * parts → Small s N
 parts-small nan n N v h = v
 parts-small (inf r) n N v h = v
@@ -181,19 +175,9 @@ in-tiles r m e t o h = go (below-or-not (coordTiles * (down e * 16)) (m * up e))
         (sym (not-lt-of-le w size (is-true (le w size) (round-mono binary32 coordTiles 1 A C (lit< tt) (mul-pos (down-pos e) (lit< tt)) (omega arith)))) ∙ under))
 
 reach-of : (p : Float) (t : ℕ) → Off (mul binary32 p (fin false 1 (negsuc 3))) t → t + 1 ≤ coordTiles → le (absOf p) (whole false (coordTiles * 16)) ≡ true
-unfolding absOf
 reach-of nan t o h = absurd (unfold mul in o .is)
 reach-of (inf r) t o h = absurd (unfold mul in o .is)
-reach-of (fin r m e) t o h =
-    let few : coordTiles * 16 ≤ 2 ^ 24 = omega (arith, far .tiles) in
-    let v = whole-value false (coordTiles * 16) few in
-    le-of-not-lt (fin false m e) (whole false (coordTiles * 16)) (finite-number (fin false m e) tt) (value-number (whole false (coordTiles * 16)) (coordTiles * 16) v)
-    (gt-plus m e (whole false (coordTiles * 16)) (coordTiles * 16) v ∙ le-ltb (coordTiles * 16 * down e) (m * up e) (in-tiles r m e t o h))
-  where
-    value-number : (y : Float) (n : ℕ) → HasValue y false n 1 → T (not (isNan y))
-    value-number nan n v = absurd v
-    value-number (inf s) n v = absurd v
-    value-number (fin s j d) n v = finite-number (fin s j d) tt
+reach-of (fin r m e) t o h = le-of-small (fin r m e) (coordTiles * 16) (omega (arith, far .tiles)) (in-tiles r m e t o h)
 
 pub off-reach : (p : Float) (t : ℕ) → Off (scaled p) t → t + 1 ≤ coordTiles → inReach p ≡ true
 off-reach p t o h =

@@ -41,7 +41,7 @@ use Rattle.spot.specs.Tests.{short, shift, shiftedOf, stretchOf, between
 use Rattle.spot.specs.declared.Spot.{Spot}
 use Rattle.spot.specs.declared.Spot.the-variants.{In, Other}
 use Rattle.spot.specs.declared.Stretch.{Stretch}
-use Rattle.spot.proofs.InTile.{Off, off-edge, off-span, off-reach, edges-reach}
+use Rattle.spot.proofs.InTile.{Off, off-edge, off-span, off-reach}
 use Rattle.spot.proofs.Guess.{guess-is, guess-next, both-off}
 use Rattle.spot.proofs.Apart.{stretch-is}
 use Rattle.spot.proofs.Slope.{Spotted, turned-round, a-small, b-starts, z-none}
@@ -55,10 +55,10 @@ whole-finite (fin s m e) n h = tt
 
 module _ (p0 p1 : Vec2) (b : Path) (k : Boxed b) (x y : ℕ) (w : Within b x y) (h : Spotted (scaleOf p0 tileScale) (scaleOf p1 tileScale) x y) where
   x-few : x + 1 ≤ coordTiles
-  x-few = omega (arith, w .col-most, k .wide, edges-reach)
+  x-few = omega (arith, w .col-most, k .wide, far .reach)
 
   y-few : y + 1 ≤ coordTiles
-  y-few = omega (arith, w .row-most, k .high, edges-reach)
+  y-few = omega (arith, w .row-most, k .high, far .reach)
 
   in-reach : Reached p0 p1
   in-reach =

@@ -13,7 +13,7 @@ pick-requires-2 c κs = search needs
 returns : tie.Need-returns
 unfolding inEdgesOf
 returns c =
-    let p = c .before .before .before .before .before .before .before .before .before in
+    let p = c .before .before .before .before .before .before .before .before .before .before .before in
     rw (p .pick2 .ensures, p .before .before .before .pick .ensures)
 
 pub in-edges-spec : {M : Type 1} → statement M

@@ -44,7 +44,10 @@ floor-near-requires-4 c κs =
     rw (c .pick3 .ensures) (near-turned _ (near-pick (lt (s .args .s0 .x) (s .args .s1 .x)) (s .args .s0 .x) (s .args .s1 .x) (s .pre .0 .in-x) (s .pre .1 .in-x)))
 
 flat-requires : tie.Need-flat-requires
-flat-requires c κs = search needs
+flat-requires c κs =
+    let t = c .before .before .before .before .before .before .before .before .before .before .before .before in
+    let s = t .before in
+    (s .pre .0, s .pre .1, t .floor-near .ensures)
 
 returns : tie.Need-returns
 unfolding pacedOf
