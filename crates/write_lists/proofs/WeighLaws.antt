@@ -2,11 +2,10 @@
 use mathlib.Core.Path.{_≡_, refl, sym, ap, _∙_}
 use mathlib.Core.Bool.{Bool, true, _&&_, and-true, and-assoc}
 use mathlib.Core.List.{List, [], _∷_, _++_}
-use Prim.Native.Nat.{ℕ, suc, _+_, _-_, _≤_, _<_}
+use Prim.Native.Nat.{ℕ, _+_, _-_, _≤_}
 use native.Mathlib.Omega.{arith}
 use lib.ListN.{length}
 use Rattle.lists.specs.Run.{actAll-append}
-use Rattle.lists.specs.Sums.{from}
 use Rattle.commands.specs.Numbers.{tileWords}
 use Rattle.write_lists.specs.Pairs.{Tables, onPath, pairsOf, putList}
 use Rattle.write_lists.specs.Layout.{pairSize, fits, jumpCount, leftAt, jumpsOf}
@@ -42,18 +41,6 @@ put-light room k (Puts p) w l =
     }
 
 -- ---- a loop over the paths
-
-pub from-turn : (k n : ℕ) → k < n → from k (n - k) ≡ k ∷ from (k + 1) (n - (k + 1))
-from-turn k n h =
-    let more : n - k ≡ suc (n - (k + 1)) = omega arith in
-    let next : k + 1 ≡ suc k = omega arith in
-    ap (from k) more ∙ ap (λ (j : ℕ). k ∷ from j (n - (k + 1))) (sym next)
-
-pub from-end : (k n : ℕ) → n ≤ k → from k (n - k) ≡ []
-from-end k n h = let none : n - k ≡ 0 = omega arith in ap (from k) none
-
-pub from-all : (n : ℕ) → from 0 (n - 0) ≡ from 0 n
-from-all n = let all : n - 0 ≡ n = omega arith in ap (from 0) all
 
 -- the next of the paths left, and what it puts there
 module _ (s : Tables) (x y p : ℕ) (rest ps : List ℕ) where

@@ -2,7 +2,6 @@
 // tables. docs/RULES.md, "Command lists" and refusals 1 to 4, 9 and 15. Added: it is in none of the
 // files ported.
 pub mod lay;
-pub mod near;
 pub mod pairs;
 pub mod sizes;
 pub mod weigh;

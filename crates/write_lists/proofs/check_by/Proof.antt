@@ -18,9 +18,9 @@ use Rattle.write_lists.specs.Pairs.{tables, tilePairs}
 use Rattle.write_lists.specs.Layout.{commandsOf}
 use Rattle.write_lists.specs.Lists.{allFit}
 use Rattle.write_lists.specs.Ready.{tilesAnswer}
-use Rattle.write_lists.specs.Near.{Listed}
-use Rattle.write_lists.proofs.WeighLaws.{from-turn, from-end, from-all}
-use Rattle.write_lists.proofs.NearLaws.{ready-boxed, listed-near, listed-next, listed-first}
+use Rattle.near.specs.Near.{Listed}
+use Rattle.near.proofs.NearLaws.{from-turn, from-end, from-all, listed-next, listed-first}
+use Rattle.write_lists.proofs.NearLaws.{ready-boxed, listed-near}
 use Rattle.write_lists.proofs.TileLaws.{weighed, answer-long, answer-turn, answer-end}
 use Rattle.write_lists.proofs.check_by.Statement.{statement}
 use Rattle.write_lists.proofs.check_by.Tie as tie

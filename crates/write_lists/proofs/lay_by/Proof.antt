@@ -11,9 +11,9 @@ use Rattle.lists.specs.Sums.{from}
 use Rattle.panel.specs.Limits.{mostPaths}
 use Rattle.panel.proofs.LimitLaws.{small}
 use Rattle.write_lists.specs.Pairs.{tables}
-use Rattle.write_lists.specs.Near.{Listed}
-use Rattle.write_lists.proofs.WeighLaws.{from-turn, from-end, from-all}
-use Rattle.write_lists.proofs.NearLaws.{ready-boxed, listed-near, listed-next, listed-first}
+use Rattle.near.specs.Near.{Listed}
+use Rattle.near.proofs.NearLaws.{from-turn, from-end, from-all, listed-next, listed-first}
+use Rattle.write_lists.proofs.NearLaws.{ready-boxed, listed-near}
 use Rattle.write_lists.proofs.TileLaws.{Tiled, tiled-start, tiled-turn, tile-room, tile-slots}
 use Rattle.write_lists.proofs.lay_by.Statement.{statement}
 use Rattle.write_lists.proofs.lay_by.Tie as tie

@@ -16,7 +16,7 @@ use Rattle.write_lists.specs.Ready.{Room}
 use Rattle.write_lists.specs.declared.pairs.Pair.{Pair}
 use Rattle.write_lists.proofs.WeighLaws.{pairs-next}
 use Rattle.write_lists.proofs.LayLaws.{Lays, lays-start, lays-turn, room-less, all-fit-append}
-use Rattle.write_lists.proofs.NearLaws.{list-ahead, list-there, list-end}
+use Rattle.near.proofs.NearLaws.{list-ahead, list-there, list-end}
 use Rattle.write_lists.proofs.lay.lay_tile.Statement.{statement}
 use Rattle.write_lists.proofs.lay.lay_tile.Tie as tie
 

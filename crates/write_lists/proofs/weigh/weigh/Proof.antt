@@ -14,7 +14,7 @@ use Rattle.write_lists.specs.Ready.{noWeight, weighAll}
 use Rattle.write_lists.specs.declared.pairs.Pair.{Pair}
 use Rattle.write_lists.specs.declared.pairs.Put.{Put}
 use Rattle.write_lists.proofs.WeighLaws.{Light, put-light, weigh-next}
-use Rattle.write_lists.proofs.NearLaws.{list-turn, list-there, list-end}
+use Rattle.near.proofs.NearLaws.{list-turn, list-there, list-end}
 use Rattle.write_lists.proofs.weigh.weigh.Statement.{statement}
 use Rattle.write_lists.proofs.weigh.weigh.Tie as tie
 

@@ -1,4 +1,4 @@
--- `write_lists::near::look_anew` meets its contract. Assumes nothing.
+-- `near::look_anew` meets its contract. Assumes nothing.
 use mathlib.Core.Path.{_≡_, refl, sym, ap, subst, _∙_}
 use mathlib.Core.List.{List}
 use Prim.Native.Nat.{ℕ, _-_, _%_, _<_, _≤_}
@@ -7,10 +7,10 @@ use borrow.Author.Needs.{needs}
 use lib.ListN.{length, take}
 use Rattle.lists.specs.Run.{All}
 use Rattle.panel.specs.Paths.{pathCount}
-use Rattle.write_lists.specs.Near.{rowPaths, blockPaths, wideColumns, narrowColumns, Lists}
-use Rattle.write_lists.proofs.NearLaws.{row-there, block-there, lists-there, lists-on, lists-narrow}
-use Rattle.write_lists.proofs.near.look_anew.Statement.{statement}
-use Rattle.write_lists.proofs.near.look_anew.Tie as tie
+use Rattle.near.specs.Near.{rowPaths, blockPaths, wideColumns, narrowColumns, Lists}
+use Rattle.near.proofs.NearLaws.{row-there, block-there, lists-there, lists-on, lists-narrow}
+use Rattle.near.proofs.look_anew.Statement.{statement}
+use Rattle.near.proofs.look_anew.Tie as tie
 
 row-at-requires : tie.Need-row-at-requires
 row-at-requires c κs = (c .before .before .before .before .before .pre .0, c .before .before .before .before .before .pre .1, λ h. c .before .before .before .before .before .pre .5 h .row)

@@ -1,4 +1,4 @@
--- `write_lists::near::on_columns` meets its contract. The loop's invariant: those kept, and those to be kept of the paths left, are those of the
+-- `near::on_columns` meets its contract. The loop's invariant: those kept, and those to be kept of the paths left, are those of the
 -- columns. Assumes nothing.
 use mathlib.Core.Path.{_≡_, refl, sym, ap, subst, _∙_}
 use mathlib.Core.List.{List, _∷_, _++_}
@@ -12,10 +12,10 @@ use Rattle.panel.specs.Paths.{pathAt, pathCount}
 use Rattle.panel.specs.declared.kinds.Path.{Path}
 use Rattle.panel.proofs.LimitLaws.{small}
 use Rattle.panel.proofs.PathLaws.{path-there}
-use Rattle.write_lists.specs.Near.{oneIf, kept, hasColumns, columnPaths}
-use Rattle.write_lists.proofs.NearLaws.{keep-turn, keep-end, one-small, list-turn, list-there, list-end}
-use Rattle.write_lists.proofs.near.on_columns.Statement.{statement}
-use Rattle.write_lists.proofs.near.on_columns.Tie as tie
+use Rattle.near.specs.Near.{oneIf, kept, hasColumns, columnPaths}
+use Rattle.near.proofs.NearLaws.{keep-turn, keep-end, one-small, list-turn, list-there, list-end}
+use Rattle.near.proofs.on_columns.Statement.{statement}
+use Rattle.near.proofs.on_columns.Tie as tie
 
 abbrev Inv-loop : tie.InvT-loop
 Inv-loop paths list n from to out₀ m₀ j₀ out m j =

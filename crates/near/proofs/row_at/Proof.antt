@@ -1,11 +1,11 @@
--- `write_lists::near::row_at` meets its contract. Assumes nothing.
+-- `near::row_at` meets its contract. Assumes nothing.
 use Prim.Native.Nat.{_≤_}
 use native.Mathlib.Omega.{arith}
 use borrow.Author.Needs.{needs}
 use Rattle.panel.specs.Limits.{edgeMost}
-use Rattle.write_lists.proofs.NearLaws.{row-none}
-use Rattle.write_lists.proofs.near.row_at.Statement.{statement}
-use Rattle.write_lists.proofs.near.row_at.Tie as tie
+use Rattle.near.proofs.NearLaws.{row-none}
+use Rattle.near.proofs.row_at.Statement.{statement}
+use Rattle.near.proofs.row_at.Tie as tie
 
 returns : tie.Need-returns
 returns c = c .before .before .before .pre .2 (omega (arith, c .if1 .taken))

@@ -1,13 +1,13 @@
--- `write_lists::near::block_at` meets its contract. Assumes nothing.
+-- `near::block_at` meets its contract. Assumes nothing.
 use mathlib.Core.Path.{_≡_, _∙_}
 use Prim.Native.Nat.{_%_}
 use native.Mathlib.Omega.{arith}
 use borrow.Author.Needs.{needs}
 use lib.ListN.{take}
 use Rattle.panel.proofs.LimitLaws.{small}
-use Rattle.write_lists.proofs.NearLaws.{block-same}
-use Rattle.write_lists.proofs.near.block_at.Statement.{statement}
-use Rattle.write_lists.proofs.near.block_at.Tie as tie
+use Rattle.near.proofs.NearLaws.{block-same}
+use Rattle.near.proofs.block_at.Statement.{statement}
+use Rattle.near.proofs.block_at.Tie as tie
 
 rem-if1 : tie.Need-rem-if1
 rem-if1 c = search needs

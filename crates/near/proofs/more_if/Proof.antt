@@ -1,11 +1,11 @@
--- `write_lists::near::more_if` meets its contract. Assumes nothing.
+-- `near::more_if` meets its contract. Assumes nothing.
 use native.Mathlib.Omega.{arith}
 use borrow.Author.Needs.{needs}
 use lib.Dec.{ltb}
 use Rattle.panel.proofs.LimitLaws.{small}
-use Rattle.write_lists.proofs.NearLaws.{by-ends, one-small}
-use Rattle.write_lists.proofs.near.more_if.Statement.{statement}
-use Rattle.write_lists.proofs.near.more_if.Tie as tie
+use Rattle.near.proofs.NearLaws.{by-ends, one-small}
+use Rattle.near.proofs.more_if.Statement.{statement}
+use Rattle.near.proofs.more_if.Tie as tie
 
 one-if-requires : tie.Need-one-if-requires
 one-if-requires c κs = search needs

@@ -1,10 +1,10 @@
--- `write_lists::near::look` meets its contract. Assumes nothing.
+-- `near::look` meets its contract. Assumes nothing.
 use mathlib.Core.Path.{sym, _∙_}
 use native.Mathlib.Omega.{arith}
 use borrow.Author.Needs.{needs}
-use Rattle.write_lists.proofs.NearLaws.{listed-on}
-use Rattle.write_lists.proofs.near.look.Statement.{statement}
-use Rattle.write_lists.proofs.near.look.Tie as tie
+use Rattle.near.proofs.NearLaws.{listed-on}
+use Rattle.near.proofs.look.Statement.{statement}
+use Rattle.near.proofs.look.Tie as tie
 
 returns : tie.Need-returns
 returns c =

@@ -1,4 +1,4 @@
--- `write_lists::near::on_row` meets its contract. The loop's invariant: those kept, and those to be kept of the paths left, are those of the row.
+-- `near::on_row` meets its contract. The loop's invariant: those kept, and those to be kept of the paths left, are those of the row.
 -- Assumes nothing.
 use mathlib.Core.Path.{_≡_, refl, sym, ap, _∙_}
 use mathlib.Core.List.{List, _∷_, _++_}
@@ -13,11 +13,10 @@ use Rattle.panel.specs.Paths.{pathAt, pathCount}
 use Rattle.panel.specs.declared.kinds.Path.{Path}
 use Rattle.panel.proofs.LimitLaws.{small}
 use Rattle.panel.proofs.PathLaws.{path-there}
-use Rattle.write_lists.specs.Near.{oneIf, kept, hasRow, rowPaths}
-use Rattle.write_lists.proofs.WeighLaws.{from-turn, from-end, from-all}
-use Rattle.write_lists.proofs.NearLaws.{keep-turn, keep-end, one-small}
-use Rattle.write_lists.proofs.near.on_row.Statement.{statement}
-use Rattle.write_lists.proofs.near.on_row.Tie as tie
+use Rattle.near.specs.Near.{oneIf, kept, hasRow, rowPaths}
+use Rattle.near.proofs.NearLaws.{keep-turn, keep-end, one-small, from-turn, from-end, from-all}
+use Rattle.near.proofs.on_row.Statement.{statement}
+use Rattle.near.proofs.on_row.Tie as tie
 
 abbrev Inv-loop : tie.InvT-loop
 Inv-loop paths y out₀ n m₀ p₀ out m p =

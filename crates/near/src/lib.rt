@@ -12,7 +12,7 @@ ghost use lib.ListN.{length, take};
 ghost use Rattle.lists.specs.Run.{All};
 ghost use Rattle.panel.specs.Limits.{mostPaths, mostTiles};
 ghost use Rattle.panel.specs.Paths.{pathCount};
-ghost use Rattle.write_lists.specs.Near.{oneIf, noPaths, heldOf, hasRow, hasColumns, rowPaths, columnPaths, blockPaths, Boxed, Lists, Listed};
+ghost use Rattle.near.specs.Near.{oneIf, noPaths, heldOf, hasRow, hasColumns, rowPaths, columnPaths, blockPaths, Boxed, Lists, Listed};
 
 // Columns to a wide block, and to a narrow one.
 const WIDE: u32 = 64;
@@ -30,14 +30,14 @@ pub struct Held {
 }
 
 // A list of no path yet.
-pub(crate) fn no_paths() -> [u32; MANY]
+pub fn no_paths() -> [u32; MANY]
     ensures { λ r. ⌜ r ≡ noPaths ⌝ }
 {
     [0; MANY]
 }
 
 // Before the first tile.
-pub(crate) fn nothing_held() -> Held
+pub fn nothing_held() -> Held
     ensures { λ r. ⌜ r ≡ heldOf 0 0 0 ⌝ }
 {
     Held {
@@ -166,7 +166,7 @@ fn look_anew(
 }
 
 // The same: they change at the first column of a narrow block alone.
-pub(crate) fn look(
+pub fn look(
     paths: &[u32],
     x: u32,
     y: u32,
