@@ -10,6 +10,7 @@ ghost use Rattle.hits.specs.Notes.{noteWords};
 ghost use Rattle.path_count.specs.Count.{lineRan, tallyRan, toldOf, Lent, There};
 ghost use Rattle.recount.specs.Recount.{otherNo, ownStep, linesRan, linesTold, paperOf, madeOf};
 use super::kinds::Recounted;
+use hits::NOTE_ROOM;
 use panel::kinds::LineNo;
 use panel::limits::MOST_LINES;
 use panel::lines::line_at;
@@ -114,7 +115,7 @@ pub(crate) fn count_lines(
         ≡ linesTold (now («line_nos» .entry)) (linesRan path (now («line_nos» .entry)) (now («path_nos» .entry)) (now (coords .entry)) (now (paths .entry)) (length (now (refs .entry)) / refWords)
         (stOf (now (backs .entry)) (now (counts .entry)) (now (refs .entry)) 0)) ⌝ }
 {
-    let mut notes = [0u32; 256];
+    let mut notes = [0u32; NOTE_ROOM];
     let mut made: u32 = 0;
     let mut k: usize = 0;
     while k < path_nos.len() {
