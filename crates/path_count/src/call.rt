@@ -7,10 +7,13 @@ ghost use Rattle.panel.specs.Checks.{firstNo};
 ghost use Rattle.panel.specs.Paths.{pathsAnswer};
 ghost use Rattle.panel.specs.declared.kinds.Answer.the-variants.{Done};
 ghost use Rattle.acts.specs.Acts.{stOf};
-ghost use Rattle.path_count.specs.Count.{numberOf, batch, paperOf, madeOf, toldOf, batchTold, lentChecks, CountMet, Lent};
+ghost use Rattle.path_count.specs.Count.{numberOf, lineStep, lineRan, tallyRan, batch, paperOf, madeOf, toldOf, batchTold, lentChecks, CountMet, Lent, There};
+ghost use Rattle.hits.specs.Notes.{noteWords};
 use super::kinds::Counted;
 use super::kinds::Tallied;
-use super::line::count_noted;
+use super::line::count_other;
+use super::runs::ones_if;
+use hits::NOTE_ROOM;
 use panel::checks::check_paths;
 use panel::kinds::Answer;
 use panel::kinds::LineNo;
@@ -31,7 +34,41 @@ fn number(t: Tallied) -> u32
     }
 }
 
-// The lines from the lines so far up to the end named. A line's number is its place.
+// The next line, which doesn't lie within one tile or wasn't asked. A line's number is its place.
+fn count_at(
+    s: Running,
+    path_nos: &[u32],
+    coords: &[f32],
+    paths: &[u32],
+    notes: &mut [u32],
+    backs: &mut [i32],
+    counts: &mut [u32],
+    refs: &mut [u32],
+) -> Tallied
+    requires { ⌜ Lent (now paths) (length (now backs)) (length (now counts)) × There (s .lines) (length (now «path_nos»)) (length (now coords)) × (length (now notes) ≡ noteWords) ⌝ }
+    ensures { λ r. ⌜ tallyRan r (stOf (now (backs .exit)) (now (counts .exit)) (now (refs .exit))) (s .refs)
+        ≡ lineRan (lineStep (now («path_nos» .entry)) (now (coords .entry)) (now (paths .entry)) (length (now (refs .entry)) / refWords) (s .lines) (s .lines)
+        (stOf (now (backs .entry)) (now (counts .entry)) (now (refs .entry)) (s .refs)))
+        (stOf (now (backs .entry)) (now (counts .entry)) (now (refs .entry)) (s .refs)) ⌝ }
+{
+    let l = s.lines;
+    count_other(
+        LineNo(l),
+        l,
+        s.refs,
+        path_nos,
+        coords,
+        paths,
+        notes,
+        backs,
+        counts,
+        refs,
+    )
+}
+
+// The lines from the lines so far up to the end named. Lines within one tile are asked for first, run by run; not after a
+// line of several references that no run came before, as such lines mostly come together. Which way a line is counted
+// changes nothing of it.
 fn count_batch(
     running: Running,
     end: u32,
@@ -48,25 +85,20 @@ fn count_batch(
         ≡ batchTold end (batch (now («path_nos» .entry)) (now (coords .entry)) (now (paths .entry)) (length (now (refs .entry)) / refWords) (running .lines) end
         (stOf (now (backs .entry)) (now (counts .entry)) (now (refs .entry)) (running .refs))) ⌝ }
 {
-    let mut notes = [0u32; 256];
+    let mut notes = [0u32; NOTE_ROOM];
+    let mut ask = true;
     let mut s = running;
     while s.lines < end {
-        let l = s.lines;
-        let t = count_noted(
-            LineNo(l),
-            l,
-            s.refs,
-            path_nos,
-            coords,
-            paths,
-            &mut notes,
-            backs,
-            counts,
-            refs,
-        );
+        let at = s.lines;
+        s = ones_if(ask, s, end, path_nos, coords, paths, counts, refs);
+        if s.lines == end {
+            return Counted::Done(s);
+        }
+        let t = count_at(s, path_nos, coords, paths, &mut notes, backs, counts, refs);
         let Tallied::On(n) = t else {
-            return Counted::Refused(number(t), l, s);
+            return Counted::Refused(number(t), s.lines, s);
         };
+        ask = (s.lines > at) | (n <= 1);
         s = s.stepped(n);
     }
     Counted::Done(s)
