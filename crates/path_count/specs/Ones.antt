@@ -1,7 +1,8 @@
 -- What is said of a run of lines that each lie within one tile. Only proofs lean on this: no promise of a public call does. Definitions only.
 use mathlib.Core.Path.{_≡_}
+use mathlib.Core.Bool.{Bool, cond}
 use mathlib.Core.List.{List}
-use Prim.Native.Nat.{ℕ, zero, suc, _+_, _-_, _/_, _<_, _≤_, _^_}
+use Prim.Native.Nat.{ℕ, zero, suc, _+_, _-_, _/_, _<_, _≤_, _^_, min}
 use lib.ListN.{length}
 use lib.IntN.{ℤ}
 use lib.Ieee.{Float}
@@ -10,6 +11,14 @@ use Rattle.panel.specs.Widths.{refWords}
 use Rattle.panel.specs.declared.kinds.Running.{Running}
 use Rattle.acts.specs.Acts.{St, stOf}
 use Rattle.path_count.specs.Count.{lineStep, lineRan, batch}
+
+-- after so many misses in a row nothing is asked
+abbrev pub tries : ℕ
+tries = 4
+
+-- the misses in a row after one line more
+abbrev pub missesOf : ℕ → Bool → ℕ
+missesOf misses hit = cond hit 0 (min (misses + 1) tries)
 
 -- the first n lines, line j by f j, as far as none is refused
 abbrev pub firstRan : (ℕ → St → Step St ℕ) → ℕ → St → Ran St ℕ

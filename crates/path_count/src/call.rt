@@ -12,6 +12,8 @@ ghost use Rattle.hits.specs.Notes.{noteWords};
 use super::kinds::Counted;
 use super::kinds::Tallied;
 use super::line::count_other;
+use super::runs::TRIES;
+use super::runs::misses_after;
 use super::runs::ones_if;
 use hits::NOTE_ROOM;
 use panel::checks::check_paths;
@@ -66,9 +68,9 @@ fn count_at(
     )
 }
 
-// The lines from the lines so far up to the end named. Lines within one tile are asked for first, run by run; not after a
-// line of several references that no run came before, as such lines mostly come together. Which way a line is counted
-// changes nothing of it.
+// The lines from the lines so far up to the end named. Lines within one tile are asked for first, run by run; not after
+// TRIES lines of several references with no run between them, as such lines mostly come together. Which way a line is
+// counted changes nothing of it.
 fn count_batch(
     running: Running,
     end: u32,
@@ -86,11 +88,20 @@ fn count_batch(
         (stOf (now (backs .entry)) (now (counts .entry)) (now (refs .entry)) (running .refs))) ⌝ }
 {
     let mut notes = [0u32; NOTE_ROOM];
-    let mut ask = true;
+    let mut misses: u32 = 0;
     let mut s = running;
     while s.lines < end {
         let at = s.lines;
-        s = ones_if(ask, s, end, path_nos, coords, paths, counts, refs);
+        s = ones_if(
+            misses < TRIES,
+            s,
+            end,
+            path_nos,
+            coords,
+            paths,
+            counts,
+            refs,
+        );
         if s.lines == end {
             return Counted::Done(s);
         }
@@ -98,7 +109,7 @@ fn count_batch(
         let Tallied::On(n) = t else {
             return Counted::Refused(number(t), s.lines, s);
         };
-        ask = (s.lines > at) | (n <= 1);
+        misses = misses_after(misses, (s.lines > at) | (n <= 1));
         s = s.stepped(n);
     }
     Counted::Done(s)

@@ -8,13 +8,26 @@ ghost use Rattle.panel.specs.Limits.{mostLines};
 ghost use Rattle.panel.specs.Paths.{pathsAnswer};
 ghost use Rattle.panel.specs.Widths.{refWords, lineFloats};
 ghost use Rattle.panel.specs.declared.kinds.Answer.the-variants.{Done};
-ghost use Rattle.path_count.specs.Ones.{OnesMet, LeftMet};
+ghost use Rattle.path_count.specs.Ones.{missesOf, OnesMet, LeftMet};
 use acts::visit;
 use one_tile::One;
 use one_tile::one_at;
 use panel::kinds::LineNo;
 use panel::kinds::Running;
 use panel::limits::MOST_LINES;
+
+// After so many misses in a row it is not asked whether the next line lies within one tile.
+pub(crate) const TRIES: u32 = 4;
+
+// The misses in a row after one line more, up to TRIES. A hit ends them.
+pub(crate) fn misses_after(misses: u32, hit: bool) -> u32
+    ensures { λ r. ⌜ r ≡ missesOf misses hit ⌝ }
+{
+    if hit {
+        return 0;
+    }
+    if misses < TRIES { misses + 1 } else { TRIES }
+}
 
 // How many of so many lines, numbered from this one on, have a number that is not refused.
 fn numbered(line: LineNo, many: u32) -> u32

@@ -22,9 +22,6 @@ use path_count::Tallied;
 use path_count::count_noted;
 use walk::setup::reached;
 
-// Counting finds a line by its place, a number of 32 bits: so many lines have one.
-const PLACES: usize = 4_294_967_296;
-
 // Why the first line lent is refused, which is of another path: 5 and 6 come first.
 fn other_no(line: LineNo, coords: &[f32]) -> u32
     requires { ⌜ lineFloats ≤ length (now coords) ⌝ }
@@ -42,8 +39,8 @@ fn other_no(line: LineNo, coords: &[f32]) -> u32
     COORDINATE
 }
 
-// Line k of those lent, as line number line. One that has no place is the first of the lines from it on.
-// The notes are room to work in.
+// Line k of those lent, as line number line: counting's first line of the lines from it on, as a line has its place in 32
+// bits and more may be lent. The notes are room to work in.
 fn own_line(
     path: u32,
     line: LineNo,
@@ -68,21 +65,6 @@ fn own_line(
     let named = path_nos[k];
     if named != path {
         return Tallied::Against(other_no(line, &coords[at..]));
-    }
-    if k < PLACES {
-        let place = k as u32;
-        return count_noted(
-            line,
-            place,
-            made,
-            path_nos,
-            coords,
-            paths,
-            notes,
-            backs,
-            counts,
-            refs,
-        );
     }
     count_noted(
         line,

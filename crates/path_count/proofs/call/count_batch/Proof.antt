@@ -25,17 +25,18 @@ use Rattle.path_count.proofs.call.count_batch.Lts as lts
 use Rattle.panel.proofs.kinds.Running.stepped.Reads as stepped-reads
 use Rattle.path_count.proofs.call.count_at.Reads as count-at-reads
 use Rattle.path_count.proofs.call.number.Reads as number-reads
+use Rattle.path_count.proofs.runs.misses_after.Reads as misses-after-reads
 use Rattle.path_count.proofs.runs.ones_if.Reads as ones-if-reads
 
 abbrev Inv-loop : tie.InvT-loop
-Inv-loop end path-nos coords paths backs₀ counts₀ refs₀ notes₀ ask₀ s₀ backs counts refs notes ask s =
+Inv-loop end path-nos coords paths backs₀ counts₀ refs₀ notes₀ misses₀ s₀ backs counts refs notes misses s =
     (s .lines ≤ end) × (length backs ≡ length backs₀) × (length counts ≡ length counts₀) × (length refs ≡ length refs₀)
     × (batch path-nos coords paths (length refs₀ / refWords) (s .lines) end (stOf backs counts refs (s .refs))
     ≡ batch path-nos coords paths (length refs₀ / refWords) (s₀ .lines) end (stOf backs₀ counts₀ refs₀ (s₀ .refs)))
     × (length notes ≡ noteWords)
 
 abbrev μ-loop : tie.MeasureT-loop
-μ-loop end path-nos coords paths backs₀ counts₀ refs₀ notes₀ ask₀ s₀ backs counts refs notes ask s = end - s .lines
+μ-loop end path-nos coords paths backs₀ counts₀ refs₀ notes₀ misses₀ s₀ backs counts refs notes misses s = end - s .lines
 
 loop-holds : tie.Need-loop-holds Inv-loop μ-loop
 loop-holds c = (c .before .before .before .before .before .pre .1, refl, refl, refl, refl, refl)
@@ -171,33 +172,36 @@ took c =
     (sym (ap (λ (x : Tallied). tallyRan x (stOf (t .last .1 .1 .1 .1 .1 .0) (t .last .1 .1 .1 .1 .1 .1 .0) (t .last .1 .1 .1 .1 .1 .1 .1 .0)) (r .result .refs)) (c .t .given .1))
     ∙ said (c .before .before .before .before .before .before .before .before))
 
+misses-after-requires : tie.Need-misses-after-requires Inv-loop μ-loop
+misses-after-requires c κs = search needs
+
 stepped-requires : tie.Need-stepped-requires Inv-loop μ-loop
 stepped-requires c κs =
-    let a = c .before .before .before .before .before .before .before .before .before .before .before .before .before .before .before .before .before .before .before .before .before .before .before .before .before .before .before .before .before .before .before .before .args in
-    let r = c .before .before .before .before .before .before .before .before .before .before .before .before .before .before .before .before .before .before .before .before .before .ones-if in (
-      omega (arith, c .before .before .before .before .before .before .before .before .before .before .before .before .before .before .before .before .before .before .before .before .before .before .before .before .before .before .before .before .before .before .before .before .good, r .ensures .1, c .before .before .before .before .before .before .before .before .before .before .before .before .before .before .before .if2 .left),
+    let a = c .before .before .before .before .before .before .before .before .before .before .before .before .before .before .before .before .before .before .before .before .before .before .before .before .before .before .before .before .before .before .before .before .before .args in
+    let r = c .before .before .before .before .before .before .before .before .before .before .before .before .before .before .before .before .before .before .before .before .before .before .ones-if in (
+      omega (arith, c .before .before .before .before .before .before .before .before .before .before .before .before .before .before .before .before .before .before .before .before .before .before .before .before .before .before .before .before .before .before .before .before .before .good, r .ensures .1, c .before .before .before .before .before .before .before .before .before .before .before .before .before .before .before .before .if2 .left),
       line-made (a .path-nos .now) (a .coords .now) (a .paths .now) (length (a .refs .now) / refWords) (r .result .lines) (r .result .lines)
-          (stOf (c .before .before .before .before .before .before .before .before .before .before .before .before .before .before .before .before .before .before .before .before .before .before .before .before .before .before .loop .backs) (r .last .1 .1 .1 .1 .1 .1 .0) (r .last .1 .1 .1 .1 .1 .1 .1 .0) (r .result .refs)) _ (omega (arith, c .before .before .before .before .before .before .before .before .before .before .before .before .before .before .before .before .struct-known2 .given)) (took (c .before .before)),
+          (stOf (c .before .before .before .before .before .before .before .before .before .before .before .before .before .before .before .before .before .before .before .before .before .before .before .before .before .before .before .loop .backs) (r .last .1 .1 .1 .1 .1 .1 .0) (r .last .1 .1 .1 .1 .1 .1 .1 .0) (r .result .refs)) _ (omega (arith, c .before .before .before .before .before .before .before .before .before .before .before .before .before .before .before .before .before .struct-known2 .given)) (took (c .before .before .before)),
     )
 
 loop-less : tie.Need-loop-less Inv-loop μ-loop
 loop-less c =
-    omega (arith, c .before .before .before .before .before .before .before .before .before .before .before .before .before .before .before .before .before .before .before .before .before .before .before .before .before .if1 .taken, c .before .before .before .before .before .before .before .before .before .before .before .before .before .before .before .before .if2 .left, c .before .before .before .before .before .before .before .before .before .before .before .before .before .before .before .before .before .before .before .before .before .before .ones-if .ensures .0, c .before .before .before .before .before .before .before .before .before .before .before .before .before .before .before .before .before .before .before .before .before .before .ones-if .ensures .1, ap (λ (r : Running). r .lines) (c .stepped .ensures))
+    omega (arith, c .before .before .before .before .before .before .before .before .before .before .before .before .before .before .before .before .before .before .before .before .before .before .before .before .before .before .if1 .taken, c .before .before .before .before .before .before .before .before .before .before .before .before .before .before .before .before .before .if2 .left, c .before .before .before .before .before .before .before .before .before .before .before .before .before .before .before .before .before .before .before .before .before .before .before .ones-if .ensures .0, c .before .before .before .before .before .before .before .before .before .before .before .before .before .before .before .before .before .before .before .before .before .before .before .ones-if .ensures .1, ap (λ (r : Running). r .lines) (c .stepped .ensures))
 
 loop-again : tie.Need-loop-again Inv-loop μ-loop
 loop-again c =
-    let a = c .before .before .before .before .before .before .before .before .before .before .before .before .before .before .before .before .before .before .before .before .before .before .before .before .before .before .before .before .before .before .before .before .before .args in
-    let s = c .before .before .before .before .before .before .before .before .before .before .before .before .before .before .before .before .before .before .before .before .before .before .before .before .before .before .before .loop in
-    let r = c .before .before .before .before .before .before .before .before .before .before .before .before .before .before .before .before .before .before .before .before .before .before .ones-if in
-    let t = c .before .before .before .before .before .before .before .before .before .before .before .count-at in
-    let h : r .result .lines < a .end = omega (arith, r .ensures .1, c .before .before .before .before .before .before .before .before .before .before .before .before .before .before .before .before .if2 .left) in
+    let a = c .before .before .before .before .before .before .before .before .before .before .before .before .before .before .before .before .before .before .before .before .before .before .before .before .before .before .before .before .before .before .before .before .before .before .args in
+    let s = c .before .before .before .before .before .before .before .before .before .before .before .before .before .before .before .before .before .before .before .before .before .before .before .before .before .before .before .before .loop in
+    let r = c .before .before .before .before .before .before .before .before .before .before .before .before .before .before .before .before .before .before .before .before .before .before .before .ones-if in
+    let t = c .before .before .before .before .before .before .before .before .before .before .before .before .count-at in
+    let h : r .result .lines < a .end = omega (arith, r .ensures .1, c .before .before .before .before .before .before .before .before .before .before .before .before .before .before .before .before .before .if2 .left) in
     rw (c .stepped .ensures) (
       omega (arith, h),
       t .kept .1 .1 .1 .1 .1 .0 ∙ s .inv .1,
       t .kept .1 .1 .1 .1 .1 .1 .0 ∙ r .kept .1 .1 .1 .1 .1 .1 .0 ∙ s .inv .2,
       t .kept .1 .1 .1 .1 .1 .1 .1 .0 ∙ r .kept .1 .1 .1 .1 .1 .1 .1 .0 ∙ s .inv .3,
       batch-goes (λ l. lineStep (a .path-nos .now) (a .coords .now) (a .paths .now) (length (a .refs .now) / refWords) l l) (r .result .lines) (a .end)
-          (stOf (s .backs) (r .last .1 .1 .1 .1 .1 .1 .0) (r .last .1 .1 .1 .1 .1 .1 .1 .0) (r .result .refs)) h _ (left (c .before .before .before .before .before .before .before .before .before .before .before .before .before .before .before .before .before .before .before .before .before .before)) _ (took (c .before .before .before)),
+          (stOf (s .backs) (r .last .1 .1 .1 .1 .1 .1 .0) (r .last .1 .1 .1 .1 .1 .1 .1 .0) (r .result .refs)) h _ (left (c .before .before .before .before .before .before .before .before .before .before .before .before .before .before .before .before .before .before .before .before .before .before .before)) _ (took (c .before .before .before .before)),
       t .kept .1 .1 .1 .1 .0 ∙ s .inv .5,
     )
 
@@ -241,6 +245,7 @@ count-batch-spec =
     same-length-5
     same-length-6
     returns-2
+    misses-after-requires
     stepped-requires
     loop-less
     loop-again

@@ -1,5 +1,5 @@
--- `recount::lines::own_line` meets its contract: counting's own line, by its place or as the first of the lines from it on, or why a line of another path is
--- refused. Assumes nothing.
+-- `recount::lines::own_line` meets its contract: counting's own first line of the lines from it on, or why a line of another path is refused.
+-- Assumes nothing.
 use mathlib.Core.Path.{_≡_, sym, ap, _∙_}
 use Prim.Native.Nat.{ℕ, _/_, _*_}
 use native.Mathlib.Omega.{arith}
@@ -10,7 +10,7 @@ use Rattle.lists.specs.Run.{Step, refused}
 use Rattle.panel.specs.Widths.{refWords, lineFloats}
 use Rattle.acts.specs.Acts.{St, stOf}
 use Rattle.path_count.specs.Count.{lineRan}
-use Rattle.recount.proofs.OwnLaws.{own-same, own-other, other-part, own-rest}
+use Rattle.recount.proofs.OwnLaws.{own-other, other-part, own-rest}
 use Rattle.recount.proofs.lines.own_line.Statement.{statement}
 use Rattle.recount.proofs.lines.own_line.Tie as tie
 
@@ -50,36 +50,6 @@ returns c =
     ∙ ap (λ (o : Step St ℕ). lineRan o s)
     (sym (own-other (a .path) (a .path-nos .now) (a .coords .now) (a .paths .now) (length (a .refs .now) / refWords) (a .line .0) (a .k) s (c .before .before .if1 .taken)))
 
-cast-place : tie.Need-cast-place
-cast-place c = search needs
-
-count-noted-requires : tie.Need-count-noted-requires
-count-noted-requires c κs =
-    let pre = c .before .before .before .before .before .before .before .before .before .before .before .before .before .pre in
-    (pre .0, pre .2, pre .3)
-
-same-length : tie.Need-same-length
-same-length c = search needs
-
-same-length-2 : tie.Need-same-length-2
-same-length-2 c = search needs
-
-same-length-3 : tie.Need-same-length-3
-same-length-3 c = search needs
-
-same-length-4 : tie.Need-same-length-4
-same-length-4 c = search needs
-
-returns-2 : tie.Need-returns-2
-returns-2 c =
-    let a = c .before .before .before .before .before .before .before .before .before .before .before .before .before .before .before .before .before .before .before .before .before .args in
-    let s = stOf (a .backs .now) (a .counts .now) (a .refs .now) (a .made) in
-    c .before .before .before .before .before .before .before .count-noted .ensures
-    ∙ ap (λ (o : Step St ℕ). lineRan o s)
-    (sym (own-same (a .path) (a .path-nos .now) (a .coords .now) (a .paths .now) (length (a .refs .now) / refWords) (a .line .0) (a .k) s
-    (c .before .before .before .before .before .before .before .before .before .before .before .before .before .before .before .before .before .before .before .before .before .pre .1)
-    (c .before .before .before .before .before .before .before .before .before .before .before .before .before .if1 .left)))
-
 mul-count-noted : tie.Need-mul-count-noted
 mul-count-noted c = search needs
 
@@ -104,36 +74,33 @@ part-count-noted-start-2 c = search needs
 part-count-noted-end-2 : tie.Need-part-count-noted-end-2
 part-count-noted-end-2 c = search needs
 
-count-noted-requires-2 : tie.Need-count-noted-requires-2
-count-noted-requires-2 c κs =
-    let a = c .before .before .before .before .before .before .before .before .before .before .before .before .before .before .before .args in
-    let pre = c .before .before .before .before .before .before .before .before .before .before .before .before .before .before .before .pre in
+count-noted-requires : tie.Need-count-noted-requires
+count-noted-requires c κs =
+    let a = c .before .before .before .before .before .before .before .before .before .before .before .before .before .before .args in
+    let p = c .before .before .before .before .before .before .before .before .before .before .before .before .before .before .pre in
     let nos = ap length (part-to-end (a .path-nos .now) (a .k)) ∙ length-drop (a .k) (a .path-nos .now) in
     let fs = ap length (part-to-end (a .coords .now) (a .k * lineFloats)) ∙ length-drop (a .k * lineFloats) (a .coords .now) in
-    (pre .0, record { numbered = omega (arith, nos, pre .2 .numbered); whole = omega (arith, fs, pre .2 .whole) }, pre .3)
+    (p .0, record { numbered = omega (arith, nos, p .2 .numbered); whole = omega (arith, fs, p .2 .whole) }, p .3)
 
-same-length-5 : tie.Need-same-length-5
-same-length-5 c = search needs
+same-length : tie.Need-same-length
+same-length c = search needs
 
-same-length-6 : tie.Need-same-length-6
-same-length-6 c = search needs
+same-length-2 : tie.Need-same-length-2
+same-length-2 c = search needs
 
-same-length-7 : tie.Need-same-length-7
-same-length-7 c = search needs
+same-length-3 : tie.Need-same-length-3
+same-length-3 c = search needs
 
-same-length-8 : tie.Need-same-length-8
-same-length-8 c = search needs
+same-length-4 : tie.Need-same-length-4
+same-length-4 c = search needs
 
-returns-3 : tie.Need-returns-3
-returns-3 c =
-    let a = c .before .before .before .before .before .before .before .before .before .before .before .before .before .before .before .before .before .before .before
-    .before .before .before .before .args in
+returns-2 : tie.Need-returns-2
+returns-2 c =
+    let a = c .before .before .before .before .before .before .before .before .before .before .before .before .before .before .before .before .before .before .before .before .before .before .args in
     let s = stOf (a .backs .now) (a .counts .now) (a .refs .now) (a .made) in
-    c .before .before .before .before .before .before .before .count-noted2 .ensures
+    c .before .before .before .before .before .before .before .count-noted .ensures
     ∙ ap (λ (o : Step St ℕ). lineRan o s)
-    (own-rest (a .path) (a .path-nos .now) (a .coords .now) (a .paths .now) (length (a .refs .now) / refWords) (a .line .0) (a .k) s
-    (c .before .before .before .before .before .before .before .before .before .before .before .before .before .before .before .before .before .before .before .before .before .before .before .pre .1)
-    (c .before .before .before .before .before .before .before .before .before .before .before .before .before .before .before .if1 .left)
+    (own-rest (a .path) (a .path-nos .now) (a .coords .now) (a .paths .now) (length (a .refs .now) / refWords) (a .line .0) (a .k) s (c .before .before .before .before .before .before .before .before .before .before .before .before .before .before .before .before .before .before .before .before .before .before .pre .1) (c .before .before .before .before .before .before .before .before .before .before .before .before .before .before .if1 .left)
     _ _ (part-to-end (a .path-nos .now) (a .k)) (part-to-end (a .coords .now) (a .k * lineFloats)))
 
 pub own-line-spec : {M : Type 1} → statement M
@@ -149,13 +116,6 @@ own-line-spec =
     part-other-no-end
     other-no-requires
     returns
-    cast-place
-    count-noted-requires
-    same-length
-    same-length-2
-    same-length-3
-    same-length-4
-    returns-2
     mul-count-noted
     sub-count-noted
     part-count-noted-start
@@ -164,9 +124,9 @@ own-line-spec =
     sub-count-noted-2
     part-count-noted-start-2
     part-count-noted-end-2
-    count-noted-requires-2
-    same-length-5
-    same-length-6
-    same-length-7
-    same-length-8
-    returns-3)
+    count-noted-requires
+    same-length
+    same-length-2
+    same-length-3
+    same-length-4
+    returns-2)
