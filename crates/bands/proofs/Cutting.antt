@@ -18,7 +18,7 @@ use Rattle.panel.proofs.CheckLaws.{all-ok}
 use Rattle.panel.specs.declared.kinds.Answer.the-variants.{Done, Refused}
 use Rattle.panel.specs.declared.kinds.Verdict.{Verdict}
 use Rattle.panel.specs.declared.kinds.Verdict.the-variants.{Fine, Against}
-use Rattle.coverage.specs.Tile.{tileWidth, tileHeight}
+use Rattle.sides.specs.Tile.{tileWidth, tileHeight}
 use Rattle.fine.specs.Fine.{fineChecks, Shown, shown, No, tilesOf, shownOf, unlessNo, fineOf}
 use Rattle.fine.proofs.Ranges.{two-ranges}
 use Rattle.bands.specs.Bands.{bandChecks, bandTiles, bandOf}

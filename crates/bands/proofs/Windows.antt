@@ -29,7 +29,7 @@ use Rattle.lists.specs.GridLaws.{le-or-lt}
 use Rattle.panel.specs.declared.kinds.Verdict.{Verdict}
 use Rattle.panel.specs.declared.kinds.Verdict.the-variants.{Fine, Against}
 use Rattle.colours.specs.Colour.{packOf}
-use Rattle.coverage.specs.Tile.{tileWidth, tileHeight}
+use Rattle.sides.specs.Tile.{tileWidth, tileHeight}
 use Rattle.fine.specs.Screen.{inTile, placeOf, putTile, packed, endsAt, colourAt, ifFine, tilePixels}
 use Rattle.fine.specs.Fine.{No, onEnd, tileStep, tilesOf}
 use Rattle.fine.proofs.Ranges.{some}

@@ -13,7 +13,7 @@ use Rattle.panel.specs.Limits.{mostTiles}
 use Rattle.panel.specs.Refusals.{notWhole, tooMany, badScreen}
 use Rattle.panel.specs.Widths.{segmentFloats}
 use Rattle.panel.specs.declared.kinds.Answer.{Answer}
-use Rattle.coverage.specs.Tile.{tileWidth, tileHeight}
+use Rattle.sides.specs.Tile.{tileWidth, tileHeight}
 use Rattle.fine.specs.Screen.{endsAt, tilePixels}
 use Rattle.fine.specs.Fine.{Shown, shown, shownOf, No, onEnd, unlessNo}
 

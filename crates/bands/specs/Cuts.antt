@@ -6,7 +6,7 @@ use Prim.Native.Nat.{ℕ, _-_, _*_, _≤_}
 use lib.ListN.{length}
 use lib.Ieee.{Float}
 use Rattle.panel.specs.declared.kinds.Answer.the-variants.{Done}
-use Rattle.coverage.specs.Tile.{tileHeight}
+use Rattle.sides.specs.Tile.{tileHeight}
 use Rattle.fine.specs.Fine.{Shown, shown}
 use Rattle.bands.specs.Bands.{bandOf}
 

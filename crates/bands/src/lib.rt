@@ -1,8 +1,6 @@
 // A band of the screen: the tiles of some of its rows, on pixels of the band's own, so that several
 // can be drawn at once. docs/RULES.md, "Bands". Each tile is fine's own; only its row is counted
 // from the band's first.
-use coverage::tile::TILE_HEIGHT;
-use coverage::tile::TILE_WIDTH;
 use fine::screen::no_colour;
 use fine::screen::tile;
 use panel::kinds::Answer;
@@ -12,12 +10,14 @@ use panel::refusals::BAD_SCREEN;
 use panel::refusals::NOT_WHOLE;
 use panel::refusals::TOO_MANY;
 use panel::widths::SEGMENT_FLOATS;
+use sides::TILE_HEIGHT;
+use sides::TILE_WIDTH;
 ghost use mathlib.Core.Path.{_≡_};
 ghost use Prim.Native.Nat.{_+_, _*_, _≤_};
 ghost use lib.ListN.{length};
 ghost use Rattle.panel.specs.Checks.{firstNo};
 ghost use Rattle.panel.specs.Limits.{mostTiles};
-ghost use Rattle.coverage.specs.Tile.{tileWidth, tileHeight};
+ghost use Rattle.sides.specs.Tile.{tileWidth, tileHeight};
 ghost use Rattle.fine.specs.Fine.{shown, shownOf};
 ghost use Rattle.bands.specs.Bands.{bandChecks, bandTiles, BandMet};
 

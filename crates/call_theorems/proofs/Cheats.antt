@@ -25,7 +25,7 @@ use Rattle.backdrop.specs.Backdrop.{rowSums, rowFits, rowsSums, rowsFit, sumPat
 use Rattle.hand_out.specs.HandOut.{HandMet}
 use Rattle.path_tiling.specs.Look.{lent}
 use Rattle.path_tiling.specs.Tiling.{TileMet}
-use Rattle.coverage.specs.Tile.{tileWidth, tileSize}
+use Rattle.sides.specs.Tile.{tileWidth, tileSize}
 use Rattle.coverage.specs.Coverage.{coverageOf}
 use Rattle.coverage.specs.Ground.{straightFrom}
 use Rattle.coverage.specs.Fill.{fillOf, FillMet}

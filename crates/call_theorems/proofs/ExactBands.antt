@@ -15,7 +15,7 @@ use Rattle.panel.specs.declared.kinds.Answer.{Answer}
 use Rattle.panel.specs.declared.kinds.Answer.the-variants.{Done, Refused}
 use Rattle.panel.specs.declared.kinds.Verdict.{Verdict}
 use Rattle.panel.specs.declared.kinds.Verdict.the-variants.{Fine, Against}
-use Rattle.coverage.specs.Tile.{tileWidth, tileSize}
+use Rattle.sides.specs.Tile.{tileWidth, tileSize}
 use Rattle.commands.specs.Numbers.{startOf}
 use Rattle.fine.specs.Screen.{endsAt, tilePixels}
 use Rattle.fine.specs.Fine.{No, Shown, onEnd}

@@ -10,7 +10,7 @@ use lib.Ieee.{Float}
 use Rattle.panel.specs.Checks.{firstNo}
 use Rattle.panel.specs.declared.kinds.Verdict.{Verdict}
 use Rattle.panel.specs.declared.kinds.Verdict.the-variants.{Fine, Against}
-use Rattle.coverage.specs.Tile.{tileSize}
+use Rattle.sides.specs.Tile.{tileSize}
 use Rattle.coverage.specs.Coverage.{pixelOf}
 use Rattle.coverage.specs.Fill.{fillChecks}
 use Rattle.colours.specs.Colour.{packOf}

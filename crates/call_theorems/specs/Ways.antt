@@ -39,7 +39,7 @@ use Rattle.frame.specs.declared.kinds.Framed.the-variants as Framed
 use Rattle.coverage.specs.Fill.{fillChecks}
 use Rattle.coverage.specs.Coverage.{coverageOf}
 use Rattle.coverage.specs.Coverage.{pixelOf}
-use Rattle.coverage.specs.Tile.{tileSize}
+use Rattle.sides.specs.Tile.{tileSize}
 use Rattle.colours.specs.Colour.{packOf}
 use Rattle.commands.specs.Numbers.{startOf}
 use Rattle.fine.specs.Screen.{endsAt, colourAt}

@@ -12,7 +12,7 @@ use lib.Ieee.{Float, nan}
 use borrow.Author.Tests.{le-leb, lt-leb, le-ltb, lt-ltb}
 use Rattle.lists.specs.Grid.{mapi, within}
 use Rattle.lists.specs.GridLaws.{le-or-lt, length-mapi, getD-mapi, mapi-is}
-use Rattle.coverage.specs.Tile.{tileWidth, tileHeight, tileSize, rowStart, rowEnd}
+use Rattle.sides.specs.Tile.{tileWidth, tileHeight, tileSize, rowStart, rowEnd}
 use Rattle.colours.specs.Colour.{overOf}
 use Rattle.colours.specs.Layer.{shareOf, mixOf, mixed, each, onto, spread, meant, Level}
 use Rattle.colours.proofs.LayerLaws.{over-mix, at-level}

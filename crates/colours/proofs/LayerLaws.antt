@@ -12,7 +12,7 @@ use Rattle.float32.proofs.Tests.{first, second}
 use Rattle.lists.specs.Grid.{mapi, within}
 use Rattle.lists.specs.GridLaws.{le-or-lt, within-none, within-join, within-cong}
 use Rattle.ranges.proofs.Turn.{Done, turned, turned-to}
-use Rattle.coverage.specs.Tile.{tileWidth, rowStart, rowEnd}
+use Rattle.sides.specs.Tile.{tileWidth, rowStart, rowEnd}
 use Rattle.colours.specs.Colour.{overOf}
 use Rattle.colours.specs.Layer.{shareOf, mixOf, mixed, each, Level}
 

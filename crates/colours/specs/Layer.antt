@@ -7,7 +7,7 @@ use lib.ListN.{getD}
 use lib.Ieee.{Float, nan, binary32, add, sub, mul}
 use Rattle.float32.specs.Meaning.{signOf}
 use Rattle.util.specs.Constants.{one}
-use Rattle.coverage.specs.Tile.{tileWidth, rowStart}
+use Rattle.sides.specs.Tile.{tileWidth, rowStart}
 use Rattle.lists.specs.Grid.{mapi}
 use Rattle.colours.specs.Colour.{overOf}
 

@@ -1,9 +1,9 @@
 // A colour laid over a tile's pixels, row by row. A pixel's four floats are written out, and so are a row's
 // pixels: with no loop over pixels the compiler keeps a pixel in one register. Of a row whose areas are all
 // the same, what is added is computed once.
-use coverage::tile::TILE_HEIGHT;
-use coverage::tile::TILE_SIZE;
-use coverage::tile::TILE_WIDTH;
+use sides::TILE_HEIGHT;
+use sides::TILE_SIZE;
+use sides::TILE_WIDTH;
 ghost use mathlib.Core.Path.{_≡_};
 ghost use mathlib.Core.Bool.{true, false};
 ghost use Prim.Native.Nat.{_+_, _≤_, _<_};
@@ -11,7 +11,7 @@ ghost use lib.ListN.{length, getD};
 ghost use lib.Ieee.{nan};
 ghost use Rattle.float32.specs.Meaning.{signOf};
 ghost use Rattle.lists.specs.Grid.{mapi, within};
-ghost use Rattle.coverage.specs.Tile.{tileWidth, tileHeight, tileSize, rowStart, rowEnd};
+ghost use Rattle.sides.specs.Tile.{tileWidth, tileHeight, tileSize, rowStart, rowEnd};
 ghost use Rattle.colours.specs.Colour.{compositeOf};
 ghost use Rattle.colours.specs.Layer.{shareOf, mixOf, mixed, each, onto, meant, NoMinus, Level};
 

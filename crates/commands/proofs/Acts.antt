@@ -16,7 +16,7 @@ use Rattle.panel.specs.declared.kinds.Verdict.{Verdict}
 use Rattle.panel.specs.declared.kinds.Verdict.the-variants.{Fine, Against}
 use Rattle.coverage.specs.Ground.{groundOf}
 use Rattle.coverage.proofs.Grounds.{ground-room}
-use Rattle.coverage.specs.Tile.{tileSize}
+use Rattle.sides.specs.Tile.{tileSize}
 use Rattle.coverage.specs.Coverage.{pixelOf, coverageOf}
 use Rattle.coverage.proofs.Laws.{mapi-over}
 use Rattle.commands.specs.Moves.{countOf, onGround, fillMove, wholeMove, moveOf}

@@ -12,7 +12,7 @@ use Rattle.lists.specs.GridLaws.{mapi-replicate}
 use Rattle.panel.specs.Limits.{mostCommands}
 use Rattle.panel.specs.declared.kinds.Verdict.{Verdict}
 use Rattle.panel.specs.declared.kinds.Verdict.the-variants.{Fine}
-use Rattle.coverage.specs.Tile.{tileSize}
+use Rattle.sides.specs.Tile.{tileSize}
 use Rattle.colours.specs.Colour.{colourOf, overOf}
 use Rattle.reader.specs.Look.{lookAt}
 use Rattle.reader.specs.declared.Look.{Look}

@@ -10,7 +10,7 @@ use Rattle.float32.specs.Meaning.{signOf, absOf, minOf}
 use Rattle.float32.proofs.MinMax.{min-picks}
 use Rattle.util.specs.Constants as Number
 use Rattle.lists.specs.Grid.{mapFrom}
-use Rattle.coverage.specs.Tile.{tileSize}
+use Rattle.sides.specs.Tile.{tileSize}
 use Rattle.coverage.specs.Coverage.{finishOf, pixelOf}
 use Rattle.colours.specs.Layer.{NoMinus}
 use Rattle.commands.specs.Moves.{Trace, does}

@@ -9,7 +9,7 @@ use lib.Ieee.{Float, nan}
 use Rattle.util.specs.Constants.{one}
 use Rattle.lists.specs.Grid.{mapi}
 use Rattle.panel.specs.declared.kinds.Verdict.the-variants.{Fine, Against}
-use Rattle.coverage.specs.Tile.{tileSize}
+use Rattle.sides.specs.Tile.{tileSize}
 use Rattle.colours.specs.Colour.{colourOf, compositeOf}
 use Rattle.reader.specs.Look.{lookAt}
 use Rattle.reader.specs.declared.Look.{Look}

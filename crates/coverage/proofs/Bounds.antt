@@ -18,12 +18,12 @@ use Rattle.panel.specs.declared.kinds.Answer.the-variants.{Done}
 use Rattle.panel.specs.declared.kinds.Verdict.{Verdict}
 use Rattle.panel.specs.declared.kinds.Verdict.the-variants.{Fine, Against}
 use Rattle.lists.specs.GridLaws.{getD-tabulate}
-use Rattle.coverage.specs.Tile.{tileSize}
-use Rattle.coverage.specs.Row.{slanted, edged, stepRow, stepWay, stepSegment}
+use Rattle.sides.specs.Tile.{tileSize}
+use Rattle.one_row.specs.Row.{slanted, edged, stepRow, stepWay, stepSegment}
 use Rattle.coverage.specs.Coverage.{areaAfter, finishOf, sumOf, pixelOf, coverageOf}
 use Rattle.coverage.specs.Fill.{fillOf, fillChecks, ifFine}
-use Rattle.coverage.specs.declared.row.Way.{Way}
-use Rattle.coverage.specs.declared.row.Row.{Row}
+use Rattle.one_row.specs.declared.Way.{Way}
+use Rattle.one_row.specs.declared.Row.{Row}
 use Rattle.rounded.proofs.Even as Even
 
 -- x lies in 0..1

@@ -1,19 +1,9 @@
 -- Laws that several proofs cite. Assumes nothing.
 use mathlib.Core.Path.{_≡_, refl, ap}
 use mathlib.Core.List.{List, [], _∷_}
-use Prim.Native.Nat.{ℕ, suc, _<_, _^_}
-use native.Mathlib.Omega.{arith}
-use lib.Dec.{T, le→leb}
-use lib.IntN.{pos}
+use Prim.Native.Nat.{ℕ, suc}
 use lib.ListN.{length}
-use lib.Ieee.{binary32, inFloat}
 use Rattle.lists.specs.Grid.{mapFrom, mapi, tabFrom, tabulate}
-use Rattle.coverage.specs.Tile.{tileSize}
-
--- a pixel's row or column is a float exactly
-pub small : (n : ℕ) → n < tileSize → T (inFloat binary32 (pos n))
-unfolding inFloat
-small n h = le→leb n (2 ^ 24) (omega arith)
 
 tab : {A B : Type 0} (j : ℕ) (f : ℕ → B) (l : List A) → mapFrom j (λ k x. f k) l ≡ tabFrom j (length l) f
 unfolding mapFrom tabFrom

@@ -1,12 +1,7 @@
 pub mod Past
 pub mod Laws
-pub mod Arms
-pub mod RowsLaws
-pub mod OwnLaws
-pub mod NarrowLaws
 pub mod Grounds
 pub mod Crooked
 pub mod Page
 pub mod Bounds
 pub mod Traces
-pub mod Vertical

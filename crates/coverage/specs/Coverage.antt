@@ -8,9 +8,9 @@ use lib.Ieee.{Float, binary32, ofInt, sub, mul}
 use Rattle.float32.specs.Meaning.{minOf, absOf, roundOf}
 use Rattle.util.specs.Constants.{half, one, two}
 use Rattle.lists.specs.Grid.{tabulate}
-use Rattle.coverage.specs.Tile.{tileSize}
+use Rattle.sides.specs.Tile.{tileSize}
 use Rattle.panel.specs.Segments.{segmentAt}
-use Rattle.coverage.specs.Row.{stepSegment}
+use Rattle.one_row.specs.Row.{stepSegment}
 
 -- the area of pixel k after the n segments from the first on, in order, from the area a
 unfoldable pub areaAfter : List Float → ℕ → Float → Float → ℕ → ℕ → Float → Float

@@ -15,7 +15,7 @@ use Rattle.panel.specs.declared.kinds.Answer.{Answer}
 use Rattle.panel.specs.declared.kinds.Answer.the-variants.{Done}
 use Rattle.panel.specs.declared.kinds.Verdict.{Verdict}
 use Rattle.panel.specs.declared.kinds.Verdict.the-variants.{Fine, Against}
-use Rattle.coverage.specs.Tile.{tileSize}
+use Rattle.sides.specs.Tile.{tileSize}
 use Rattle.coverage.specs.Coverage.{coverageOf}
 use Rattle.coverage.specs.Ground.{groundChecks}
 

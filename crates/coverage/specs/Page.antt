@@ -10,7 +10,7 @@ use Rattle.float32.specs.Meaning.{minOf, maxOf, clampOf, signumOf, absOf, round
 use Rattle.util.specs.Constants as Number
 use Rattle.panel.specs.Segments.{segmentAt}
 use Rattle.panel.specs.declared.segments.Segment.{Segment}
-use Rattle.coverage.specs.Tile.{tileWidth}
+use Rattle.sides.specs.Tile.{tileWidth}
 
 -- one segment: the pixel's area after it
 unfoldable pub segmentPage : Segment → (x-tile y-tile : Float) → ℕ → Float → Float

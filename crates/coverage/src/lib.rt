@@ -2,11 +2,6 @@
 // with refusals 1 and 13 before it. docs/RULES.md, "Coverage and colour".
 pub mod area;
 pub mod ground;
-pub mod narrow;
-pub mod own;
-pub mod row;
-pub mod rows;
-pub mod tile;
 
 use area::fill_path;
 use ground::ground;
@@ -14,7 +9,7 @@ use panel::kinds::Answer;
 use panel::kinds::Verdict;
 use panel::refusals::NOT_WHOLE;
 use panel::widths::SEGMENT_FLOATS;
-use tile::TILE_SIZE;
+use sides::TILE_SIZE;
 ghost use mathlib.Core.Path.{_≡_};
 ghost use Rattle.panel.specs.Checks.{firstNo};
 ghost use Rattle.coverage.specs.Fill.{fillChecks, FillMet};

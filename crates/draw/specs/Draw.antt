@@ -18,7 +18,7 @@ use Rattle.panel.specs.declared.kinds.Verdict.{Verdict}
 use Rattle.panel.specs.declared.kinds.Verdict.the-variants.{Fine, Against}
 use Rattle.panel.specs.declared.kinds.Answer.{Answer}
 use Rattle.panel.specs.declared.kinds.Answer.the-variants as Answer
-use Rattle.coverage.specs.Tile.{tileWidth, tileHeight}
+use Rattle.sides.specs.Tile.{tileWidth, tileHeight}
 use Rattle.path_tiling.specs.Tiling.{slotsOf}
 use Rattle.frame.specs.Frame as Frame
 use Rattle.frame.specs.Frame.{answerOn}

@@ -2,8 +2,6 @@
 ghost use mathlib.Core.Path.{_≡_};
 ghost use Rattle.panel.specs.Checks.{firstNo};
 ghost use Rattle.draw.specs.Draw.{pageChecks};
-use coverage::tile::TILE_HEIGHT;
-use coverage::tile::TILE_WIDTH;
 use panel::kinds::Verdict;
 use panel::limits::MOST_PATHS;
 use panel::limits::MOST_TILES;
@@ -12,6 +10,8 @@ use panel::refusals::NOT_WHOLE;
 use panel::refusals::TOO_MANY;
 use panel::widths::PAINT_WORDS;
 use panel::widths::PATH_WORDS;
+use sides::TILE_HEIGHT;
+use sides::TILE_WIDTH;
 
 // Whole paths with a paint each (1), not too many of them, of tiles and of screen tiles (2), then the
 // width and the pixels (16). 16 * width * rows can pass 64 bits, so the pixels are divided.

@@ -11,7 +11,7 @@ use lib.Seq.{getD-set-same, getD-set-other}
 use lib.Ieee.{Float}
 use Rattle.lists.specs.Grid.{mapi, within}
 use Rattle.lists.specs.GridLaws.{getD-mapi, mapi-is, within-cong}
-use Rattle.coverage.specs.Tile.{tileWidth, tileHeight, tileSize, rowStart}
+use Rattle.sides.specs.Tile.{tileWidth, tileHeight, tileSize, rowStart}
 use Rattle.colours.specs.Colour.{packOf}
 use Rattle.colours.specs.Layer.{spread, meant}
 use Rattle.colours.proofs.FlatLaws.{of-first, of-own}

@@ -9,7 +9,7 @@ use lib.Ieee.{Float, nan}
 use Rattle.lists.specs.Grid.{mapi, within}
 use Rattle.lists.specs.GridLaws.{getD-mapi, within-cong}
 use Rattle.ranges.proofs.Turn.{Done, turned-at}
-use Rattle.coverage.specs.Tile.{tileWidth, tileHeight, tileSize, rowStart}
+use Rattle.sides.specs.Tile.{tileWidth, tileHeight, tileSize, rowStart}
 use Rattle.colours.specs.Colour.{overOf, compositeOf, packOf}
 use Rattle.colours.specs.Layer.{each, spread, meant, Level}
 use Rattle.colours.proofs.FlatLaws.{meant-length, of-first, of-own}

@@ -12,7 +12,7 @@ use borrow.Author.Tests.{le-leb, lt-leb, lt-ltb, le-ltb, eq-eqb, ne-eqb, eqb-tru
 use Rattle.lists.specs.Grid.{mapi, within}
 use Rattle.lists.specs.GridLaws.{le-or-lt, mapi-mapi}
 use Rattle.commands.proofs.Acts.{mapi-cong, unchanged}
-use Rattle.coverage.specs.Tile.{tileWidth, tileHeight}
+use Rattle.sides.specs.Tile.{tileWidth, tileHeight}
 use Rattle.fine.specs.Screen.{inTile, placeOf, rowAt, putTile}
 
 -- w * Y + r, with r below w

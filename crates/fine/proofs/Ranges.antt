@@ -11,7 +11,7 @@ use Rattle.lists.specs.Sums as Numbers
 use Rattle.panel.specs.Limits.{mostTiles}
 use Rattle.panel.specs.declared.kinds.Verdict.{Verdict}
 use Rattle.panel.specs.declared.kinds.Verdict.the-variants.{Fine, Against}
-use Rattle.coverage.specs.Tile.{tileWidth, tileHeight}
+use Rattle.sides.specs.Tile.{tileWidth, tileHeight}
 use Rattle.fine.specs.Screen.{endsAt, tilePixels}
 use Rattle.fine.specs.Fine.{onEnd, tileStep, tilesOf}
 

@@ -11,7 +11,7 @@ use Rattle.lists.specs.Grid.{mapi}
 use Rattle.panel.specs.Limits.{mostCommands}
 use Rattle.panel.specs.declared.kinds.Verdict.{Verdict}
 use Rattle.panel.specs.declared.kinds.Verdict.the-variants.{Fine, Against}
-use Rattle.coverage.specs.Tile.{tileWidth, tileHeight, tileSize}
+use Rattle.sides.specs.Tile.{tileWidth, tileHeight, tileSize}
 use Rattle.colours.specs.Colour.{overOf, packOf}
 use Rattle.commands.specs.Numbers.{startOf}
 use Rattle.commands.specs.Moves.{Trace, traceOf, endOf}

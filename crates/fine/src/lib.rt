@@ -2,8 +2,6 @@
 // and colour" and refusals 1, 2, 13 to 16; fine_main of fine.rs, lines 112 to 182.
 pub mod screen;
 
-use coverage::tile::TILE_HEIGHT;
-use coverage::tile::TILE_WIDTH;
 use panel::kinds::Answer;
 use panel::kinds::Verdict;
 use panel::limits::MOST_TILES;
@@ -12,6 +10,8 @@ use panel::refusals::NOT_WHOLE;
 use panel::refusals::TOO_MANY;
 use panel::widths::SEGMENT_FLOATS;
 use screen::tiles;
+use sides::TILE_HEIGHT;
+use sides::TILE_WIDTH;
 ghost use mathlib.Core.Path.{_≡_};
 ghost use Rattle.panel.specs.Checks.{firstNo};
 ghost use Rattle.fine.specs.Fine.{fineChecks, FineMet};

@@ -24,7 +24,7 @@ use Rattle.panel.specs.Slots.{not32}
 use Rattle.panel.specs.declared.kinds.Answer.the-variants.{Done}
 use Rattle.panel.specs.declared.kinds.Verdict.{Verdict}
 use Rattle.panel.specs.declared.kinds.Verdict.the-variants.{Fine, Against}
-use Rattle.coverage.specs.Tile.{tileWidth, tileSize}
+use Rattle.sides.specs.Tile.{tileWidth, tileSize}
 use Rattle.coverage.specs.Coverage.{areaAfter, finishOf, sumOf, pixelOf}
 use Rattle.colours.specs.Colour.{channelOf, colourOf, overOf, byteOf, packOf}
 use Rattle.commands.specs.Numbers.{endNo, tileWords}

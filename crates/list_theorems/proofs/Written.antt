@@ -21,7 +21,7 @@ use Rattle.panel.proofs.CheckLaws.{none-fails}
 use Rattle.panel.proofs.HeldLaws.{is-straight}
 use Rattle.coverage.proofs.Crooked.{all-straight}
 use Rattle.panel.proofs.KindLaws.{paper-once}
-use Rattle.coverage.specs.Tile.{tileWidth, tileHeight}
+use Rattle.sides.specs.Tile.{tileWidth, tileHeight}
 use Rattle.commands.specs.Numbers.{tileWords, startOf}
 use Rattle.commands.specs.Moves.{Trace, endOf}
 use Rattle.commands.specs.Pixel.{point, pointOf}

@@ -13,7 +13,7 @@ use Rattle.lists.specs.Run.{actAll}
 use Rattle.lists.specs.Sums.{from}
 use Rattle.panel.specs.Paths.{pathAt, pathCount, tileOf}
 use Rattle.panel.specs.Slots.{not32}
-use Rattle.coverage.specs.Tile.{tileWidth, tileHeight}
+use Rattle.sides.specs.Tile.{tileWidth, tileHeight}
 use Rattle.coverage.specs.Coverage.{pixelOf}
 use Rattle.colours.specs.Colour.{colourOf, overOf, packOf}
 use Rattle.commands.specs.Pixel.{evenOddOf}

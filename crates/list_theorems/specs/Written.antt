@@ -12,7 +12,7 @@ use Rattle.panel.specs.Segments.{segmentAt, Straight}
 use Rattle.panel.specs.declared.kinds.Answer.the-variants.{Done}
 use Rattle.panel.specs.declared.kinds.Verdict.the-variants.{Fine}
 use Rattle.panel.specs.Signed.{inI32}
-use Rattle.coverage.specs.Tile.{tileWidth, tileHeight}
+use Rattle.sides.specs.Tile.{tileWidth, tileHeight}
 use Rattle.fine.specs.Screen.{tileTrace, endsAt}
 use Rattle.fine.specs.Fine.{shown, fineOf}
 use Rattle.write_lists.specs.Pairs.{Tables, tilePairs}

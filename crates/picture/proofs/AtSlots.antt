@@ -14,7 +14,7 @@ use Rattle.lists.specs.Run.{actAll}
 use Rattle.panel.specs.Segments.{segmentAt}
 use Rattle.panel.specs.Slots.{not32}
 use Rattle.panel.specs.declared.segments.Segment.{Segment}
-use Rattle.coverage.specs.Row.{stepSegment}
+use Rattle.one_row.specs.Row.{stepSegment}
 use Rattle.coverage.specs.Coverage.{areaAfter, finishOf, sumOf, pixelOf}
 use Rattle.colours.specs.Colour.{colourOf, overOf}
 use Rattle.commands.specs.Pixel.{evenOddOf}

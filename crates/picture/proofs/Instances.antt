@@ -14,7 +14,7 @@ use Rattle.panel.specs.Paths.{boxed, stamped, pathAt, pathCount}
 use Rattle.panel.specs.Pieces.{Pieces, pieces}
 use Rattle.panel.specs.Kinds.{runningOf}
 use Rattle.util.specs.declared.Vec2.{Vec2}
-use Rattle.coverage.specs.Row.{wayOf, rowOf, reachOf, addedOf, slanted, edged, stepRow, stepWay, stepSegment}
+use Rattle.one_row.specs.Row.{wayOf, rowOf, reachOf, addedOf, slanted, edged, stepRow, stepWay, stepSegment}
 use Rattle.frame.specs.Frame.{outOf, placedOf, drawnOf, checksOf as frameChecks, frameOf}
 use Rattle.frame.specs.declared.kinds.Framed.the-variants.{Done}
 use Rattle.backdrop.specs.Backdrop.{rowSums, rowFits, rowsSums, rowsFit, sumPaths, backdropOf}

@@ -26,7 +26,7 @@ use Rattle.clip.specs.Page.{clippedOf}
 use Rattle.segment.specs.Clips.{pieceOf}
 use Rattle.segment.specs.declared.Piece.{Piece}
 use Rattle.segment.specs.declared.Piece.the-variants.{Kept, Crooked}
-use Rattle.coverage.specs.Row.{stepSegment}
+use Rattle.one_row.specs.Row.{stepSegment}
 use Rattle.coverage.specs.Coverage.{finishOf}
 use Rattle.colours.specs.Colour.{colourOf, overOf}
 use Rattle.commands.specs.Pixel.{evenOddOf}

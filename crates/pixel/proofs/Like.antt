@@ -19,7 +19,7 @@ use Rattle.panel.proofs.CheckLaws.{all-ok, none-fails}
 use Rattle.panel.specs.declared.kinds.Answer.the-variants.{Done}
 use Rattle.panel.specs.declared.kinds.Verdict.{Verdict}
 use Rattle.panel.specs.declared.kinds.Verdict.the-variants.{Fine, Against}
-use Rattle.coverage.specs.Tile.{tileWidth, tileHeight, tileSize}
+use Rattle.sides.specs.Tile.{tileWidth, tileHeight, tileSize}
 use Rattle.coverage.specs.Coverage.{pixelOf, coverageOf}
 use Rattle.coverage.specs.Fill.{fillChecks, fillOf, ifFine as orOld}
 use Rattle.coverage.proofs.Bounds.{cover-at}

@@ -3,7 +3,7 @@ use mathlib.Core.Path.{_≡_}
 use Prim.Native.Nat.{ℕ, _/_, _%_, _<_}
 use native.Mathlib.Omega.{arith}
 use borrow.Author.Tests.{ltb-true}
-use Rattle.coverage.specs.Tile.{tileWidth, tileHeight, tileSize}
+use Rattle.sides.specs.Tile.{tileWidth, tileHeight, tileSize}
 use Rattle.panel.specs.Checks.{firstNo}
 use Rattle.panel.proofs.CheckLaws.{all-ok}
 use Rattle.panel.specs.declared.kinds.Verdict.the-variants.{Fine}

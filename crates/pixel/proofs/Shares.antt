@@ -11,12 +11,12 @@ use lib.Ieee.{Float, nan, binary32, add, ne, ofBits, eq}
 use borrow.Author.Count.{below-more}
 use Rattle.util.specs.Constants as Number
 use Rattle.panel.specs.Segments.{segmentAt}
-use Rattle.coverage.specs.Tile.{tileWidth}
-use Rattle.coverage.specs.Row.{wayOf, rowOf, reachOf, addedOf, slanted, edged, stepRow, stepWay, stepSegment}
+use Rattle.sides.specs.Tile.{tileWidth}
+use Rattle.one_row.specs.Row.{wayOf, rowOf, reachOf, addedOf, slanted, edged, stepRow, stepWay, stepSegment}
 use Rattle.coverage.specs.Coverage.{areaAfter}
 use Rattle.panel.specs.declared.segments.Segment.{Segment}
-use Rattle.coverage.specs.declared.row.Way.{Way}
-use Rattle.coverage.specs.declared.row.Row.{Row}
+use Rattle.one_row.specs.declared.Way.{Way}
+use Rattle.one_row.specs.declared.Row.{Row}
 use Rattle.pixel.specs.Place.{placeAt}
 use Rattle.pixel.specs.Shares.{lanes, shareOf, countsOf, sharedOf}
 use Rattle.pixel.proofs.Places.{row-again, column-again}

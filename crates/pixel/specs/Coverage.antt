@@ -7,7 +7,7 @@ use Prim.Native.Nat.{ℕ}
 use lib.IntN.{ℤ}
 use lib.Ieee.{Float}
 use Rattle.panel.specs.Checks.{firstNo}
-use Rattle.coverage.specs.Tile.{tileSize}
+use Rattle.sides.specs.Tile.{tileSize}
 use Rattle.coverage.specs.Coverage.{pixelOf}
 use Rattle.coverage.specs.Fill.{fillChecks}
 use Rattle.pixel.specs.Place.{placeAt, placeChecks}

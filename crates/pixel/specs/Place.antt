@@ -4,7 +4,7 @@ use Prim.Native.Nat.{ℕ, _+_}
 use lib.Dec.{ltb}
 use Rattle.panel.specs.Checks.{Check, check}
 use Rattle.panel.specs.Refusals.{offTile}
-use Rattle.coverage.specs.Tile.{tileWidth, tileHeight, rowStart}
+use Rattle.sides.specs.Tile.{tileWidth, tileHeight, rowStart}
 
 -- the number, among a tile's pixels, of the one in this column and row
 abbrev pub placeAt : ℕ → ℕ → ℕ

@@ -3,9 +3,9 @@ use mathlib.Core.Bool.{cond}
 use Prim.Native.Nat.{ℕ}
 use lib.Ieee.{Float, binary32, add, ne}
 use Rattle.util.specs.Constants.{zero, one}
-use Rattle.coverage.specs.Row.{reachOf, addedOf}
-use Rattle.coverage.specs.declared.row.Way.{Way}
-use Rattle.coverage.specs.declared.row.Row.{Row}
+use Rattle.one_row.specs.Row.{reachOf, addedOf}
+use Rattle.one_row.specs.declared.Way.{Way}
+use Rattle.one_row.specs.declared.Row.{Row}
 
 -- so many segments are taken at once
 abbrev pub lanes : ℕ

@@ -1,18 +1,18 @@
 // The area of one pixel, four segments at a time: what each adds is found first, with no branch between
 // them, so that the processor finds all four at once; then they are summed in order.
-use coverage::row::Row;
-use coverage::row::Way;
-use coverage::row::added;
-use coverage::row::reach_of;
-use coverage::row::row_of;
-use coverage::row::way_of;
 use float32::pick;
+use one_row::Row;
+use one_row::Way;
+use one_row::added;
+use one_row::reach_of;
+use one_row::row_of;
+use one_row::way_of;
 use panel::segments::segment_at;
 ghost use mathlib.Core.Path.{_≡_};
 ghost use Prim.Native.Nat.{_+_, _*_, _≤_, _<_};
 ghost use lib.ListN.{length};
 ghost use Rattle.panel.specs.Widths.{segmentFloats};
-ghost use Rattle.coverage.specs.Tile.{tileWidth, tileHeight};
+ghost use Rattle.sides.specs.Tile.{tileWidth, tileHeight};
 ghost use Rattle.coverage.specs.Coverage.{areaAfter};
 ghost use Rattle.pixel.specs.Place.{placeAt};
 ghost use Rattle.pixel.specs.Shares.{lanes, shareOf, countsOf, sharedOf};

@@ -21,7 +21,7 @@ use reader::peek_from;
 ghost use mathlib.Core.Path.{_≡_};
 ghost use Prim.Native.Nat.{_+_, _*_, _<_, _^_};
 ghost use lib.ListN.{length};
-ghost use Rattle.coverage.specs.Tile.{tileWidth, tileHeight};
+ghost use Rattle.sides.specs.Tile.{tileWidth, tileHeight};
 ghost use Rattle.colours.specs.Colour.{packOf};
 ghost use Rattle.commands.specs.Pixel.{Within};
 ghost use Rattle.pixel.specs.Place.{placeAt};

@@ -3,19 +3,19 @@
 use crate::lanes::LANES;
 use crate::lanes::fours_after;
 use coverage::area::finish;
-use coverage::row::added;
-use coverage::row::reach_of;
-use coverage::row::row_of;
-use coverage::row::way_of;
 use float32::of_i32;
+use one_row::added;
+use one_row::reach_of;
+use one_row::row_of;
+use one_row::way_of;
 use panel::segments::Segment;
 use panel::segments::segment_at;
 ghost use mathlib.Core.Path.{_≡_};
 ghost use Prim.Native.Nat.{_+_, _*_, _≤_, _<_};
 ghost use lib.ListN.{length};
 ghost use Rattle.panel.specs.Widths.{segmentFloats};
-ghost use Rattle.coverage.specs.Tile.{tileWidth, tileHeight};
-ghost use Rattle.coverage.specs.Row.{stepSegment};
+ghost use Rattle.sides.specs.Tile.{tileWidth, tileHeight};
+ghost use Rattle.one_row.specs.Row.{stepSegment};
 ghost use Rattle.coverage.specs.Coverage.{areaAfter, pixelOf};
 ghost use Rattle.pixel.specs.Place.{placeAt};
 

@@ -25,9 +25,9 @@ use Rattle.panel.specs.declared.kinds.Answer.the-variants.{Done}
 use Rattle.panel.specs.declared.kinds.Verdict.{Verdict}
 use Rattle.panel.specs.declared.kinds.Verdict.the-variants.{Fine, Against}
 use Rattle.exact.proofs.Bounds.{small-finite}
-use Rattle.coverage.specs.Tile.{tileWidth, tileHeight, tileSize}
+use Rattle.sides.specs.Tile.{tileWidth, tileHeight, tileSize}
 use Rattle.coverage.specs.Ground.{straightFrom, groundOf}
-use Rattle.coverage.specs.Row.{wayOf, rowOf, reachOf, addedOf, slanted, edged, stepRow, stepWay, stepSegment}
+use Rattle.one_row.specs.Row.{wayOf, rowOf, reachOf, addedOf, slanted, edged, stepRow, stepWay, stepSegment}
 use Rattle.coverage.specs.Coverage.{areaAfter, finishOf, sumOf, pixelOf, coverageOf}
 use Rattle.coverage.specs.Fill.{fillOf, fillChecks, ifFine}
 use Rattle.coverage.proofs.Bounds.{InUnit, even-odd-pixel, cover-at}

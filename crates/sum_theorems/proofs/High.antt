@@ -27,8 +27,8 @@ use Rattle.errors.specs.Sizes.{parts, Plus}
 use Rattle.errors.proofs.Sizes.{add-small, sub-small}
 use Rattle.errors.proofs.Signs.{sub-plus}
 use Rattle.errors.proofs.Parts.{parts-pos}
-use Rattle.coverage.specs.Tile.{tileWidth, tileHeight}
-use Rattle.coverage.specs.Row.{wayOf, rowOf, reachOf, addedOf}
+use Rattle.sides.specs.Tile.{tileWidth, tileHeight}
+use Rattle.one_row.specs.Row.{wayOf, rowOf, reachOf, addedOf}
 use Rattle.sum_theorems.specs.Sums.{Tame, leastHeight, High}
 use Rattle.rounded.specs.Share.{shareOf}
 use Rattle.rounded.proofs.Rises.{Gap, sum-rd, rd-order, nought}

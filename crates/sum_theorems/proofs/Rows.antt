@@ -28,10 +28,10 @@ use Rattle.exact.proofs.Bounds.{small-finite, finite-number, small-of-le, small
 use Rattle.errors.specs.Sizes.{parts}
 use Rattle.errors.proofs.Sizes.{add-small, sub-small}
 use Rattle.errors.proofs.Parts.{parts-pos}
-use Rattle.coverage.specs.Tile.{tileWidth, tileHeight}
-use Rattle.coverage.specs.Row.{wayOf, rowOf, reachOf, addedOf}
-use Rattle.coverage.specs.declared.row.Way.{Way}
-use Rattle.coverage.specs.declared.row.Row.{Row}
+use Rattle.sides.specs.Tile.{tileWidth, tileHeight}
+use Rattle.one_row.specs.Row.{wayOf, rowOf, reachOf, addedOf}
+use Rattle.one_row.specs.declared.Way.{Way}
+use Rattle.one_row.specs.declared.Row.{Row}
 use Rattle.sum_theorems.specs.Sums.{Tame}
 use Rattle.rounded.specs.Share.{lowOf, heldOf, shareOf}
 use Rattle.rounded.proofs.Numbers.{add-number, less-number}

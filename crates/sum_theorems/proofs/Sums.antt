@@ -19,12 +19,12 @@ use Rattle.panel.proofs.CheckLaws.{all-ok}
 use Rattle.panel.specs.declared.kinds.Verdict.the-variants.{Fine}
 use Rattle.exact.specs.Whole.{Small}
 use Rattle.exact.proofs.Bounds.{small-more}
-use Rattle.coverage.specs.Tile.{tileWidth, tileHeight}
+use Rattle.sides.specs.Tile.{tileWidth, tileHeight}
 use Rattle.coverage.specs.Ground.{straightFrom, groundChecks, groundOf}
-use Rattle.coverage.specs.Row.{wayOf, rowOf, reachOf, addedOf, slanted, edged, stepRow, stepWay, stepSegment}
+use Rattle.one_row.specs.Row.{wayOf, rowOf, reachOf, addedOf, slanted, edged, stepRow, stepWay, stepSegment}
 use Rattle.coverage.specs.Coverage.{areaAfter, sumOf}
-use Rattle.coverage.specs.declared.row.Way.{Way}
-use Rattle.coverage.specs.declared.row.Row.{Row}
+use Rattle.one_row.specs.declared.Way.{Way}
+use Rattle.one_row.specs.declared.Row.{Row}
 use Rattle.coverage.proofs.Crooked.{each-straight}
 use Rattle.sum_theorems.specs.Sums.{Tame}
 use Rattle.sum_theorems.proofs.Tame.{sumMost, still, step-small, step-tame}

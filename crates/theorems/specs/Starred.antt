@@ -21,7 +21,7 @@ use Rattle.hand_out.specs.HandOut as HandOut
 use Rattle.hand_out.specs.HandOut.{Out, handOutOf}
 use Rattle.path_tiling.specs.Look.{lent}
 use Rattle.path_tiling.specs.Tiling.{Tiled, tiled, tiledOf}
-use Rattle.coverage.specs.Tile.{tileWidth, tileSize}
+use Rattle.sides.specs.Tile.{tileWidth, tileSize}
 use Rattle.coverage.specs.Coverage.{pixelOf}
 use Rattle.colours.specs.Colour.{byteOf}
 use Rattle.commands.specs.Numbers.{endNo, encode}

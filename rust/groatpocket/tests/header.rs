@@ -77,7 +77,7 @@ fn limits() {
 
 #[test]
 fn the_tile() {
-    let code = numbers(&text("crates/coverage/src/tile.rt"), "pub const ", ": usize = ");
+    let code = numbers(&text("crates/sides/src/lib.rt"), "pub const ", ": usize = ");
     let side = TILE_SIDE as u32;
     assert_eq!((header()["TILE"], code["TILE_WIDTH"], code["TILE_HEIGHT"]), (side, side, side));
     assert_eq!(code["TILE_SIZE"] as usize, TILE_PIXELS);

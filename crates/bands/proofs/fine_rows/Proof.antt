@@ -15,7 +15,7 @@ use Rattle.panel.specs.declared.kinds.Answer.{Answer}
 use Rattle.panel.specs.declared.kinds.Answer.the-variants.{Refused}
 use Rattle.panel.specs.declared.kinds.Verdict.{Verdict}
 use Rattle.panel.specs.declared.kinds.Verdict.the-variants.{Fine, Against}
-use Rattle.coverage.specs.Tile.{tileWidth, tileHeight}
+use Rattle.sides.specs.Tile.{tileWidth, tileHeight}
 use Rattle.fine.specs.Fine.{shown, shownOf}
 use Rattle.bands.specs.Bands.{bandChecks, bandTiles, bandOf}
 use Rattle.bands.proofs.BandLaws.{tiles-fit}

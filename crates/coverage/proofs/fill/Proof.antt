@@ -16,7 +16,7 @@ use Rattle.panel.proofs.CheckLaws.{all-ok, none-fails}
 use Rattle.panel.specs.declared.kinds.Answer.the-variants.{Done, Refused}
 use Rattle.panel.specs.declared.kinds.Verdict.{Verdict}
 use Rattle.panel.specs.declared.kinds.Verdict.the-variants.{Fine, Against}
-use Rattle.coverage.specs.Tile.{tileSize}
+use Rattle.sides.specs.Tile.{tileSize}
 use Rattle.coverage.specs.Coverage.{coverageOf}
 use Rattle.coverage.specs.Ground.{groundChecks}
 use Rattle.coverage.specs.Fill.{fillChecks, filled, fillOf}

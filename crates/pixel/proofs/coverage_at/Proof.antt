@@ -14,7 +14,7 @@ use Rattle.panel.specs.Checks.{firstNo}
 use Rattle.panel.proofs.CheckLaws.{all-ok, none-fails}
 use Rattle.panel.specs.declared.kinds.Verdict.{Verdict}
 use Rattle.panel.specs.declared.kinds.Verdict.the-variants.{Fine, Against}
-use Rattle.coverage.specs.Tile.{tileWidth, tileHeight, tileSize}
+use Rattle.sides.specs.Tile.{tileWidth, tileHeight, tileSize}
 use Rattle.coverage.specs.Coverage.{pixelOf}
 use Rattle.coverage.specs.Ground.{groundChecks}
 use Rattle.coverage.specs.Fill.{fillChecks}

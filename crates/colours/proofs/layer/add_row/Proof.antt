@@ -1,7 +1,7 @@
 -- `colours::layer::add_row` meets its contract. Assumes nothing.
 use Prim.Native.Nat.{_+_}
 use native.Mathlib.Omega.{arith}
-use Rattle.coverage.specs.Tile.{tileWidth}
+use Rattle.sides.specs.Tile.{tileWidth}
 use Rattle.colours.specs.Layer.{mixed}
 use Rattle.colours.proofs.LayerLaws.{four-on}
 use borrow.Author.Needs.{needs}

@@ -6,7 +6,7 @@ use Prim.Native.Nat.{_-_, _≤_}
 use native.Mathlib.Omega.{arith}
 use denote.Ref.{now}
 use borrow.Author.Needs.{needs}
-use Rattle.coverage.specs.Tile.{tileHeight, tileSize, rowStart}
+use Rattle.sides.specs.Tile.{tileHeight, tileSize, rowStart}
 use Rattle.ranges.proofs.Turn.{Done, begun, ended}
 use Rattle.colours.specs.Colour.{compositeOf}
 use Rattle.colours.specs.Layer.{each, meant}

@@ -2,7 +2,7 @@
 use Prim.Native.Nat.{_+_}
 use native.Mathlib.Omega.{arith}
 use denote.Ref.{now}
-use Rattle.coverage.specs.Tile.{tileWidth}
+use Rattle.sides.specs.Tile.{tileWidth}
 use Rattle.colours.specs.Layer.{onto}
 use Rattle.colours.proofs.LayerLaws.{four-on}
 use borrow.Author.Needs.{needs}

@@ -1,6 +1,6 @@
 -- `colours::layer::over_level` meets its contract: a row that stays flat, and one that isn't. Assumes nothing.
 use denote.Ref.{now}
-use Rattle.coverage.specs.Tile.{rowStart}
+use Rattle.sides.specs.Tile.{rowStart}
 use Rattle.colours.specs.Layer.{mixed, each}
 use Rattle.colours.proofs.LayerLaws.{painted, at-level}
 use Rattle.colours.proofs.FlatLaws.{stays-flat, not-flat, changed-length}

@@ -7,7 +7,7 @@ use denote.Ref.{now}
 use lib.Ieee.{Float}
 use Rattle.panel.specs.Limits.{mostCommands}
 use Rattle.panel.specs.declared.kinds.Verdict.{Verdict}
-use Rattle.coverage.specs.Tile.{tileSize}
+use Rattle.sides.specs.Tile.{tileSize}
 use Rattle.commands.specs.Moves.{Trace, ends, does, traceOf}
 use Rattle.commands.specs.Pixel.{coverAll, paintAll, Ran, ran}
 use Rattle.commands.specs.Alike.{left}

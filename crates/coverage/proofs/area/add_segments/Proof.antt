@@ -9,10 +9,10 @@ use lib.Ieee.{Float, nan}
 use Rattle.lists.specs.Grid.{mapi}
 use Rattle.lists.specs.GridLaws.{mapi-mapi, mapi-is, length-mapi}
 use Rattle.panel.specs.Segments.{segmentAt}
-use Rattle.coverage.specs.Row.{wayOf, stepWay, stepSegment}
+use Rattle.one_row.specs.Row.{wayOf, stepWay, stepSegment}
 use Rattle.coverage.specs.Coverage.{areaAfter}
 use Rattle.panel.specs.declared.segments.Segment.{Segment}
-use Rattle.coverage.specs.declared.row.Way.{Way}
+use Rattle.one_row.specs.declared.Way.{Way}
 use native.Mathlib.Omega.{arith}
 use borrow.Author.Needs.{needs}
 use Rattle.coverage.proofs.area.add_segments.Statement.{statement}

@@ -11,7 +11,7 @@ use denote.Ref.{now}
 use lib.Ieee.{Float, binary32, ofInt}
 use Rattle.lists.specs.Grid.{mapi, tabulate}
 use Rattle.lists.specs.GridLaws.{mapi-mapi}
-use Rattle.coverage.specs.Tile.{tileSize}
+use Rattle.sides.specs.Tile.{tileSize}
 use Rattle.coverage.specs.Coverage.{areaAfter, finishOf, sumOf, pixelOf, coverageOf}
 use Rattle.coverage.proofs.Laws.{mapi-over}
 use borrow.Author.Needs.{needs}

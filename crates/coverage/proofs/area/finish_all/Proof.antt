@@ -1,7 +1,7 @@
 -- `coverage::area::finish_all` meets its contract. The invariant: the pixels below i are done. Assumes nothing.
 use Prim.Native.Nat.{_-_, _≤_}
 use lib.Ieee.{nan}
-use Rattle.coverage.specs.Tile.{tileSize}
+use Rattle.sides.specs.Tile.{tileSize}
 use Rattle.coverage.specs.Coverage.{finishOf}
 use Rattle.ranges.proofs.Turn.{Done, begun, turned, ended}
 use native.Mathlib.Omega.{arith}

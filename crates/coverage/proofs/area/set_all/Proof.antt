@@ -2,7 +2,7 @@
 use mathlib.Core.Path.{refl}
 use Prim.Native.Nat.{_-_, _≤_}
 use lib.Ieee.{nan}
-use Rattle.coverage.specs.Tile.{tileSize}
+use Rattle.sides.specs.Tile.{tileSize}
 use Rattle.ranges.proofs.Turn.{Done, begun, turned, ended}
 use native.Mathlib.Omega.{arith}
 use borrow.Author.Needs.{needs}

@@ -3,7 +3,7 @@ use Prim.Native.Nat.{ℕ, _*_, _/_, _^_, _≤_, _<_}
 use native.Mathlib.Nat.{mul-le-mul, mul-left-comm}
 use native.Mathlib.Omega.{arith}
 use borrow.Author.Tests.{eq-eqb, ne-eqb, le-leb, lt-leb}
-use Rattle.coverage.specs.Tile.{tileHeight}
+use Rattle.sides.specs.Tile.{tileHeight}
 use borrow.Author.Needs.{needs}
 use Rattle.draw.proofs.checks.check_page.Statement.{statement}
 use Rattle.draw.proofs.checks.check_page.Tie as tie

@@ -2,7 +2,7 @@
 use mathlib.Core.Path.{_≡_, refl}
 use Prim.Native.Nat.{ℕ, _*_, _-_, _+_, _≤_, _<_}
 use denote.Ref.{now}
-use Rattle.coverage.specs.Tile.{tileWidth, tileHeight}
+use Rattle.sides.specs.Tile.{tileWidth, tileHeight}
 use Rattle.ranges.proofs.Turn.{Done, begun-at, turned-at, ended-at}
 use Rattle.fine.specs.Screen.{rowAt, oneWord}
 use native.Mathlib.Omega.{arith}

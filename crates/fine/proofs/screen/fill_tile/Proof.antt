@@ -4,7 +4,7 @@ use Prim.Native.Nat.{ℕ, _*_, _-_, _+_, _≤_}
 use lib.ListN.{length}
 use denote.Ref.{now}
 use Rattle.lists.specs.Grid.{mapi}
-use Rattle.coverage.specs.Tile.{tileHeight}
+use Rattle.sides.specs.Tile.{tileHeight}
 use Rattle.fine.specs.Screen.{oneWord}
 use Rattle.fine.proofs.Places.{rows, row-room, no-rows, row-more, all-rows}
 use native.Mathlib.Omega.{arith}

@@ -5,7 +5,7 @@ use Prim.Native.Nat.{_-_, _+_, _≤_}
 use lib.ListN.{getD}
 use denote.Ref.{now}
 use lib.Ieee.{Float, nan}
-use Rattle.coverage.specs.Tile.{tileWidth}
+use Rattle.sides.specs.Tile.{tileWidth}
 use Rattle.ranges.proofs.Turn.{Done, begun-at, ended-at}
 use Rattle.colours.specs.Colour.{overOf, packOf}
 use Rattle.fine.specs.Screen.{fromEach}

@@ -5,7 +5,7 @@ use Prim.Native.Nat.{ℕ, _*_, _-_, _+_, _≤_, _<_}
 use lib.ListN.{getD, set}
 use denote.Ref.{now}
 use lib.Ieee.{Float}
-use Rattle.coverage.specs.Tile.{tileWidth, tileHeight}
+use Rattle.sides.specs.Tile.{tileWidth, tileHeight}
 use Rattle.ranges.proofs.Turn.{Done, begun-at, turned-at, ended-at}
 use Rattle.colours.specs.Colour.{packOf}
 use Rattle.fine.specs.Screen.{rowAt, fromList}

@@ -4,7 +4,7 @@ use Prim.Native.Nat.{ℕ, _*_, _-_, _+_, _≤_}
 use lib.ListN.{length}
 use denote.Ref.{now}
 use Rattle.lists.specs.Grid.{mapi}
-use Rattle.coverage.specs.Tile.{tileHeight}
+use Rattle.sides.specs.Tile.{tileHeight}
 use Rattle.colours.specs.Layer.{meant}
 use Rattle.fine.specs.Screen.{fromList}
 use Rattle.fine.proofs.Places.{rows, row-room, no-rows, row-more, all-rows}

@@ -4,7 +4,7 @@ use Prim.Native.Nat.{_-_, _≤_}
 use native.Mathlib.Omega.{arith}
 use denote.Ref.{now}
 use lib.ListN.{length, length-set}
-use Rattle.coverage.specs.Tile.{tileHeight, tileSize}
+use Rattle.sides.specs.Tile.{tileHeight, tileSize}
 use Rattle.fine.proofs.Flats.{Started, none-started, one-started, all-started}
 use borrow.Author.Needs.{needs}
 use Rattle.fine.proofs.screen.start_rows.Statement.{statement}

@@ -11,7 +11,7 @@ use Rattle.lists.specs.Grid.{tabulate}
 use Rattle.lists.specs.GridLaws.{mapi-replicate, getD-tabulate}
 use Rattle.panel.specs.declared.kinds.Verdict.{Verdict}
 use Rattle.panel.specs.declared.kinds.Verdict.the-variants.{Fine, Against}
-use Rattle.coverage.specs.Tile.{tileWidth, tileHeight, tileSize}
+use Rattle.sides.specs.Tile.{tileWidth, tileHeight, tileSize}
 use Rattle.colours.specs.Colour.{compositeOf, packOf}
 use Rattle.colours.specs.Layer.{meant}
 use Rattle.commands.specs.Numbers.{startOf}

@@ -9,7 +9,7 @@ use Rattle.lists.specs.Run as Walk
 use Rattle.panel.specs.declared.kinds.Answer.the-variants.{Done, Refused}
 use Rattle.panel.specs.declared.kinds.Verdict.{Verdict}
 use Rattle.panel.specs.declared.kinds.Verdict.the-variants.{Fine, Against}
-use Rattle.coverage.specs.Tile.{tileHeight, tileSize}
+use Rattle.sides.specs.Tile.{tileHeight, tileSize}
 use Rattle.fine.specs.Screen.{endsAt, ifFine, putTile, packed, colourAt, tilePixels}
 use Rattle.fine.specs.Fine.{shown, shownOf, tilesOf}
 use Rattle.fine.proofs.Flats.{no-colour-length}

@@ -6,7 +6,7 @@ use native.Mathlib.Numerals.{add-one}
 use denote.Ref.{now}
 use lib.Ieee.{Float}
 use Rattle.panel.specs.Segments.{segmentAt}
-use Rattle.coverage.specs.Row.{stepSegment}
+use Rattle.one_row.specs.Row.{stepSegment}
 use Rattle.coverage.specs.Coverage.{areaAfter}
 use Rattle.panel.specs.declared.segments.Segment.{Segment}
 use Rattle.pixel.specs.Place.{placeAt}

@@ -4,12 +4,12 @@ use mathlib.Core.Bool.{true, false}
 use Prim.Native.Nat.{ℕ, _<_}
 use lib.Ieee.{Float, binary32, add, ne}
 use Rattle.util.specs.Constants.{zero}
-use Rattle.coverage.specs.Tile.{tileWidth}
-use Rattle.coverage.specs.Row.{wayOf, rowOf, reachOf, addedOf, slanted, edged, stepRow, stepWay, stepSegment}
+use Rattle.sides.specs.Tile.{tileWidth}
+use Rattle.one_row.specs.Row.{wayOf, rowOf, reachOf, addedOf, slanted, edged, stepRow, stepWay, stepSegment}
 use Rattle.panel.specs.declared.segments.Segment.{Segment}
-use Rattle.coverage.specs.declared.row.Way.{Way}
-use Rattle.coverage.specs.declared.row.Row.{Row}
-use Rattle.coverage.specs.declared.row.Reach.{Reach}
+use Rattle.one_row.specs.declared.Way.{Way}
+use Rattle.one_row.specs.declared.Row.{Row}
+use Rattle.one_row.specs.declared.Reach.{Reach}
 use Rattle.pixel.specs.Place.{placeAt}
 use Rattle.pixel.proofs.Places.{row-again, column-again}
 use borrow.Author.Needs.{needs}

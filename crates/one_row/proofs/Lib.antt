@@ -1,0 +1,2 @@
+-- What holds of one segment in one row. Assumes nothing.
+pub mod Vertical

@@ -1,0 +1,2 @@
+-- The arms of one row. Assumes nothing.
+pub mod Arms

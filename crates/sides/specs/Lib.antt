@@ -1,0 +1,2 @@
+-- A tile's sides in pixels. Definitions only.
+pub mod Tile
