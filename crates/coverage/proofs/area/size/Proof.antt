@@ -1,4 +1,4 @@
--- `coverage::area::size` meets its contract: of a number and 0 less it the larger is its size (`Sizes.antt`). Assumes nothing.
+-- `coverage::area::size` meets its contract: of a number and 0 less it the larger is its size (`rounded`, Larger). Assumes nothing.
 use mathlib.Core.Path.{_∙_}
 use Rattle.float32.proofs.Tests.{yes}
 use Rattle.rounded.proofs.Larger.{larger-is}
