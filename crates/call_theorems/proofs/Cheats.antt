@@ -23,7 +23,7 @@ use Rattle.path_count.specs.declared.kinds.Counted.{Counted}
 use Rattle.path_count.specs.declared.kinds.Counted.the-variants as Counted
 use Rattle.backdrop.specs.Backdrop.{rowSums, rowFits, rowsSums, rowsFit, sumPaths, backdropOf, BackdropMet}
 use Rattle.hand_out.specs.HandOut.{HandMet}
-use Rattle.path_tiling.specs.Look.{lent}
+use Rattle.looks.specs.Look.{lent}
 use Rattle.path_tiling.specs.Tiling.{TileMet}
 use Rattle.sides.specs.Tile.{tileWidth, tileSize}
 use Rattle.coverage.specs.Coverage.{coverageOf}

@@ -14,7 +14,7 @@ use Rattle.panel.specs.Segments.{segmentAt, Straight}
 use Rattle.panel.specs.Widths.{segmentFloats}
 use Rattle.panel.specs.declared.kinds.Answer.the-variants.{Done}
 use Rattle.hand_out.specs.HandOut.{outOf, handOutOf}
-use Rattle.path_tiling.specs.Look.{lent}
+use Rattle.looks.specs.Look.{lent}
 use Rattle.path_tiling.specs.Tiling.{applied, callOf}
 use Rattle.path_tiling.proofs.WriteLaws.{length-applied}
 use Rattle.write_lists.specs.Pairs.{tables}

@@ -31,7 +31,7 @@ use Rattle.path_count.specs.declared.kinds.Counted.the-variants as Counted
 use Rattle.backdrop.specs.Backdrop as Backdrop
 use Rattle.hand_out.specs.HandOut as HandOut
 use Rattle.hand_out.specs.HandOut.{hand}
-use Rattle.path_tiling.specs.Look.{lent}
+use Rattle.looks.specs.Look.{lent}
 use Rattle.path_tiling.specs.Tiling.{Tiled, slotsOf, tiled, tiledOf}
 use Rattle.frame.specs.Frame.{outOf, answerOn, goOn, placedOf, drawnOf, checksOf, frameOf, FrameMet}
 use Rattle.frame.specs.declared.kinds.Stage.the-variants as Stage

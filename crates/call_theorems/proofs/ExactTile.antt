@@ -14,10 +14,10 @@ use Rattle.panel.specs.Refusals.{notWhole}
 use Rattle.panel.specs.Paths.{pathsAnswer}
 use Rattle.panel.specs.declared.kinds.Answer.{Answer}
 use Rattle.panel.specs.declared.kinds.Answer.the-variants.{Done, Refused}
-use Rattle.path_tiling.specs.Look.{Lent, lookOf}
+use Rattle.looks.specs.Look.{Lent, lookOf}
 use Rattle.path_tiling.specs.Tiling.{Range, range, lookThen, rangeOf, slotsOf, applied, tiled, rangeTiled, tiledOf, TileMet}
-use Rattle.path_tiling.specs.declared.look.Look as Lk
-use Rattle.path_tiling.specs.declared.look.Look.the-variants.{Put, Empty, Against}
+use Rattle.looks.specs.declared.Look as Lk
+use Rattle.looks.specs.declared.Look.the-variants.{Put, Empty, Against}
 use Rattle.path_tiling.proofs.CallLaws.{not-whole, bad-paths, called}
 use Rattle.theorems.specs.Refusing.{LookWhy, RangeWhy}
 use Rattle.theorems.proofs.OneAnswer.{one-tile}

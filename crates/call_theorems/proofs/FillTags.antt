@@ -23,7 +23,7 @@ use Rattle.panel.specs.declared.kinds.Answer.the-variants.{Done}
 use Rattle.panel.proofs.PathLaws.{own-tile}
 use Rattle.hand_out.specs.HandOut.{hand, handOutOf, outOf}
 use Rattle.hand_out.proofs.HandLaws.{reads-back}
-use Rattle.path_tiling.specs.Look.{lent}
+use Rattle.looks.specs.Look.{lent}
 use Rattle.path_tiling.specs.Tiling.{applied, callOf}
 use Rattle.frame.specs.Frame as Frame
 use Rattle.frame.specs.declared.kinds.Framed.the-variants as Framed

@@ -6,7 +6,7 @@ use Prim.Native.Nat.{ℕ}
 use lib.IntN.{ℤ}
 use lib.Ieee.{Float}
 use Rattle.panel.specs.Pieces.{Pieces}
-use Rattle.path_tiling.specs.Look.{Lent}
+use Rattle.looks.specs.Look.{Lent}
 use Rattle.write_lists.specs.Pairs.{Tables}
 use Rattle.ppm_write.specs.Write.{Left, WriteMet}
 use Rattle.ppm_write.specs.declared.Written.{Written}

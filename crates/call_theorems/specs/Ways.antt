@@ -29,7 +29,7 @@ use Rattle.path_count.specs.declared.kinds.Counted.{Counted}
 use Rattle.path_count.specs.declared.kinds.Counted.the-variants as Counted
 use Rattle.backdrop.specs.Backdrop as Backdrop
 use Rattle.hand_out.specs.HandOut.{hand}
-use Rattle.path_tiling.specs.Look.{Lent, lent}
+use Rattle.looks.specs.Look.{Lent, lent}
 use Rattle.path_tiling.specs.Tiling.{rangeOf, slotsOf, applied}
 use Rattle.path_tiling.specs.Tiling as Tiling
 use Rattle.frame.specs.Frame as Frame

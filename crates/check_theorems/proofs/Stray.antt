@@ -33,12 +33,12 @@ use Rattle.segment.specs.Clips.{pieceOf}
 use Rattle.segment.specs.declared.Piece.{Piece}
 use Rattle.segment.specs.declared.Piece.the-variants.{Kept, Crooked}
 use Rattle.entries.specs.Entries.{firstSlot}
-use Rattle.path_tiling.specs.Look.{Lent, lent, pieceTo, wordTo, stepTo, foundTo, foundOf, lookOf}
+use Rattle.looks.specs.Look.{Lent, lent, pieceTo, wordTo, stepTo, foundTo, foundOf, lookOf}
 use Rattle.path_tiling.specs.Tiling.{Write, Range, lookThen, rangeOf}
 use Rattle.path_tiling.specs.Tiling as Tiling
-use Rattle.path_tiling.specs.declared.look.Look.{Look}
-use Rattle.path_tiling.specs.declared.look.Look.the-variants.{Put, Empty, Against}
-use Rattle.path_tiling.proofs.PutLaws.{Good}
+use Rattle.looks.specs.declared.Look.{Look}
+use Rattle.looks.specs.declared.Look.the-variants.{Put, Empty, Against}
+use Rattle.looks.proofs.PutLaws.{Good}
 use Rattle.path_tiling.proofs.WriteLaws.{range-made, range-good}
 use Rattle.made.specs.Made.{madeOf}
 use Rattle.made.specs.declared.Made.{Made}

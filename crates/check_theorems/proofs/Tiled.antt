@@ -12,7 +12,7 @@ use Rattle.panel.specs.Pieces.{Pieces}
 use Rattle.panel.specs.Refusals.{notWhole}
 use Rattle.panel.specs.Paths.{pathsAnswer}
 use Rattle.panel.specs.declared.kinds.Answer.the-variants.{Done, Refused}
-use Rattle.path_tiling.specs.Look.{Lent, lent}
+use Rattle.looks.specs.Look.{Lent, lent}
 use Rattle.path_tiling.specs.Tiling.{range, rangeOf, slotsOf, checksOf, checkedThen, callOf}
 use Rattle.path_tiling.proofs.CallLaws as CallLaws
 use Rattle.tile_check.specs.Faults.{refCount}

@@ -23,7 +23,7 @@ use Rattle.path_count.specs.declared.kinds.Counted.{Counted}
 use Rattle.path_count.specs.declared.kinds.Counted.the-variants as Counted
 use Rattle.backdrop.specs.Backdrop as Backdrop
 use Rattle.hand_out.specs.HandOut as HandOut
-use Rattle.path_tiling.specs.Look.{lent}
+use Rattle.looks.specs.Look.{lent}
 use Rattle.path_tiling.specs.Tiling.{Tiled, tiled, slotsOf, tiledOf}
 use Rattle.frame.specs.Frame.{Out, outOf, answerOn, countedOn, placedOf, drawnOf, lentChecks, checksOf, frameOf}
 use Rattle.frame.specs.declared.kinds.Framed.the-variants.{Done, Refused}

@@ -11,7 +11,7 @@ use Rattle.fine.specs.Fine as Fine
 use Rattle.bands.specs.Bands as Bands
 use Rattle.backdrop.specs.Backdrop as Backdrop
 use Rattle.hand_out.specs.HandOut as HandOut
-use Rattle.path_tiling.specs.Look.{Lent}
+use Rattle.looks.specs.Look.{Lent}
 use Rattle.path_tiling.specs.Tiling as Tiling
 use Rattle.path_count.specs.Count as Count
 use Rattle.path_count.specs.declared.kinds.Counted.{Counted}

@@ -2,7 +2,7 @@
 use panel::kinds::item;
 use panel::kinds::number;
 ghost use Rattle.panel.specs.Pieces.{pieces};
-ghost use Rattle.path_tiling.specs.Look.{lent};
+ghost use Rattle.looks.specs.Look.{lent};
 ghost use Rattle.groatpocket.specs.Calls.{GpTileMet};
 
 #[no_mangle]

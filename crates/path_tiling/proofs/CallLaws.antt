@@ -16,7 +16,7 @@ use Rattle.panel.specs.Pieces.{Pieces}
 use Rattle.panel.specs.declared.kinds.Answer.{Answer}
 use Rattle.panel.specs.declared.kinds.Answer.the-variants.{Done, Refused}
 use Rattle.panel.proofs.BoolLaws.{both}
-use Rattle.path_tiling.specs.Look.{Lent}
+use Rattle.looks.specs.Look.{Lent}
 use Rattle.path_tiling.specs.Tiling.{Tiled, tiled, rangeTiled, rangeOf, slotsOf, wholeOf, checksOf, checkedThen, callOf, tiledOf, Ready}
 
 -- the lengths lent are whole records, and the range is one

@@ -6,11 +6,12 @@ use mathlib.Core.Path.{_≡_}
 use mathlib.Core.Bool.{Bool, true, false}
 use Rattle.panel.specs.Pieces.{Pieces}
 use Rattle.panel.specs.declared.kinds.Answer.the-variants.{Done}
-use Rattle.path_tiling.specs.Look.{Lent, lineAt, packedAt}
-use Rattle.path_tiling.specs.Runs.{Run, run, lineRun, NextMet}
-use Rattle.path_tiling.specs.One.{TookMet}
-use Rattle.path_tiling.proofs.RangeLaws.{look-is}
-use Rattle.path_tiling.proofs.OneLaws.{took-yes, took-no}
+use Rattle.looks.specs.Look.{Lent, lineAt, packedAt}
+use Rattle.line_runs.specs.Runs.{Run, run, lineRun}
+use Rattle.path_tiling.specs.Runs.{NextMet}
+use Rattle.short_lines.specs.Short.{TookMet}
+use Rattle.looks.proofs.FoundLaws.{look-is}
+use Rattle.short_lines.proofs.ShortLaws.{took-yes, took-no}
 use Rattle.path_tiling.proofs.RunLaws.{next-one, next-run}
 
 module _ (to : ℕ) (L : Lent) (slots : ℕ) (p : Pieces) (k line packed : ℕ) (v : Bool) (p′ : Pieces) (h : k < to) (e : line ≡ lineAt (L .refs) k)

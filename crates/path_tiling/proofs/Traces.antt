@@ -21,7 +21,7 @@ use Rattle.walk.specs.Lent.{lineAt, walkedOf, walkAt}
 use Rattle.segment.specs.Clips.{cornerOf, farOf, atRowOf, atColOf, clipOf, makeOf, edgeOf, offOf, turnOf, firstOf, lastOf, segmentOf, pieceOf}
 use Rattle.panel.specs.Segments.{heldOf}
 use Rattle.panel.specs.Pieces.{pieces}
-use Rattle.path_tiling.specs.Look.{lent, foundOf, pieceTo, wordTo, stepTo, foundTo, lookOf}
+use Rattle.looks.specs.Look.{lent, foundOf, pieceTo, wordTo, stepTo, foundTo, lookOf}
 use Rattle.path_tiling.specs.Tiling.{Tiled, tiled, rangeOf, wholeOf, checksOf, callOf, tiledOf}
 
 -- names all that a trace computes with

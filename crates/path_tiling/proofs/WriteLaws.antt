@@ -18,7 +18,7 @@ use Rattle.panel.specs.Paths.{pathsAnswer}
 use Rattle.panel.specs.declared.kinds.Answer.{Answer}
 use Rattle.panel.specs.declared.kinds.Answer.the-variants.{Done, Refused}
 use Rattle.panel.specs.declared.segments.Segment.{Segment}
-use Rattle.path_tiling.specs.Look.{Lent, lineAt, packedAt, foundOf, lookOf}
+use Rattle.looks.specs.Look.{Lent, lineAt, packedAt, foundOf, lookOf}
 use Rattle.panel.specs.Pieces.{Pieces, placed}
 use Rattle.path_tiling.specs.Tiling.{
   Write,
@@ -40,10 +40,11 @@ use Rattle.path_tiling.specs.Tiling.{
   thenRange,
   Made,
 }
-use Rattle.path_tiling.specs.declared.look.Look.{Look}
-use Rattle.path_tiling.specs.declared.look.Look.the-variants.{Put, Empty, Against}
-use Rattle.path_tiling.proofs.PutLaws.{Good, put-good}
-use Rattle.path_tiling.proofs.RangeLaws.{look-is, AsLong, long-self, long-then, long-placed}
+use Rattle.looks.specs.declared.Look.{Look}
+use Rattle.looks.specs.declared.Look.the-variants.{Put, Empty, Against}
+use Rattle.looks.proofs.PutLaws.{Good, put-good}
+use Rattle.looks.proofs.FoundLaws.{look-is}
+use Rattle.looks.proofs.OneLaws.{AsLong, long-self, long-then, long-placed}
 
 -- ---- where writes come from
 

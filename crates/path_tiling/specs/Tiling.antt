@@ -14,13 +14,11 @@ use Rattle.panel.specs.Kinds.{paperOf, slotNoOf}
 use Rattle.panel.specs.Paths.{beamAt, pathsAnswer}
 use Rattle.panel.specs.declared.kinds.Answer.{Answer}
 use Rattle.panel.specs.declared.kinds.Answer.the-variants.{Done, Refused}
-use Rattle.panel.specs.declared.kinds.Verdict.{Verdict}
-use Rattle.panel.specs.declared.kinds.Verdict.the-variants as Verdict
 use Rattle.panel.specs.Pieces.{Pieces, placed}
 use Rattle.panel.specs.declared.segments.Segment.{Segment}
-use Rattle.path_tiling.specs.Look.{Lent, lineAt, tagOf, lookOf}
-use Rattle.path_tiling.specs.declared.look.Look.{Look}
-use Rattle.path_tiling.specs.declared.look.Look.the-variants.{Put, Empty, Against}
+use Rattle.looks.specs.Look.{Lent, lineAt, tagOf, lookOf}
+use Rattle.looks.specs.declared.Look.{Look}
+use Rattle.looks.specs.declared.Look.the-variants.{Put, Empty, Against}
 
 -- a write: the slot, and what is written there, with the reference, the line and the path that it comes from; the tag is the path's beam number
 pub record Write : Type 0 where
@@ -119,19 +117,6 @@ pub record Ready (from to : ℕ) (L : Lent) (p : Pieces) : Type 0 where
   pub lines : length (L .pathNos) * lineFloats ≤ length (L .coords)
   pub tagged : length (p .tags) ≡ length (p .segments) / segmentFloats
   pub paths : pathsAnswer (L .paths) (length (L .stored)) ≡ Done
-
--- one reference, with its line's tag: the verdict on it, and the segments and tags afterwards
-pub record One : Type 0 where
-  pub verdict : Verdict
-  pub pieces : Pieces
-
-abbrev pub one : Verdict → Pieces → One
-one v p = record { verdict = v; pieces = p }
-
-abbrev pub oneOf : ℕ → Look → Pieces → One
-oneOf tag (Put slot s) p = one Verdict.Fine (placed (slot .0) s tag p)
-oneOf tag Empty p = one Verdict.Fine p
-oneOf tag (Against why) p = one (Verdict.Against why) p
 
 -- one range after another: the second is tiled only where the first was not refused
 abbrev pub thenOn : Answer → List Write → Range → Range

@@ -1,63 +1,30 @@
 // A segment for each reference of a range, written at its slot, with its tag beside it: path_tiling.rs.
 // docs/RULES.md, tiling's part of "When the panel says no".
-mod beams;
-pub mod look;
-mod one;
-
 ghost use mathlib.Core.Path.{_≡_};
-ghost use Prim.Native.Nat.{_+_, _-_, _*_, _/_, _≤_, _<_};
+ghost use Prim.Native.Nat.{_-_, _/_, _≤_, _<_};
 ghost use lib.ListN.{length};
-ghost use Rattle.panel.specs.Widths.{refWords, segmentFloats};
+ghost use Rattle.panel.specs.Widths.{refWords};
 ghost use Rattle.panel.specs.Paths.{pathsAnswer};
-ghost use Rattle.panel.specs.Refs.{stepNo};
 ghost use Rattle.panel.specs.Pieces.{pieces};
 ghost use Rattle.panel.specs.declared.kinds.Answer.the-variants.{Done};
-ghost use Rattle.path_tiling.specs.Look.{lent, FoundFits, foundTo};
-ghost use Rattle.path_tiling.specs.Carry.{HasZs};
-ghost use Rattle.path_tiling.specs.Tiling.{one, oneOf, slotsOf, wholeOf, Ready, rangeOf, tiled, rangeTiled, TileMet};
-ghost use Rattle.path_tiling.specs.Runs.{ranOf, runOf, lineRun, aloneOf, Some, NextMet};
-use look::Look;
+ghost use Rattle.looks.specs.Look.{lent};
+ghost use Rattle.line_runs.specs.Runs.{ranOf, Some};
+ghost use Rattle.path_tiling.specs.Tiling.{slotsOf, wholeOf, Ready, rangeOf, tiled, rangeTiled, TileMet};
+ghost use Rattle.path_tiling.specs.Runs.{aloneOf, NextMet};
+use line_runs::Ran;
+use line_runs::tile_line;
 use panel::kinds::Answer;
 use panel::kinds::LineNo;
-use panel::kinds::Verdict;
 use panel::limits::MOST_SLOTS;
 use panel::refs::named_at;
 use panel::refs::packed_at;
 use panel::refusals::NOT_WHOLE;
-use panel::segments::put;
 use panel::widths::LINE_FLOATS;
 use panel::widths::PATH_WORDS;
 use panel::widths::REF_WORDS;
 use panel::widths::SEGMENT_FLOATS;
-use walk::carry::Zs;
-use walk::carry::no_zs;
-use walk::kinds::Walked;
-
-// One reference, whose line is as the walk found it and has this tag, with the z's of its step.
-fn tile_one(
-    found: Walked,
-    zs: Zs,
-    tag: u32,
-    packed: u32,
-    stored: &[u32],
-    slots: u32,
-    segments: &mut [f32],
-    tags: &mut [u32],
-) -> Verdict
-    requires { ⌜ FoundFits (length (now stored)) found × HasZs (stepNo packed) zs found × (slots * segmentFloats ≤ length (now segments)) × (slots ≤ length (now tags)) ⌝ }
-    ensures { λ r. ⌜ one r (pieces (now (segments .exit)) (now (tags .exit)))
-        ≡ oneOf tag (foundTo (now (stored .entry)) slots packed found) (pieces (now (segments .entry)) (now (tags .entry))) ⌝ }
-{
-    match look::look_at(found, zs, packed, stored, slots) {
-        Look::Put(slot, s) => {
-            put(segments, slot, s);
-            tags[slot.0 as usize] = tag;
-            Verdict::Fine
-        }
-        Look::Empty => Verdict::Fine,
-        Look::Against(why) => Verdict::Against(why),
-    }
-}
+use short_lines::put_tried;
+use short_lines::try_short;
 
 // The slots that so many floats have room for.
 pub fn slots_of(floats: usize) -> u32
@@ -69,53 +36,6 @@ pub fn slots_of(floats: usize) -> u32
     } else {
         MOST_SLOTS
     }
-}
-
-// How far a run of references was tiled: up to `next`, or up to the refusal of `next`.
-pub struct Ran {
-    pub answer: Answer,
-    pub next: u32,
-}
-
-// The references from `from` up to `to`, in order, as long as they name this line, up to the first that
-// is refused. The line's numbers and its tag are found once for all of them, and a step's z's are carried
-// to the next.
-fn tile_run(
-    found: Walked,
-    tag: u32,
-    line: LineNo,
-    from: u32,
-    to: u32,
-    stored: &[u32],
-    refs: &[u32],
-    slots: u32,
-    segments: &mut [f32],
-    tags: &mut [u32],
-) -> Ran
-    requires { ⌜ FoundFits (length (now stored)) found × (slots * segmentFloats ≤ length (now segments)) × (slots ≤ length (now tags))
-        × (from ≤ to) × (to ≤ length (now refs) / refWords) ⌝ }
-    ensures { λ r. ⌜ ranOf r (pieces (now (segments .exit)) (now (tags .exit)))
-        ≡ runOf (now (stored .entry)) slots (now (refs .entry)) found tag (line .0) (to - from) from (pieces (now (segments .entry)) (now (tags .entry))) ⌝ }
-{
-    let mut zs = no_zs();
-    let mut k = from;
-    while k < to {
-        let named = named_at(refs, k);
-        if named != line.0 {
-            let answer = Answer::Done;
-            return Ran { answer, next: k };
-        }
-        let packed = packed_at(refs, k);
-        zs = look::zs_on(found, zs, packed);
-        let v = tile_one(found, zs, tag, packed, stored, slots, segments, tags);
-        if let Verdict::Against(why) = v {
-            let answer = Answer::Refused(why, k);
-            return Ran { answer, next: k };
-        }
-        k += 1;
-    }
-    let answer = Answer::Done;
-    Ran { answer, next: k }
 }
 
 // Whether the reference after `from` names another line, or there is none up to `to`: a line within one tile has one
@@ -130,42 +50,6 @@ fn alone(refs: &[u32], from: u32, to: u32) -> bool
     let named = named_at(refs, from);
     let after = named_at(refs, from + 1);
     named != after
-}
-
-// The references from `from` up to `to` as long as they name this line, which is found here with its tag.
-fn tile_line(
-    line: LineNo,
-    from: u32,
-    to: u32,
-    path_nos: &[u32],
-    coords: &[f32],
-    paths: &[u32],
-    stored: &[u32],
-    refs: &[u32],
-    slots: u32,
-    segments: &mut [f32],
-    tags: &mut [u32],
-) -> Ran
-    requires { ⌜ Some from to (lent (now «path_nos») (now coords) (now paths) (now stored) (now refs)) slots (pieces (now segments) (now tags)) ⌝ }
-    ensures { λ r. ⌜ ranOf r (pieces (now (segments .exit)) (now (tags .exit)))
-        ≡ lineRun (lent (now («path_nos» .entry)) (now (coords .entry)) (now (paths .entry)) (now (stored .entry)) (now (refs .entry)))
-        slots (line .0) to from (pieces (now (segments .entry)) (now (tags .entry))) ⌝ }
-{
-    let found = look::found_at(path_nos, coords, paths, line);
-    let path = beams::path_of(path_nos, line);
-    let tag = beams::tag_of(paths, path);
-    tile_run(
-        found,
-        tag,
-        line,
-        from,
-        to,
-        stored,
-        refs,
-        slots,
-        segments,
-        tags,
-    )
 }
 
 // The references from `from` up to `to`, as many as are taken at once: the first, where its line lies within one tile, and
@@ -189,8 +73,8 @@ fn tile_next(
     let line = LineNo(named_at(refs, from));
     let packed = packed_at(refs, from);
     let tried = alone(refs, from, to);
-    let short = one::try_short(tried, path_nos, coords, paths, stored, line);
-    if one::put_tried(short, packed, slots, segments, tags) {
+    let short = try_short(tried, path_nos, coords, paths, stored, line);
+    if put_tried(short, packed, slots, segments, tags) {
         let answer = Answer::Done;
         let next = from + 1;
         return Ran { answer, next };

@@ -31,7 +31,7 @@ use Rattle.path_count.specs.Count.{toldOf, paperOf}
 use Rattle.path_count.specs.declared.kinds.Counted.the-variants.{Done}
 use Rattle.backdrop.specs.Backdrop as Backdrop
 use Rattle.hand_out.specs.HandOut.{hand, handOutOf, outOf}
-use Rattle.path_tiling.specs.Look.{lent}
+use Rattle.looks.specs.Look.{lent}
 use Rattle.path_tiling.specs.Tiling.{Tiled, Range, tiled, rangeTiled, applied, callOf}
 use Rattle.frame.specs.Frame as Frame
 use Rattle.frame.specs.declared.kinds.Framed.the-variants as Framed

@@ -35,10 +35,10 @@ use Rattle.segment.specs.declared.Piece.{Piece}
 use Rattle.segment.specs.declared.Piece.the-variants.{Kept, Crooked}
 use Rattle.hand_out.specs.HandOut.{hand}
 use Rattle.hand_out.proofs.HandLaws.{reads-back}
-use Rattle.path_tiling.specs.Look.{Lent, lent, lineAt, packedAt, stepNo, sliceNo, pieceTo, wordTo, stepTo, foundTo, foundOf, lookOf}
+use Rattle.looks.specs.Look.{Lent, lent, lineAt, packedAt, stepNo, sliceNo, pieceTo, wordTo, stepTo, foundTo, foundOf, lookOf}
 use Rattle.path_tiling.specs.Tiling.{Write, writeOf, Range, lookThen, rangeOf}
-use Rattle.path_tiling.specs.declared.look.Look.{Look}
-use Rattle.path_tiling.specs.declared.look.Look.the-variants.{Put, Empty, Against}
+use Rattle.looks.specs.declared.Look.{Look}
+use Rattle.looks.specs.declared.Look.the-variants.{Put, Empty, Against}
 use Rattle.theorems.specs.Drawn.{drawn}
 use Rattle.theorems.specs.Events.{Event, eventsOf, tilesEv, sliceOf, slotOf}
 use Rattle.theorems.specs.Refs.{AllCounted}

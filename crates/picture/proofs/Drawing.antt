@@ -38,7 +38,7 @@ use Rattle.walk.specs.Page.{lineOf}
 use Rattle.walk.specs.declared.kinds.Walk.{Walk}
 use Rattle.walk.specs.declared.kinds.Walked as W
 use Rattle.walk.specs.declared.kinds.Walked.the-variants as Found
-use Rattle.path_tiling.specs.Look.{Lent, lent}
+use Rattle.looks.specs.Look.{Lent, lent}
 use Rattle.path_tiling.specs.Tiling.{Range, range, applied, slotsOf, rangeOf, wholeOf, checksOf, checkedThen, callOf}
 use Rattle.frame.specs.Frame as Frame
 use Rattle.frame.specs.declared.kinds.Framed.the-variants as Framed

@@ -21,7 +21,7 @@ use Rattle.panel.specs.declared.segments.Segment.{Segment}
 use Rattle.panel.proofs.PathLaws.{checked}
 use Rattle.backdrop.specs.Backdrop as Backdrop
 use Rattle.hand_out.specs.HandOut.{hand, handOutOf, outOf}
-use Rattle.path_tiling.specs.Look.{lent}
+use Rattle.looks.specs.Look.{lent}
 use Rattle.path_tiling.specs.Tiling.{Range, range, applied, slotsOf, callOf}
 use Rattle.frame.specs.Frame as Frame
 use Rattle.frame.specs.declared.kinds.Framed.the-variants as Framed

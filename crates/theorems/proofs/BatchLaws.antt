@@ -25,7 +25,7 @@ use Rattle.path_count.specs.Count.{Told, paperOf, batch, batchTold, callAnswer,
 use Rattle.path_count.specs.declared.kinds.Counted.the-variants.{Done}
 use Rattle.path_count.proofs.Batches.{batches}
 use Rattle.panel.specs.Kinds as Kinds
-use Rattle.path_tiling.specs.Look.{Lent}
+use Rattle.looks.specs.Look.{Lent}
 use Rattle.panel.specs.Pieces.{Pieces, placed}
 use Rattle.path_tiling.specs.Tiling.{Range, applied, callOf, Tiled, tiled, rangeTiled, tiledOf, thenOn, thenRange}
 use Rattle.path_tiling.proofs.WriteLaws.{calls-join}

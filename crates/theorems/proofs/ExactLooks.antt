@@ -23,9 +23,9 @@ use Rattle.walk.specs.declared.kinds.Walked.the-variants as Found
 use Rattle.segment.specs.Clips.{pieceOf}
 use Rattle.segment.specs.declared.Piece.{Piece}
 use Rattle.segment.specs.declared.Piece.the-variants.{Kept, Crooked}
-use Rattle.path_tiling.specs.Look as Look
-use Rattle.path_tiling.specs.Look.{Lent, packedAt, stepNo, sliceNo, pieceTo, wordTo, stepTo, foundTo, foundOf, lookOf}
-use Rattle.path_tiling.specs.declared.look.Look.the-variants.{Empty, Against}
+use Rattle.looks.specs.Look as Look
+use Rattle.looks.specs.Look.{Lent, packedAt, stepNo, sliceNo, pieceTo, wordTo, stepTo, foundTo, foundOf, lookOf}
+use Rattle.looks.specs.declared.Look.the-variants.{Empty, Against}
 use Rattle.theorems.specs.Refusing.{RefWalks, RefOn, LookWhy, sevenLine, sixLine, sevenPath, sevenSkipped, tenStep, nineSlot, twelve}
 use Rattle.theorems.proofs.Grounds.{ends-exact, ends-good, good-ends, step-exact, piece-exact}
 use Rattle.theorems.proofs.Exact.{no-clash, never}

@@ -24,7 +24,7 @@ use Rattle.panel.specs.declared.kinds.Answer.the-variants.{Done, Refused}
 use Rattle.panel.proofs.PathLaws.{box-fits, from-turn, from-no}
 use Rattle.panel.specs.Kinds.{paperOf}
 use Rattle.acts.specs.Acts.{St}
-use Rattle.path_tiling.specs.Look.{Lent}
+use Rattle.looks.specs.Look.{Lent}
 use Rattle.path_tiling.specs.Tiling.{checksOf}
 use Rattle.path_tiling.proofs.CallLaws.{Whole}
 use Rattle.coverage.specs.Fill.{fillChecks, fillOf}

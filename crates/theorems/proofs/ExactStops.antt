@@ -19,10 +19,10 @@ use Rattle.panel.specs.declared.kinds.Verdict.{Verdict}
 use Rattle.panel.specs.declared.kinds.Verdict.the-variants as Verdict
 use Rattle.backdrop.specs.Backdrop.{outOf, pathFits, pathSums, sumPaths, onDone, backdropOf}
 use Rattle.backdrop.proofs.CellLaws.{out-once}
-use Rattle.path_tiling.specs.Look.{Lent, lookOf}
+use Rattle.looks.specs.Look.{Lent, lookOf}
 use Rattle.path_tiling.specs.Tiling.{lookThen, rangeOf}
-use Rattle.path_tiling.specs.declared.look.Look as Lk
-use Rattle.path_tiling.specs.declared.look.Look.the-variants.{Put, Empty, Against}
+use Rattle.looks.specs.declared.Look as Lk
+use Rattle.looks.specs.declared.Look.the-variants.{Put, Empty, Against}
 use Rattle.fine.specs.Screen.{endsAt, tilePixels}
 use Rattle.fine.specs.Fine.{No, onEnd, tileStep, tilesOf}
 use Rattle.theorems.specs.Refusing.{PathsWhy, one, two, three, four, BackdropWhy, RangeWhy, TilesWhy}

@@ -25,7 +25,7 @@ use Rattle.acts.specs.Acts.{St, stOf, Act, mark, visit, stop, deltaOf}
 use Rattle.acts.specs.Line.{planActs}
 use Rattle.path_count.specs.Count.{planOf}
 use Rattle.hand_out.specs.HandOut.{hand}
-use Rattle.path_tiling.specs.Look.{Lent, lent, lineAt, packedAt, stepNo, sliceNo}
+use Rattle.looks.specs.Look.{Lent, lent, lineAt, packedAt, stepNo, sliceNo}
 use Rattle.path_tiling.specs.Tiling.{slotsOf}
 use Rattle.frame.specs.Frame.{outOf, frameOf}
 use Rattle.frame.specs.declared.kinds.Stage.{Stage}

@@ -31,7 +31,7 @@ use Rattle.path_count.specs.declared.kinds.Counted.the-variants as Counted
 use Rattle.backdrop.specs.Backdrop as Backdrop
 use Rattle.hand_out.specs.HandOut as HandOut
 use Rattle.hand_out.specs.HandOut.{hand}
-use Rattle.path_tiling.specs.Look.{lent}
+use Rattle.looks.specs.Look.{lent}
 use Rattle.path_tiling.specs.Tiling.{Range, range, rangeOf, wholeOf, Tiled, applied, slotsOf, tiled, tiledOf, callOf}
 use Rattle.hand_out.proofs.HandLaws.{length-hand}
 use Rattle.path_tiling.proofs.CallLaws as Tiling

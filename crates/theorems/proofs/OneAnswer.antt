@@ -24,7 +24,7 @@ use Rattle.path_count.specs.declared.kinds.Counted.the-variants.{Done}
 use Rattle.acts.specs.Acts.{stOf}
 use Rattle.backdrop.proofs.CellLaws as Backdrop
 use Rattle.hand_out.proofs.HandLaws as HandOut
-use Rattle.path_tiling.specs.Look.{Lent}
+use Rattle.looks.specs.Look.{Lent}
 use Rattle.path_tiling.specs.Tiling.{Tiled}
 use Rattle.coverage.specs.Fill.{Filled}
 use Rattle.fine.specs.Fine.{Shown}

@@ -24,7 +24,7 @@ use Rattle.walk.specs.Lent.{lineAt, Reached}
 use Rattle.walk.specs.Page.{lineOf}
 use Rattle.path_count.specs.Count.{Told, counted}
 use Rattle.hand_out.specs.HandOut as HandOut
-use Rattle.path_tiling.specs.Look.{lent}
+use Rattle.looks.specs.Look.{lent}
 use Rattle.path_tiling.specs.Tiling.{Write, slotsOf, callOf, Tiled, tiled, tiledOf, TileMet}
 use Rattle.frame.specs.Frame.{outOf, frameOf}
 use Rattle.frame.specs.declared.kinds.Stage.the-variants as Stage

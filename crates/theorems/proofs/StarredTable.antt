@@ -22,7 +22,7 @@ use Rattle.path_count.specs.Count.{planOf, lineStep, callAnswer, counted}
 use Rattle.hand_out.specs.HandOut.{handOutOf}
 use Rattle.segment.specs.Clips.{cornerOf, farOf, atRowOf, atColOf, clipOf, makeOf, edgeOf, offOf, turnOf, firstOf, lastOf, segmentOf, pieceOf}
 use Rattle.panel.specs.Segments.{heldOf}
-use Rattle.path_tiling.specs.Look.{foundOf, pieceTo, wordTo, stepTo, foundTo, lookOf}
+use Rattle.looks.specs.Look.{foundOf, pieceTo, wordTo, stepTo, foundTo, lookOf}
 use Rattle.path_tiling.specs.Tiling.{rangeOf, wholeOf, checksOf, callOf}
 use Rattle.coverage.specs.Coverage.{areaAfter, finishOf, sumOf, pixelOf}
 use Rattle.colours.specs.Colour.{channelOf, colourOf, overOf, byteOf, packOf}

@@ -36,14 +36,14 @@ use Rattle.segment.specs.Clips.{pieceOf}
 use Rattle.panel.specs.declared.segments.Segment.{Segment}
 use Rattle.segment.specs.declared.Piece.{Piece}
 use Rattle.segment.specs.declared.Piece.the-variants.{Kept, Crooked}
-use Rattle.path_tiling.specs.Look.{Lent, lent, lineAt, packedAt, stepNo, sliceNo, pieceTo, wordTo, stepTo, foundTo, foundOf, lookOf}
+use Rattle.looks.specs.Look.{Lent, lent, lineAt, packedAt, stepNo, sliceNo, pieceTo, wordTo, stepTo, foundTo, foundOf, lookOf}
 use Rattle.panel.specs.Segments.{floatsOf, segmentAt}
 use Rattle.panel.specs.Pieces.{Pieces, placed}
 use Rattle.panel.proofs.SegmentLaws.{reads-put, reads-other}
 use Rattle.path_tiling.specs.Tiling.{Write, Range, range, lookThen, rangeOf, slotsOf, applied, checksOf, checkedThen, callOf, Made}
-use Rattle.path_tiling.specs.declared.look.Look as L
-use Rattle.path_tiling.specs.declared.look.Look.the-variants.{Put, Empty, Against}
-use Rattle.path_tiling.proofs.PutLaws.{Good}
+use Rattle.looks.specs.declared.Look as L
+use Rattle.looks.specs.declared.Look.the-variants.{Put, Empty, Against}
+use Rattle.looks.proofs.PutLaws.{Good}
 use Rattle.path_tiling.proofs.CallLaws as CallLaws
 use Rattle.path_tiling.proofs.WriteLaws.{range-made, range-good}
 use Rattle.theorems.specs.Events.{Event, tilesEv, sliceOf, slotOf}

@@ -28,7 +28,7 @@ use Rattle.acts.specs.Line.{Refusal}
 use Rattle.path_count.specs.Count.{Told, toldOf, paperOf, batch, batchTold, lentChecks, callAnswer, callTold, counted}
 use Rattle.path_count.specs.declared.kinds.Counted.the-variants.{Done}
 use Rattle.path_count.proofs.Batches.{Ranged, ranged}
-use Rattle.path_tiling.specs.Look.{lineAt, packedAt, stepNo, sliceNo}
+use Rattle.looks.specs.Look.{lineAt, packedAt, stepNo, sliceNo}
 use Rattle.theorems.specs.Events.{Event, EventOwn, eventsOf, tilesEv, wordsEv, countsOf, sliceOf}
 use Rattle.theorems.specs.Refs.{refTile, refTiles, refSlices, AllCounted, Sums}
 use Rattle.theorems.proofs.Counting.{Counted, batch-counted, length-tiles, length-words}

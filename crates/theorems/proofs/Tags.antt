@@ -19,7 +19,7 @@ use Rattle.panel.specs.declared.kinds.Running.{Running}
 use Rattle.panel.specs.declared.kinds.Answer.the-variants.{Done}
 use Rattle.panel.proofs.PathLaws.{checked, one-path}
 use Rattle.hand_out.specs.HandOut.{handOutOf, outOf}
-use Rattle.path_tiling.specs.Look.{lent, lineAt}
+use Rattle.looks.specs.Look.{lent, lineAt}
 use Rattle.path_tiling.specs.Tiling.{Write, Range, applied, callOf}
 use Rattle.frame.specs.Frame as Frame
 use Rattle.frame.specs.declared.kinds.Framed.the-variants as Framed

@@ -18,7 +18,7 @@ use Rattle.hand_out.specs.HandOut as HandOut
 use Rattle.acts.specs.Acts.{stOf}
 use Rattle.path_count.specs.Count.{toldOf, paperOf}
 use Rattle.path_count.specs.declared.kinds.Counted.the-variants.{Done}
-use Rattle.path_tiling.specs.Look.{lent}
+use Rattle.looks.specs.Look.{lent}
 use Rattle.path_tiling.specs.Tiling.{callOf, rangeTiled}
 use Rattle.theorems.specs.Drawn.{drawn, ofPath}
 use Rattle.theorems.specs.Refs.{AllCounted}

@@ -9,7 +9,7 @@ use Rattle.panel.specs.declared.kinds.Running.{Running}
 use Rattle.acts.specs.Acts.{stOf}
 use Rattle.path_count.specs.Count.{Told, toldOf, paperOf, counted}
 use Rattle.path_count.specs.declared.kinds.Counted.the-variants.{Done}
-use Rattle.path_tiling.specs.Look.{Lent}
+use Rattle.looks.specs.Look.{Lent}
 use Rattle.path_tiling.specs.Tiling.{Tiled, tiledOf}
 use Rattle.fine.specs.Fine.{Shown, shown, fineOf}
 use Rattle.panel.specs.declared.kinds.Answer.the-variants as Answer

@@ -17,7 +17,7 @@ use Rattle.acts.specs.Acts.{St, stOf}
 use Rattle.acts.specs.Line.{Refusal}
 use Rattle.backdrop.specs.Backdrop as Backdrop
 use Rattle.hand_out.specs.HandOut.{hand}
-use Rattle.path_tiling.specs.Look.{lent}
+use Rattle.looks.specs.Look.{lent}
 use Rattle.path_tiling.specs.Tiling.{Write, range, applied, callOf, slotsOf, tiled, tiledOf}
 use Rattle.frame.specs.Frame.{Out, outOf, checksOf}
 use Rattle.frame.specs.declared.kinds.Stage.the-variants as Stage

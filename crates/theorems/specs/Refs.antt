@@ -18,7 +18,7 @@ use Rattle.walk.specs.declared.kinds.Walked.the-variants.{Refused, Skipped, Lin
 use Rattle.acts.specs.Acts.{stOf}
 use Rattle.path_count.specs.Count.{Told, toldOf, paperOf, counted}
 use Rattle.path_count.specs.declared.kinds.Counted.the-variants.{Done}
-use Rattle.path_tiling.specs.Look.{lineAt, packedAt, stepNo, sliceNo}
+use Rattle.looks.specs.Look.{lineAt, packedAt, stepNo, sliceNo}
 
 -- the tile that a step falls on; a step that is refused has none, which no reference of counting's has
 abbrev pub stepTile : Step → ℕ

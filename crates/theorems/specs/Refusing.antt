@@ -36,12 +36,12 @@ use Rattle.panel.specs.declared.kinds.TileNo.{TileNo}
 use Rattle.panel.specs.Segments.{InTile}
 use Rattle.segment.specs.Clips.{segmentOf}
 use Rattle.panel.specs.declared.segments.Segment.{Segment}
-use Rattle.path_tiling.specs.Look as Look
-use Rattle.path_tiling.specs.declared.look.Look.the-variants as Looked
-use Rattle.path_tiling.specs.Look.{lookOf}
+use Rattle.looks.specs.Look as Look
+use Rattle.looks.specs.declared.Look.the-variants as Looked
+use Rattle.looks.specs.Look.{lookOf}
 use Rattle.fine.specs.Screen.{endsAt}
 use Rattle.fine.specs.Fine.{tilesOf}
-use Rattle.path_tiling.specs.Look.{Lent, packedAt, stepNo, sliceNo}
+use Rattle.looks.specs.Look.{Lent, packedAt, stepNo, sliceNo}
 use Rattle.panel.specs.Signed.{inI32}
 use Rattle.acts.specs.Acts.{St, Act, mark, visit, stop, stepsActs, runActs, deltaOf}
 use Rattle.acts.specs.Rows.{rowsActs}

@@ -19,7 +19,7 @@ use Rattle.walk.specs.Num.{float}
 use Rattle.path_count.specs.Count.{Told, counted}
 use Rattle.hand_out.specs.HandOut as HandOut
 use Rattle.hand_out.specs.HandOut.{Out, handOutOf}
-use Rattle.path_tiling.specs.Look.{lent}
+use Rattle.looks.specs.Look.{lent}
 use Rattle.path_tiling.specs.Tiling.{Tiled, tiled, tiledOf}
 use Rattle.sides.specs.Tile.{tileWidth, tileSize}
 use Rattle.coverage.specs.Coverage.{pixelOf}

@@ -12,7 +12,7 @@ use Rattle.lists.specs.Tally.{Distinct}
 use Rattle.panel.specs.Paths.{pathAt, pathCount, endOf, beamAt}
 use Rattle.panel.specs.Pieces.{Pieces}
 use Rattle.panel.specs.declared.kinds.Answer.the-variants.{Done, Refused}
-use Rattle.path_tiling.specs.Look.{lineAt}
+use Rattle.looks.specs.Look.{lineAt}
 use Rattle.panel.specs.Segments.{segmentAt, Straight}
 use Rattle.path_tiling.specs.Tiling.{Write, Range, applied}
 use Rattle.theorems.specs.Refs.{refTile}

@@ -3,8 +3,8 @@ use denote.Ref.{now}
 use native.Mathlib.Omega.{arith}
 use borrow.Author.Needs.{needs}
 use Rattle.panel.specs.Pieces.{pieces}
-use Rattle.path_tiling.specs.Look.{lent}
-use Rattle.path_tiling.proofs.OneLaws.{took-tried}
+use Rattle.looks.specs.Look.{lent}
+use Rattle.short_lines.proofs.ShortLaws.{took-tried}
 use Rattle.path_tiling.proofs.NextLaws.{took-next, ran-next}
 use Rattle.path_tiling.proofs.tile_next.Statement.{statement}
 use Rattle.path_tiling.proofs.tile_next.Tie as tie

@@ -7,8 +7,9 @@ use mathlib.Core.Path.{_≡_, refl, _∙_}
 use borrow.Author.Needs.{needs}
 use lib.ListN.{length}
 use Rattle.panel.specs.Pieces.{pieces}
-use Rattle.path_tiling.specs.Look.{lent}
-use Rattle.path_tiling.proofs.RangeLaws.{long-self, slots-fit, slots-tagged}
+use Rattle.looks.specs.Look.{lent}
+use Rattle.looks.proofs.OneLaws.{long-self}
+use Rattle.path_tiling.proofs.RangeLaws.{slots-fit, slots-tagged}
 use Rattle.path_tiling.proofs.RunLaws.{Going, on, halted, done}
 use Rattle.path_tiling.proofs.tile_range.Statement.{statement}
 use Rattle.path_tiling.proofs.tile_range.Tie as tie

@@ -1,0 +1,2 @@
+-- Laws of a line that lies within one tile, tiled without its walk. Assumes nothing.
+pub mod ShortLaws
