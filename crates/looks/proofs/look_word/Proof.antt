@@ -1,9 +1,10 @@
 -- `looks::look_word` meets its contract: at each return the tests that led there pick the case. Assumes nothing.
 use Prim.Native.Nat.{_+_, _≤_, _<_}
-use mathlib.Core.Path.{sym, _∙_}
+use mathlib.Core.Path.{_≡_, sym, _∙_}
+use mathlib.Core.Bool.{true, false}
 use borrow.Author.Tests.{lt-ltb, le-ltb, ltb-false}
 use native.Mathlib.Omega.{arith}
-use Rattle.panel.specs.Slots.{slotOf, handedFrom}
+use Rattle.panel.specs.Slots.{skips, slotOf, handedFrom}
 use Rattle.looks.specs.Look.{wordTo}
 use borrow.Author.Needs.{needs}
 use Rattle.looks.proofs.look_word.Statement.{statement}
@@ -14,7 +15,9 @@ skips-requires c κs = search needs
 
 returns : tie.Need-returns
 unfolding wordTo
-returns c = rw (sym (c .before .skips .ensures) ∙ c .if1 .taken)
+returns c =
+    let empty : skips (c .before .before .args .word) ≡ true = sym (c .before .skips .ensures) ∙ c .if1 .taken in
+    rw empty
 
 flipped-requires : tie.Need-flipped-requires
 flipped-requires c κs = search needs
@@ -27,7 +30,8 @@ unfolding wordTo
 returns-2 c =
     let s = c .before .before .before .before in
     let over : s .args .slots < slotOf (s .args .word) (s .args .slice) + 1 = omega (arith, c .before .flipped .ensures) in
-    rw (sym (c .before .before .before .skips .ensures) ∙ c .before .before .if1 .left, lt-ltb _ _ over)
+    let full : skips (s .args .word) ≡ false = sym (c .before .before .before .skips .ensures) ∙ c .before .before .if1 .left in
+    rw (full, lt-ltb _ _ over)
 
 piece-of-requires : tie.Need-piece-of-requires
 piece-of-requires c κs = search needs
@@ -40,8 +44,9 @@ unfolding wordTo
 returns-3 c =
     let s = c .before .before .before .before .before .before in
     let room : slotOf (s .args .word) (s .args .slice) + 1 ≤ s .args .slots = omega (arith, c .before .before .before .flipped .ensures) in
+    let full : skips (s .args .word) ≡ false = sym (c .before .before .before .before .before .skips .ensures) ∙ c .before .before .before .before .if1 .left in
     rw (
-      sym (c .before .before .before .before .before .skips .ensures) ∙ c .before .before .before .before .if1 .left,
+      full,
       le-ltb _ _ room,
       c .look-piece .ensures,
       c .before .piece-of .ensures,
