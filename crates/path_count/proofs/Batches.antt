@@ -4,7 +4,7 @@ use mathlib.Core.Path.{_≡_, refl, sym, ap, ap₂, _∙_}
 use mathlib.Core.Bool.{true}
 use mathlib.Core.List.{List, [], _∷_}
 use Prim.Native.Nat.{ℕ, _+_, _-_, _*_, _/_, _%_, _<_, _≤_}
-use native.Mathlib.Nat.{add-zero}
+use native.Mathlib.Nat.{add-zero, zero-add}
 use native.Mathlib.Omega.{arith}
 use lib.ListN.{length}
 use lib.IntN.{ℤ}
@@ -30,6 +30,7 @@ use Rattle.acts.specs.Line.{Refusal, batchOf}
 use Rattle.acts.proofs.Lines.{batch-cut}
 use Rattle.panel.specs.Kinds.{runningOf}
 use Rattle.path_count.specs.Count.{paperOf, lineStep, lineRan, tallyRan, unwalkedOf, batch, Told, toldOf, batchTold, lentChecks, callAnswer, callTold, counted, Lent}
+use Rattle.path_count.specs.Ones.{batchFrom, fromTold}
 use Rattle.path_count.specs.declared.kinds.Tallied.{Tallied}
 use Rattle.path_count.specs.declared.kinds.Counted.{Counted}
 use Rattle.path_count.specs.declared.kinds.Counted.the-variants.{Done, Refused}
@@ -68,12 +69,23 @@ counted-once (Refused m h r) (Refused n i s) e =
     let q : r .refs ≡ s .refs = cc in
     rw (k, j) (ap₂ (λ (l x : ℕ). Refused n i (runningOf l x)) p q)
 
-pub batch-refused : (b a m n : ℕ) (s u : St) (all : Ran St Refusal) → m ≡ n → u ≡ s → refused s (record { no = n; line = a }) ≡ all
-    → toldOf (m ∷ a ∷ a ∷ s .made ∷ []) u ≡ batchTold b all
-batch-refused b a m n s u all p q e = rw (p, q) (ap (batchTold b) e)
+pub batch-refused : (base b a m n : ℕ) (s u : St) (all : Ran St Refusal) → m ≡ n → u ≡ s → refused s (record { no = n; line = a }) ≡ all
+    → toldOf (m ∷ (base + a) ∷ a ∷ s .made ∷ []) u ≡ fromTold base b all
+batch-refused base b a m n s u all p q e = rw (p, q) (ap (fromTold base b) e)
 
-pub batch-through : (b a : ℕ) (s : St) (all : Ran St Refusal) → a ≡ b → done s ≡ all → toldOf (doneNo ∷ a ∷ s .made ∷ []) s ≡ batchTold b all
-batch-through b a s all p e = rw p (ap (batchTold b) e)
+pub batch-through : (base b a : ℕ) (s : St) (all : Ran St Refusal) → a ≡ b → done s ≡ all → toldOf (doneNo ∷ a ∷ s .made ∷ []) s ≡ fromTold base b all
+batch-through base b a s all p e = rw p (ap (fromTold base b) e)
+
+-- numbered from 0 on, a line's number is its place
+pub from-zero : (nos : List ℕ) (coords : List Float) (paths : List ℕ) (room a b : ℕ) (s : St)
+    → fromTold 0 b (batchFrom 0 nos coords paths room a b s) ≡ batchTold b (batch nos coords paths room a b s)
+from-zero nos coords paths room a b s =
+    told (batchFrom 0 nos coords paths room a b s)
+    ∙ ap (batchTold b) (λ i. batchOf (λ k. lineStep nos coords paths room (zero-add k i) k) a (b - a) s)
+  where
+    told : (o : Ran St Refusal) → fromTold 0 b o ≡ batchTold b o
+    told (done t) = refl
+    told (refused t why) = rw (zero-add (why .line))
 
 -- a batch from a to b and then one from b to c is one from a to c, refusals included
 pub batches : (nos : List ℕ) (coords : List Float) (paths : List ℕ) (room a b c : ℕ) (s : St) → a ≤ b → b ≤ c

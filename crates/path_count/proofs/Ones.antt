@@ -28,7 +28,7 @@ use Rattle.acts.proofs.Laws.{rows-end}
 use Rattle.acts.proofs.Lines.{batch-goes}
 use Rattle.hits.specs.Steps.{hitAt}
 use Rattle.path_count.specs.Count.{planBy, lineStep, lineRan}
-use Rattle.path_count.specs.Ones.{firstRan}
+use Rattle.path_count.specs.Ones.{firstRan, batchFrom}
 use Rattle.hits.proofs.StepLaws.{hit-on}
 use Rattle.path_count.proofs.Lines.{walk-done, line-walked, ran-taken}
 
@@ -89,20 +89,8 @@ run-one nos coords paths l k n made cs₀ rs₀ cs rs cs′ rs′ t e h a ec er 
     run-more (λ j. lineStep nos coords paths (length rs₀ / refWords) (l + j) (k + j)) n (stOf bs cs₀ rs₀ made) s _ inv
     (ap (λ (m : ℕ). done (stOf bs cs′ rs′ m)) q ∙ p ∙ ap (λ (m : ℕ). lineRan (lineStep nos coords paths (m / refWords) (l + n) (k + n) s) s) e)
 
--- a run of one line is that line, and one of none leaves all as it was
-module _ (nos : List ℕ) (coords : List Float) (paths : List ℕ) (room l k made : ℕ) (bs : List ℤ) (cs rs cs′ rs′ : List ℕ) (n : ℕ)
-    (g : done (stOf bs cs′ rs′ (made + n)) ≡ firstRan (λ j. lineStep nos coords paths room (l + j) (k + j)) n (stOf bs cs rs made)) where
-  pub run-single : n ≡ 1 → done (stOf bs cs′ rs′ (made + 1)) ≡ lineRan (lineStep nos coords paths room l k (stOf bs cs rs made)) (stOf bs cs rs made)
-  run-single e = rw (add-zero l, add-zero k) at (rw e at g)
-
-  pub run-none : n ≡ 0 → (cs′ ≡ cs) × (rs′ ≡ rs)
-  run-none e =
-      let h : done (stOf bs cs′ rs′ (made + 0)) ≡ done (stOf bs cs rs made) = rw e at g in
-      let q : stOf bs cs′ rs′ (made + 0) ≡ stOf bs cs rs made = cc in
-      (ap (λ (s : St). s .counts) q, ap (λ (s : St). s .refs) q)
-
 -- what is left of a batch after its first n lines says what all says
-pub run-left : (f : ℕ → St → Step St ℕ) (a e n : ℕ) (s t : St) → a + n ≤ e → done t ≡ firstRan (λ j. f (a + j)) n s
+run-left : (f : ℕ → St → Step St ℕ) (a e n : ℕ) (s t : St) → a + n ≤ e → done t ≡ firstRan (λ j. f (a + j)) n s
     → batchOf f (a + n) (e - (a + n)) t ≡ batchOf f a (e - a) s
 run-left f a e zero s t h g =
     let q : t ≡ s = cc in
@@ -117,3 +105,11 @@ run-left f a e (suc n) s t h g = go (run-left f a e n s) (firstRan (λ j. f (a +
         let m : a + suc n ≡ a + n + 1 = omega arith in
         ap (λ (i : ℕ). batchOf f i (e - i) t) m
         ∙ batch-goes f (a + n) e u (omega arith) (batchOf f a (e - a) s) (ih u (omega arith) (sym q)) t (ran-taken (f (a + n) u) u t k)
+
+-- the same of a batch whose lines are numbered from base on
+pub ones-left : (nos : List ℕ) (coords : List Float) (paths : List ℕ) (room base a e n : ℕ) (s t : St) → a + n ≤ e
+    → done t ≡ firstRan (λ j. lineStep nos coords paths room (base + a + j) (a + j)) n s
+    → batchFrom base nos coords paths room (a + n) e t ≡ batchFrom base nos coords paths room a e s
+ones-left nos coords paths room base a e n s t h g =
+    let q : (j : ℕ) → base + a + j ≡ base + (a + j) = λ j. omega arith in
+    run-left (λ k. lineStep nos coords paths room (base + k) k) a e n s t h (g ∙ λ i. firstRan (λ j. lineStep nos coords paths room (q j i) (a + j)) n s)

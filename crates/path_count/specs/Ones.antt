@@ -1,16 +1,18 @@
--- What is said of a run of lines that each lie within one tile. Only proofs lean on this: no promise of a public call does. Definitions only.
+-- What is said of a run of lines that each lie within one tile, and of a batch by its lines' numbers. Only proofs lean on this: no promise of a public call does. Definitions only.
 use mathlib.Core.Path.{_≡_}
 use mathlib.Core.Bool.{Bool, cond}
-use mathlib.Core.List.{List}
+use mathlib.Core.List.{List, [], _∷_}
 use Prim.Native.Nat.{ℕ, zero, suc, _+_, _-_, _/_, _<_, _≤_, _^_, min}
 use lib.ListN.{length}
 use lib.IntN.{ℤ}
 use lib.Ieee.{Float}
-use Rattle.lists.specs.Run.{Step, Ran, done, andThen}
+use Rattle.lists.specs.Run.{Step, Ran, done, refused, andThen}
+use Rattle.panel.specs.Refusals.{doneNo}
 use Rattle.panel.specs.Widths.{refWords}
 use Rattle.panel.specs.declared.kinds.Running.{Running}
 use Rattle.acts.specs.Acts.{St, stOf}
-use Rattle.path_count.specs.Count.{lineStep, lineRan, batch}
+use Rattle.acts.specs.Line.{Refusal, batchOf}
+use Rattle.path_count.specs.Count.{lineStep, lineRan, Told, toldOf}
 
 -- after so many misses in a row nothing is asked
 abbrev pub tries : ℕ
@@ -31,9 +33,19 @@ OnesMet nos coords paths l k many made cs rs cs′ rs′ r =
     (r ≤ many) × (made + r < 2 ^ 32)
     × ((bs : List ℤ) → done (stOf bs cs′ rs′ (made + r)) ≡ firstRan (λ j. lineStep nos coords paths (length rs / refWords) (l + j) (k + j)) r (stOf bs cs rs made))
 
+-- ---- a batch whose lines are numbered from base on: the line at place k has the number base + k
+
+abbrev pub batchFrom : ℕ → (nos : List ℕ) (coords : List Float) (paths : List ℕ) (room a b : ℕ) → St → Ran St Refusal
+batchFrom base nos coords paths room a b s = batchOf (λ k. lineStep nos coords paths room (base + k) k) a (b - a) s
+
+-- up to place b: all its lines, or those before the line refused, which is named by its number
+abbrev pub fromTold : (base b : ℕ) → Ran St Refusal → Told
+fromTold base b (done s) = toldOf (doneNo ∷ b ∷ s .made ∷ []) s
+fromTold base b (refused s why) = toldOf (why .no ∷ (base + why .line) ∷ why .line ∷ s .made ∷ []) s
+
 -- some lines up to end are counted, from the running numbers s to r: to count those left from here is to count all from there
-abbrev pub LeftMet : (nos : List ℕ) (coords : List Float) (paths : List ℕ) → ℕ → Running → (cs rs cs′ rs′ : List ℕ) → Running → Type 0
-LeftMet nos coords paths end s cs rs cs′ rs′ r =
+abbrev pub LeftMet : ℕ → (nos : List ℕ) (coords : List Float) (paths : List ℕ) → ℕ → Running → (cs rs cs′ rs′ : List ℕ) → Running → Type 0
+LeftMet base nos coords paths end s cs rs cs′ rs′ r =
     (s .lines ≤ r .lines) × (r .lines ≤ end)
-    × ((bs : List ℤ) → batch nos coords paths (length rs / refWords) (r .lines) end (stOf bs cs′ rs′ (r .refs))
-    ≡ batch nos coords paths (length rs / refWords) (s .lines) end (stOf bs cs rs (s .refs)))
+    × ((bs : List ℤ) → batchFrom base nos coords paths (length rs / refWords) (r .lines) end (stOf bs cs′ rs′ (r .refs))
+    ≡ batchFrom base nos coords paths (length rs / refWords) (s .lines) end (stOf bs cs rs (s .refs)))

@@ -1,13 +1,14 @@
 // A batch of lines, and the public call, which asks nothing of its caller.
 ghost use mathlib.Core.Path.{_≡_};
-ghost use Prim.Native.Nat.{_*_, _/_, _≤_};
+ghost use Prim.Native.Nat.{_+_, _*_, _/_, _≤_, _<_, _^_};
 ghost use lib.ListN.{length};
 ghost use Rattle.panel.specs.Widths.{refWords, lineFloats};
 ghost use Rattle.panel.specs.Checks.{firstNo};
 ghost use Rattle.panel.specs.Paths.{pathsAnswer};
 ghost use Rattle.panel.specs.declared.kinds.Answer.the-variants.{Done};
 ghost use Rattle.acts.specs.Acts.{stOf};
-ghost use Rattle.path_count.specs.Count.{numberOf, lineStep, lineRan, tallyRan, batch, paperOf, madeOf, toldOf, batchTold, lentChecks, CountMet, Lent, There};
+ghost use Rattle.path_count.specs.Count.{numberOf, lineStep, lineRan, tallyRan, paperOf, madeOf, toldOf, lentChecks, CountMet, Lent, There};
+ghost use Rattle.path_count.specs.Ones.{batchFrom, fromTold};
 ghost use Rattle.hits.specs.Notes.{noteWords};
 use super::kinds::Counted;
 use super::kinds::Tallied;
@@ -36,8 +37,9 @@ fn number(t: Tallied) -> u32
     }
 }
 
-// The next line, which doesn't lie within one tile or wasn't asked. A line's number is its place.
+// The next line, which doesn't lie within one tile or wasn't asked. The number of the line at place k is base + k.
 fn count_at(
+    base: u32,
     s: Running,
     path_nos: &[u32],
     coords: &[f32],
@@ -47,15 +49,16 @@ fn count_at(
     counts: &mut [u32],
     refs: &mut [u32],
 ) -> Tallied
-    requires { ⌜ Lent (now paths) (length (now backs)) (length (now counts)) × There (s .lines) (length (now «path_nos»)) (length (now coords)) × (length (now notes) ≡ noteWords) ⌝ }
+    requires { ⌜ Lent (now paths) (length (now backs)) (length (now counts)) × There (s .lines) (length (now «path_nos»)) (length (now coords)) × (length (now notes) ≡ noteWords)
+        × (base + s .lines < 2 ^ 32) ⌝ }
     ensures { λ r. ⌜ tallyRan r (stOf (now (backs .exit)) (now (counts .exit)) (now (refs .exit))) (s .refs)
-        ≡ lineRan (lineStep (now («path_nos» .entry)) (now (coords .entry)) (now (paths .entry)) (length (now (refs .entry)) / refWords) (s .lines) (s .lines)
+        ≡ lineRan (lineStep (now («path_nos» .entry)) (now (coords .entry)) (now (paths .entry)) (length (now (refs .entry)) / refWords) (base + s .lines) (s .lines)
         (stOf (now (backs .entry)) (now (counts .entry)) (now (refs .entry)) (s .refs)))
         (stOf (now (backs .entry)) (now (counts .entry)) (now (refs .entry)) (s .refs)) ⌝ }
 {
     let l = s.lines;
     count_other(
-        LineNo(l),
+        LineNo(base + l),
         l,
         s.refs,
         path_nos,
@@ -68,32 +71,34 @@ fn count_at(
     )
 }
 
-// The lines from the lines so far up to the end named. Lines within one tile are asked for first, run by run; not after
-// TRIES lines of several references with no run between them, as such lines mostly come together. Which way a line is
-// counted changes nothing of it.
-fn count_batch(
+// The lines at the places from the lines so far up to the end named; the number of the line at place k is base + k. Lines
+// within one tile are asked for first, run by run; not after TRIES lines of several references with no run between them,
+// as such lines mostly come together. Which way a line is counted changes nothing of it. The notes are room to work in.
+pub fn count_batch(
+    base: u32,
     running: Running,
     end: u32,
     path_nos: &[u32],
     coords: &[f32],
     paths: &[u32],
+    notes: &mut [u32],
     backs: &mut [i32],
     counts: &mut [u32],
     refs: &mut [u32],
 ) -> Counted
     requires { ⌜ Lent (now paths) (length (now backs)) (length (now counts)) × (running .lines ≤ end)
-        × (end ≤ length (now «path_nos»)) × (end * lineFloats ≤ length (now coords)) ⌝ }
+        × (end ≤ length (now «path_nos»)) × (end * lineFloats ≤ length (now coords)) × (length (now notes) ≡ noteWords) × (base + end ≤ 2 ^ 32) ⌝ }
     ensures { λ r. ⌜ toldOf (paperOf r) (stOf (now (backs .exit)) (now (counts .exit)) (now (refs .exit)) (madeOf r))
-        ≡ batchTold end (batch (now («path_nos» .entry)) (now (coords .entry)) (now (paths .entry)) (length (now (refs .entry)) / refWords) (running .lines) end
+        ≡ fromTold base end (batchFrom base (now («path_nos» .entry)) (now (coords .entry)) (now (paths .entry)) (length (now (refs .entry)) / refWords) (running .lines) end
         (stOf (now (backs .entry)) (now (counts .entry)) (now (refs .entry)) (running .refs))) ⌝ }
 {
-    let mut notes = [0u32; NOTE_ROOM];
     let mut misses: u32 = 0;
     let mut s = running;
     while s.lines < end {
         let at = s.lines;
         s = ones_if(
             misses < TRIES,
+            base,
             s,
             end,
             path_nos,
@@ -105,9 +110,9 @@ fn count_batch(
         if s.lines == end {
             return Counted::Done(s);
         }
-        let t = count_at(s, path_nos, coords, paths, &mut notes, backs, counts, refs);
+        let t = count_at(base, s, path_nos, coords, paths, notes, backs, counts, refs);
         let Tallied::On(n) = t else {
-            return Counted::Refused(number(t), s.lines, s);
+            return Counted::Refused(number(t), base + s.lines, s);
         };
         misses = misses_after(misses, (s.lines > at) | (n <= 1));
         s = s.stepped(n);
@@ -167,12 +172,15 @@ pub fn count_checked(
     if let Verdict::Against(why) = v {
         return Counted::Refused(why, 0, running);
     }
+    let mut notes = [0u32; NOTE_ROOM];
     count_batch(
+        0,
         running,
         end,
         path_nos,
         coords,
         paths,
+        &mut notes,
         backdrops,
         counts,
         refs,

@@ -8,7 +8,7 @@ mod line;
 mod runs;
 
 pub use call::count;
+pub use call::count_batch;
 pub use call::count_checked;
 pub use kinds::Counted;
 pub use kinds::Tallied;
-pub use line::count_noted;

@@ -10,7 +10,6 @@ ghost use Rattle.hits.specs.Notes.{noteWords, OnTiles};
 ghost use Rattle.path_count.specs.Count.{rowsBy, planOf, lineRan, tallyRan, unwalkedOf, lineStep, Walkable, Lent, There};
 use super::direct::count_direct;
 use super::kinds::Tallied;
-use super::runs::count_ones;
 use acts::Rows;
 use clip::Clip;
 use clip::clip_to;
@@ -150,42 +149,4 @@ pub(crate) fn count_other(
         return unwalked(walked);
     };
     count_walk(line, made, walk, path, notes, backs, counts, refs)
-}
-
-// The line at a place of those lent, as line number line: the two need not be the same. The notes are
-// room to work in.
-pub fn count_noted(
-    line: LineNo,
-    place: u32,
-    made: u32,
-    path_nos: &[u32],
-    coords: &[f32],
-    paths: &[u32],
-    notes: &mut [u32],
-    backs: &mut [i32],
-    counts: &mut [u32],
-    refs: &mut [u32],
-) -> Tallied
-    requires { ⌜ Lent (now paths) (length (now backs)) (length (now counts)) × There place (length (now «path_nos»)) (length (now coords)) × (length (now notes) ≡ noteWords) ⌝ }
-    ensures { λ r. ⌜ tallyRan r (stOf (now (backs .exit)) (now (counts .exit)) (now (refs .exit))) made
-        ≡ lineRan (lineStep (now («path_nos» .entry)) (now (coords .entry)) (now (paths .entry)) (length (now (refs .entry)) / refWords) (line .0) place
-        (stOf (now (backs .entry)) (now (counts .entry)) (now (refs .entry)) made))
-        (stOf (now (backs .entry)) (now (counts .entry)) (now (refs .entry)) made) ⌝ }
-{
-    let n = count_ones(line, place, 1, made, path_nos, coords, paths, counts, refs);
-    if n == 1 {
-        return Tallied::On(1);
-    }
-    count_other(
-        line,
-        place,
-        made,
-        path_nos,
-        coords,
-        paths,
-        notes,
-        backs,
-        counts,
-        refs,
-    )
 }

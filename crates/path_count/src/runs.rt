@@ -2,7 +2,7 @@
 // to call a function for it: so a run is counted in one loop. Nothing is refused here: the run ends before the first line
 // that doesn't lie so, or has no room, and `line.rt` says what becomes of that line.
 ghost use mathlib.Core.Path.{_≡_};
-ghost use Prim.Native.Nat.{_+_, _-_, _*_, _/_, _≤_, _^_, min};
+ghost use Prim.Native.Nat.{_+_, _-_, _*_, _/_, _≤_, _<_, _^_, min};
 ghost use lib.ListN.{length};
 ghost use Rattle.panel.specs.Limits.{mostLines};
 ghost use Rattle.panel.specs.Paths.{pathsAnswer};
@@ -71,9 +71,11 @@ pub(crate) fn count_ones(
     n
 }
 
-// The running numbers after the first lines of those up to end that each lie within one tile, where this is asked.
+// The running numbers after the first lines of those up to end that each lie within one tile, where this is asked. The
+// number of the line at place k is base + k.
 pub(crate) fn ones_if(
     ask: bool,
+    base: u32,
     s: Running,
     end: u32,
     path_nos: &[u32],
@@ -82,9 +84,9 @@ pub(crate) fn ones_if(
     counts: &mut [u32],
     refs: &mut [u32],
 ) -> Running
-    requires { ⌜ (pathsAnswer (now paths) (length (now counts)) ≡ Done) × (s .lines ≤ end)
-        × (end ≤ length (now «path_nos»)) × (end * lineFloats ≤ length (now coords)) ⌝ }
-    ensures { λ r. ⌜ LeftMet (now («path_nos» .entry)) (now (coords .entry)) (now (paths .entry)) end s
+    requires { ⌜ (pathsAnswer (now paths) (length (now counts)) ≡ Done) × (s .lines < end)
+        × (end ≤ length (now «path_nos»)) × (end * lineFloats ≤ length (now coords)) × (base + end ≤ 2 ^ 32) ⌝ }
+    ensures { λ r. ⌜ LeftMet base (now («path_nos» .entry)) (now (coords .entry)) (now (paths .entry)) end s
         (now (counts .entry)) (now (refs .entry)) (now (counts .exit)) (now (refs .exit)) r ⌝ }
 {
     if !ask {
@@ -92,7 +94,7 @@ pub(crate) fn ones_if(
     }
     let l = s.lines;
     let n = count_ones(
-        LineNo(l),
+        LineNo(base + l),
         l,
         end - l,
         s.refs,

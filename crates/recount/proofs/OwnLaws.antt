@@ -26,34 +26,37 @@ use Rattle.path_count.specs.Count.{walkedStep, lineStep}
 use Rattle.path_count.proofs.Lines.{line-made}
 use Rattle.recount.specs.Recount.{ownWalk, ownStep, otherNo}
 
--- ---- a part of the lines lent, from line k on: its first line is line k
+-- ---- a part of the lines lent, from line k on: its line j is line k + j
 
-line-part : (coords : List Float) (k : ℕ) → lineAt (drop (k * lineFloats) coords) 0 ≡ lineAt coords k
+line-part : (coords : List Float) (k j : ℕ) → lineAt (drop (k * lineFloats) coords) j ≡ lineAt coords (k + j)
 unfolding lineAt
-line-part coords k =
+line-part coords k j =
     let n = k * lineFloats in
-    let x0 : getD (drop n coords) 0 nan ≡ getD coords n nan = getD-drop n coords 0 nan ∙ ap (λ (j : ℕ). getD coords j nan) (add-zero n) in
-    let y0 = getD-drop n coords 1 nan in
-    let x1 = getD-drop n coords 2 nan in
-    let y1 = getD-drop n coords 3 nan in
+    let m = j * lineFloats in
+    let at : (i : ℕ) → n + (m + i) ≡ (k + j) * lineFloats + i = λ i. omega arith in
+    let first : n + m ≡ (k + j) * lineFloats = omega arith in
+    let x0 = getD-drop n coords m nan ∙ ap (λ (i : ℕ). getD coords i nan) first in
+    let y0 = getD-drop n coords (m + 1) nan ∙ ap (λ (i : ℕ). getD coords i nan) (at 1) in
+    let x1 = getD-drop n coords (m + 2) nan ∙ ap (λ (i : ℕ). getD coords i nan) (at 2) in
+    let y1 = getD-drop n coords (m + 3) nan ∙ ap (λ (i : ℕ). getD coords i nan) (at 3) in
     λ i. record { p0 = record { x = x0 i; y = y0 i }; p1 = record { x = x1 i; y = y1 i } }
 
 -- its path number
-first-of : (nos ns : List ℕ) (k : ℕ) → ns ≡ drop k nos → getD ns 0 0 ≡ getD nos k 0
-first-of nos ns k e = ap (λ (xs : List ℕ). getD xs 0 0) e ∙ getD-drop k nos 0 0 ∙ ap (λ (j : ℕ). getD nos j 0) (add-zero k)
+number-part : (nos ns : List ℕ) (k j : ℕ) → ns ≡ drop k nos → getD ns j 0 ≡ getD nos (k + j) 0
+number-part nos ns k j e = ap (λ (xs : List ℕ). getD xs j 0) e ∙ getD-drop k nos j 0
 
--- and why it is refused where it is of another path
+-- and of the first, why it is refused where it is of another path
 pub other-part : (coords : List Float) (l k : ℕ) (fs : List Float) → fs ≡ drop (k * lineFloats) coords → otherNo l (lineAt fs 0) ≡ otherNo l (lineAt coords k)
-other-part coords l k fs e = ap (otherNo l) (ap (λ (xs : List Float). lineAt xs 0) e ∙ line-part coords k)
+other-part coords l k fs e = ap (otherNo l) (ap (λ (xs : List Float). lineAt xs 0) e ∙ line-part coords k 0 ∙ ap (lineAt coords) (add-zero k))
+
+own-part : (p : ℕ) (nos : List ℕ) (coords : List Float) (paths : List ℕ) (room l k j : ℕ) (s : St) (ns : List ℕ) (fs : List Float) → ns ≡ drop k nos → fs ≡ drop (k * lineFloats) coords
+    → ownStep p ns fs paths room l j s ≡ ownStep p nos coords paths room l (k + j) s
+unfolding ownStep
+own-part p nos coords paths room l k j s ns fs en ef =
+    ap₂ (λ (q : ℕ) (e : LineEnds). haltIf (leb mostLines l) lineNumber (walkedStep room l (ownWalk p paths q e) s))
+    (number-part nos ns k j en) (ap (λ (xs : List Float). lineAt xs j) ef ∙ line-part coords k j)
 
 module _ (p : ℕ) (nos : List ℕ) (coords : List Float) (paths : List ℕ) (room l k : ℕ) (s : St) where
-  own-part : (ns : List ℕ) (fs : List Float) → ns ≡ drop k nos → fs ≡ drop (k * lineFloats) coords
-      → ownStep p ns fs paths room l 0 s ≡ ownStep p nos coords paths room l k s
-  unfolding ownStep
-  own-part ns fs en ef =
-      ap₂ (λ (q : ℕ) (e : LineEnds). haltIf (leb mostLines l) lineNumber (walkedStep room l (ownWalk p paths q e) s))
-      (first-of nos ns k en) (ap (λ (xs : List Float). lineAt xs 0) ef ∙ line-part coords k)
-
   -- ---- a line of the path named is counting's own
 
   pub own-same : p < pathCount paths → getD nos k 0 ≡ p → ownStep p nos coords paths room l k s ≡ lineStep nos coords paths room l k s
@@ -86,9 +89,10 @@ module _ (p : ℕ) (nos : List ℕ) (coords : List Float) (paths : List ℕ) (ro
   pub own-made : p < pathCount paths → s .made < 2 ^ 32 → (u : St) → ownStep p nos coords paths room l k s ≡ taken u → u .made < 2 ^ 32
   own-made h m u e = line-made nos coords paths room l k s u m (sym (own-same h (own-taken u e)) ∙ e)
 
--- ---- a line of the path named is counting's own first line of the lines from it on
+-- ---- a line of the path named is counting's own line of a part of the lines
 
-module _ (p : ℕ) (nos : List ℕ) (coords : List Float) (paths : List ℕ) (room l k : ℕ) (s : St) where
-  pub own-rest : p < pathCount paths → getD nos k 0 ≡ p → (ns : List ℕ) (fs : List Float) → ns ≡ drop k nos → fs ≡ drop (k * lineFloats) coords
-      → lineStep ns fs paths room l 0 s ≡ ownStep p nos coords paths room l k s
-  own-rest h e ns fs en ef = sym (own-same p ns fs paths room l 0 s h (first-of nos ns k en ∙ e)) ∙ own-part p nos coords paths room l k s ns fs en ef
+pub own-rest : (p : ℕ) (nos : List ℕ) (coords : List Float) (paths : List ℕ) (room l k j : ℕ) (s : St) → p < pathCount paths → getD nos (k + j) 0 ≡ p
+    → (ns : List ℕ) (fs : List Float) → ns ≡ drop k nos → fs ≡ drop (k * lineFloats) coords
+    → lineStep ns fs paths room l j s ≡ ownStep p nos coords paths room l (k + j) s
+own-rest p nos coords paths room l k j s h e ns fs en ef =
+    sym (own-same p ns fs paths room l j s h (number-part nos ns k j en ∙ e)) ∙ own-part p nos coords paths room l k j s ns fs en ef

@@ -1,4 +1,4 @@
-// The new lines of the path, in order: each is counting's own line, where it is of this path.
+// The new lines of the path, in order, stretch by stretch: each is counting's own line, where it is of this path.
 ghost use mathlib.Core.Path.{_≡_};
 ghost use Prim.Native.Nat.{_+_, _*_, _/_, _≤_, _<_};
 ghost use lib.ListN.{length};
@@ -6,20 +6,21 @@ ghost use Rattle.panel.specs.Paths.{pathCount};
 ghost use Rattle.panel.specs.Widths.{refWords, lineFloats};
 ghost use Rattle.panel.specs.Lines.{lineAt};
 ghost use Rattle.acts.specs.Acts.{stOf};
-ghost use Rattle.hits.specs.Notes.{noteWords};
-ghost use Rattle.path_count.specs.Count.{lineRan, tallyRan, toldOf, Lent, There};
-ghost use Rattle.recount.specs.Recount.{otherNo, ownStep, linesRan, linesTold, paperOf, madeOf};
+ghost use Rattle.path_count.specs.Count.{toldOf, Lent};
+ghost use Rattle.recount.specs.Recount.{otherNo, linesRan, linesTold, paperOf, madeOf};
+ghost use Rattle.recount.specs.Stretches.{Stretch};
 use super::kinds::Recounted;
 use hits::NOTE_ROOM;
 use panel::kinds::LineNo;
+use panel::kinds::Running;
 use panel::limits::MOST_LINES;
 use panel::lines::line_at;
 use panel::refusals::COORDINATE;
 use panel::refusals::LINE_NUMBER;
 use panel::refusals::NO_SUCH;
 use panel::widths::LINE_FLOATS;
-use path_count::Tallied;
-use path_count::count_noted;
+use path_count::Counted;
+use path_count::count_batch;
 use walk::setup::reached;
 
 // Why the first line lent is refused, which is of another path: 5 and 6 come first.
@@ -39,48 +40,31 @@ fn other_no(line: LineNo, coords: &[f32]) -> u32
     COORDINATE
 }
 
-// Line k of those lent, as line number line: counting's first line of the lines from it on, as a line has its place in 32
-// bits and more may be lent. The notes are room to work in.
-fn own_line(
-    path: u32,
-    line: LineNo,
-    k: usize,
-    made: u32,
-    path_nos: &[u32],
-    coords: &[f32],
-    paths: &[u32],
-    notes: &mut [u32],
-    backs: &mut [i32],
-    counts: &mut [u32],
-    refs: &mut [u32],
-) -> Tallied
-    requires { ⌜ Lent (now paths) (length (now backs)) (length (now counts)) × (path < pathCount (now paths))
-        × There k (length (now «path_nos»)) (length (now coords)) × (length (now notes) ≡ noteWords) ⌝ }
-    ensures { λ r. ⌜ tallyRan r (stOf (now (backs .exit)) (now (counts .exit)) (now (refs .exit))) made
-        ≡ lineRan (ownStep path (now («path_nos» .entry)) (now (coords .entry)) (now (paths .entry)) (length (now (refs .entry)) / refWords) (line .0) k
-        (stOf (now (backs .entry)) (now (counts .entry)) (now (refs .entry)) made))
-        (stOf (now (backs .entry)) (now (counts .entry)) (now (refs .entry)) made) ⌝ }
+// How many lines from line k on are of this path and numbered one after the other. None, where line k is of another path.
+fn stretch(path: u32, line_nos: &[u32], path_nos: &[u32], k: usize) -> u32
+    requires { ⌜ (k < length (now «path_nos»)) × (length (now «line_nos») ≡ length (now «path_nos»)) ⌝ }
+    ensures { λ r. ⌜ Stretch path (now («line_nos» .entry)) (now («path_nos» .entry)) k r ⌝ }
 {
-    let at = k * LINE_FLOATS;
-    let named = path_nos[k];
-    if named != path {
-        return Tallied::Against(other_no(line, &coords[at..]));
+    let first = line_nos[k] as u64;
+    let mut n: u32 = 0;
+    while n < MOST_LINES {
+        let at = k + (n as usize);
+        if at >= path_nos.len() {
+            return n;
+        }
+        if path_nos[at] != path {
+            return n;
+        }
+        if line_nos[at] as u64 != first + (n as u64) {
+            return n;
+        }
+        n += 1;
     }
-    count_noted(
-        line,
-        0,
-        made,
-        &path_nos[k..],
-        &coords[at..],
-        paths,
-        notes,
-        backs,
-        counts,
-        refs,
-    )
+    n
 }
 
-// All of them, as references 0, 1, .. Their numbers are lent beside them.
+// All of them, as references 0, 1, .. Their numbers are lent beside them. A stretch of lines that are numbered one after
+// the other is a batch of counting's own.
 pub(crate) fn count_lines(
     path: u32,
     line_nos: &[u32],
@@ -102,13 +86,20 @@ pub(crate) fn count_lines(
     let mut k: usize = 0;
     while k < path_nos.len() {
         let l = line_nos[k];
-        let t = own_line(
-            path,
-            LineNo(l),
-            k,
-            made,
-            path_nos,
-            coords,
+        let at = k * LINE_FLOATS;
+        let n = stretch(path, line_nos, path_nos, k);
+        if n == 0 {
+            return Recounted::Refused(other_no(LineNo(l), &coords[at..]), l, made);
+        }
+        let t = count_batch(
+            l,
+            Running {
+                lines: 0,
+                refs: made,
+            },
+            n,
+            &path_nos[k..],
+            &coords[at..],
             paths,
             &mut notes,
             backs,
@@ -116,14 +107,14 @@ pub(crate) fn count_lines(
             refs,
         );
         match t {
-            Tallied::Against(why) => {
-                return Recounted::Refused(why, l, made);
+            Counted::Refused(why, item, s) => {
+                return Recounted::Refused(why, item, s.refs);
             }
-            Tallied::On(n) => {
-                made += n;
+            Counted::Done(s) => {
+                made = s.refs;
             }
         }
-        k += 1;
+        k += n as usize;
     }
     Recounted::Done(made)
 }

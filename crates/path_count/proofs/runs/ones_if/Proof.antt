@@ -1,14 +1,13 @@
 -- `path_count::runs::ones_if` meets its contract.
 -- Assumes nothing.
-use mathlib.Core.Path.{_≡_, refl}
-use Prim.Native.Nat.{ℕ, _+_, _-_, _/_, _≤_}
+use mathlib.Core.Path.{_≡_}
+use Prim.Native.Nat.{ℕ, _+_, _/_, _≤_}
 use native.Mathlib.Omega.{arith}
 use lib.ListN.{length}
 use borrow.Author.Needs.{needs}
 use Rattle.panel.specs.Widths.{refWords}
 use Rattle.acts.specs.Acts.{stOf}
-use Rattle.path_count.specs.Count.{lineStep}
-use Rattle.path_count.proofs.Ones.{run-left}
+use Rattle.path_count.proofs.Ones.{ones-left}
 use Rattle.path_count.proofs.runs.ones_if.Statement.{statement}
 use Rattle.path_count.proofs.runs.ones_if.Tie as tie
 use Rattle.path_count.proofs.runs.ones_if.Reads as reads
@@ -16,23 +15,22 @@ use Rattle.path_count.proofs.runs.ones_if.Lts as lts
 use Rattle.path_count.proofs.runs.count_ones.Reads as count-ones-reads
 
 returns : tie.Need-returns
-returns c = (omega arith, c .before .before .before .before .before .before .pre .1, λ bs. refl)
-
-sub-count-ones : tie.Need-sub-count-ones
-sub-count-ones c = c .before .before .before .before .before .before .pre .1
-
-count-ones-requires : tie.Need-count-ones-requires
-count-ones-requires c κs =
-    let p = c .before .before .before .before .before .before .before .before .pre in
-    let a = c .before .before .before .before .before .before .before .before .args in
-    let e : a .s .lines + (a .end - a .s .lines) ≡ a .end = omega (arith, p .1) in
-    rw e (p .0, omega arith, p .2, p .3)
+returns c = search needs
 
 add-t13 : tie.Need-add-t13
-add-t13 c = omega (arith, c .before .before .before .before .before .before .before .before .before .before .before .before .before .pre .1, c .before .before .before .before .count-ones .ensures .0)
+add-t13 c = search needs
 
-add-t18 : tie.Need-add-t18
-add-t18 c = omega (arith, c .before .before .before .before .before .count-ones .ensures .1)
+sub-count-ones : tie.Need-sub-count-ones
+sub-count-ones c = search needs
+
+count-ones-requires : tie.Need-count-ones-requires
+count-ones-requires c κs = search needs
+
+add-t13-2 : tie.Need-add-t13-2
+add-t13-2 c = search needs
+
+add-t15 : tie.Need-add-t15
+add-t15 c = search needs
 
 same-length : tie.Need-same-length
 same-length c = search needs
@@ -47,7 +45,7 @@ returns-2 c =
     let h : a .s .lines + n .result ≤ a .end = omega (arith, c .before .before .before .before .before .before .before .before .before .before .before .before .before .before .pre .1, n .ensures .0) in (
       omega arith,
       h,
-      λ bs. run-left (λ l. lineStep (a .path-nos .now) (a .coords .now) (a .paths .now) (length (a .refs .now) / refWords) l l) (a .s .lines) (a .end) (n .result)
+      λ bs. ones-left (a .path-nos .now) (a .coords .now) (a .paths .now) (length (a .refs .now) / refWords) (a .base) (a .s .lines) (a .end) (n .result)
           (stOf bs (a .counts .now) (a .refs .now) (a .s .refs)) _ h (n .ensures .2 bs),
     )
 
@@ -56,10 +54,11 @@ ones-if-spec =
     tie.close
     (tie.spec
     returns
+    add-t13
     sub-count-ones
     count-ones-requires
-    add-t13
-    add-t18
+    add-t13-2
+    add-t15
     same-length
     same-length-2
     returns-2)
