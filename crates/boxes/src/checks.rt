@@ -21,9 +21,9 @@ use panel::refusals::NOT_WHOLE;
 use panel::refusals::TOO_MANY;
 use panel::widths::LINE_FLOATS;
 use panel::widths::PATH_WORDS;
+use setup::reached;
 use util::TILE_SCALE;
 use util::Vec2;
-use walk::setup::reached;
 
 // Words of working room for each path.
 pub const BOX_WORDS: usize = 4;

@@ -18,7 +18,7 @@ use Rattle.exact.proofs.Spans.{smaller-ge, near-pick}
 use Rattle.walk.specs.Num.{float}
 use Rattle.walk.specs.Setup.{Scaled}
 use Rattle.walk.specs.Skip.{pastOf}
-use Rattle.walk.specs.Step.{edgesOf}
+use Rattle.box_edges.specs.Edges.{edgesOf}
 use Rattle.walk.specs.Around.{leastOf, lastOf}
 use Rattle.walk.specs.declared.kinds.Walk.{Walk}
 use Rattle.clip.proofs.Unclipped.{Unclipped}

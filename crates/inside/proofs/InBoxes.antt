@@ -8,7 +8,7 @@ use Rattle.walk.specs.Setup.{endsOf, countsOf, walkOn}
 use Rattle.walk.specs.Page.{lineOf, by-parts}
 use Rattle.walk.specs.Skip.{flatOf}
 use Rattle.walk.specs.Lent.{Reached}
-use Rattle.walk.specs.Step.{edgesOf}
+use Rattle.box_edges.specs.Edges.{edgesOf}
 use Rattle.walk.specs.declared.kinds.Walk.{Walk}
 use Rattle.walk.proofs.Counts.{ends-scaled}
 use Rattle.walk.proofs.Lines.{walks}

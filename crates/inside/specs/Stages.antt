@@ -5,7 +5,7 @@ use Rattle.util.specs.declared.Vec2.{Vec2}
 use Rattle.walk.specs.Setup.{countsOf, slopeOf, aOf, bOf}
 use Rattle.walk.specs.Skip.{flatOf}
 use Rattle.walk.specs.Around.{leastOf, lastOf}
-use Rattle.walk.specs.declared.edges.Edges.{Edges}
+use Rattle.box_edges.specs.declared.Edges.{Edges}
 use Rattle.walk.specs.declared.kinds.Pace.{Pace}
 use Rattle.inside.specs.declared.Inside.{Inside}
 use Rattle.inside.specs.declared.Inside.the-variants.{In, Other}

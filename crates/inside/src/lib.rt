@@ -1,5 +1,5 @@
 // A line that lies inside its path's box: its walk is not clipped and passes no row left of the box, so that its pace and
-// the number of its steps say all. Where it says nothing, the line is left to `walk` and `clip`.
+// the number of its steps say all. Where it says nothing, the line is left to `setup` and `clip`.
 ghost use mathlib.Core.Path.{_≡_};
 ghost use mathlib.Core.Bool.{false};
 ghost use Prim.Native.Nat.{_+_, _*_, _≤_};
@@ -11,20 +11,20 @@ ghost use Rattle.walk.specs.Setup.{Scaled, endsOf};
 ghost use Rattle.walk.specs.Step.{Boxed};
 ghost use Rattle.inside.specs.Inside.{InsideMet};
 ghost use Rattle.inside.specs.Stages.{inEdgesOf, pacedOf};
+use box_edges::Edges;
+use box_edges::edges_of;
 use float32::pick;
 use panel::kinds::Path;
 use panel::lines::end_at;
 use panel::lines::line_at;
+use setup::count_steps;
+use setup::flat;
+use setup::incline;
+use setup::rise;
+use setup::start;
 use util::TILE_SCALE;
 use util::Vec2;
-use walk::edges::Edges;
-use walk::edges::edges_of;
 use walk::kinds::Pace;
-use walk::setup::count_steps;
-use walk::setup::flat;
-use walk::setup::incline;
-use walk::setup::rise;
-use walk::setup::start;
 
 // A line's pace, and its steps; or a line to be looked at in another way.
 pub enum Inside {
@@ -64,7 +64,7 @@ fn in_edges(s0: Vec2, s1: Vec2, g: Edges) -> bool
 }
 
 // The pace and the steps of a checked line, by its ends in tiles; or nothing where it is skipped. The numbers are those of
-// `walk::setup`.
+// `setup`.
 fn paced(s0: Vec2, s1: Vec2) -> Inside
     requires { ⌜ Scaled s0 × Scaled s1 × (lt (s1 .y) (s0 .y) ≡ false) ⌝ }
     ensures { λ r. ⌜ r ≡ pacedOf s0 s1 ⌝ }

@@ -12,6 +12,8 @@ ghost use Rattle.looks.specs.Look.{lent, FoundFits, foundTo};
 ghost use Rattle.looks.specs.Carry.{HasZs};
 ghost use Rattle.looks.specs.One.{one, oneOf};
 ghost use Rattle.line_runs.specs.Runs.{ranOf, runOf, lineRun, Some};
+use carry::Zs;
+use carry::no_zs;
 use looks::Look;
 use panel::kinds::Answer;
 use panel::kinds::LineNo;
@@ -19,8 +21,6 @@ use panel::kinds::Verdict;
 use panel::refs::named_at;
 use panel::refs::packed_at;
 use panel::segments::put;
-use walk::carry::Zs;
-use walk::carry::no_zs;
 use walk::kinds::Walked;
 
 // One reference, whose line is as the walk found it and has this tag, with the z's of its step.

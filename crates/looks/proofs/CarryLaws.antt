@@ -12,8 +12,8 @@ use Rattle.util.specs.declared.Vec2.{Vec2}
 use Rattle.panel.specs.Widths.{stepRange}
 use Rattle.panel.specs.declared.kinds.Path.{Path}
 use Rattle.walk.specs.Step.{Boxed, stepOf}
-use Rattle.walk.specs.Carry.{zsOf, noZs, Carried}
-use Rattle.walk.specs.declared.carry.Zs.{Zs}
+use Rattle.carry.specs.Carry.{zsOf, noZs, Carried}
+use Rattle.carry.specs.declared.Zs.{Zs}
 use Rattle.walk.specs.declared.kinds.Pace.{Pace}
 use Rattle.walk.specs.declared.kinds.Walk.{Walk}
 use Rattle.walk.specs.declared.kinds.Walked.{Walked}
@@ -21,7 +21,7 @@ use Rattle.walk.specs.declared.kinds.Walked.the-variants.{Refused, Skipped, Lin
 use Rattle.walk.specs.declared.step.Step.{Step}
 use Rattle.walk.specs.declared.step.Step.the-variants as On
 use Rattle.walk.proofs.Walks.{StartsAt}
-use Rattle.walk.proofs.CarryLaws.{none-carried, own-carried}
+use Rattle.carry.proofs.CarryLaws.{none-carried, own-carried}
 use Rattle.segment.specs.By.{cornerAt, pieceBy}
 use Rattle.segment.proofs.By.{piece-is}
 use Rattle.looks.specs.Look.{wordTo, stepTo}

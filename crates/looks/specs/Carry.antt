@@ -4,8 +4,8 @@ use mathlib.Core.Path.{_≡_}
 use mathlib.Core.List.{List}
 use lib.ListN.{getD}
 use Rattle.panel.specs.Refusals.{outside}
-use Rattle.walk.specs.Carry.{zsOf, Carried}
-use Rattle.walk.specs.declared.carry.Zs.{Zs}
+use Rattle.carry.specs.Carry.{zsOf, Carried}
+use Rattle.carry.specs.declared.Zs.{Zs}
 use Rattle.walk.specs.declared.step.Step as Step
 use Rattle.walk.specs.declared.step.Step.the-variants as On
 use Rattle.walk.specs.declared.kinds.Walked as Walked

@@ -7,11 +7,15 @@ ghost use Rattle.panel.specs.Widths.{lineFloats, stepRange};
 ghost use Rattle.panel.specs.Paths.{endOf};
 ghost use Rattle.exact.specs.Reach.{Starts};
 ghost use Rattle.walk.specs.Step.{Boxed, stepOf};
-ghost use Rattle.walk.specs.Carry.{zsOf};
+ghost use Rattle.carry.specs.Carry.{zsOf};
 ghost use Rattle.segment.specs.By.{pieceBy};
 ghost use Rattle.panel.specs.Refs.{stepNo};
 ghost use Rattle.looks.specs.Look.{StepFits, FoundFits, pieceTo, wordTo, stepTo, foundTo, foundOf};
 ghost use Rattle.looks.specs.Carry.{stepBy, Carries, HasZs};
+use box_edges::edges_of;
+use box_edges::step_with;
+use carry::Zs;
+use carry::zs_at;
 use panel::kinds::LineNo;
 use panel::kinds::Path;
 use panel::kinds::SlotNo;
@@ -26,10 +30,6 @@ use panel::slots::flipped;
 use panel::slots::skips;
 use segment::Piece;
 use util::Vec2;
-use walk::carry::Zs;
-use walk::carry::zs_at;
-use walk::edges::edges_of;
-use walk::edges::step_with;
 use walk::kinds::Walk;
 use walk::kinds::Walked;
 use walk::step::Step;
@@ -118,7 +118,7 @@ pub fn found_at(path_nos: &[u32], coords: &[f32], paths: &[u32], line: LineNo) -
     ensures { λ r. ⌜ r ≡ foundOf (now («path_nos» .entry)) (now (coords .entry)) (now (paths .entry)) (line .0) ⌝ }
 {
     if (line.0 as usize) < path_nos.len() {
-        walk::setup::walk_at(path_nos, coords, paths, line.0)
+        setup::walk_at(path_nos, coords, paths, line.0)
     } else {
         Walked::Refused(NO_SUCH)
     }

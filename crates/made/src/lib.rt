@@ -10,13 +10,13 @@ ghost use Rattle.exact.specs.Reach.{Starts};
 ghost use Rattle.walk.specs.Step.{Boxed};
 ghost use Rattle.path_count.specs.Count.{planOf};
 ghost use Rattle.made.specs.Made.{stepMade, planMade, walkMade, madeOf, WalkFits};
+use box_edges::edges_of;
+use box_edges::step_by;
 use clip::clip_to;
 use panel::kinds::Path;
-use walk::edges::edges_of;
-use walk::edges::step_by;
+use setup::walk_at;
 use walk::kinds::Walk;
 use walk::kinds::Walked;
-use walk::setup::walk_at;
 use walk::step::Step;
 
 // A step that a line makes: how many steps of its clipped walk stand before it, and its tile. Or no

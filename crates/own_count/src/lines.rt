@@ -16,8 +16,8 @@ use super::steps::own_walk;
 use panel::limits::MOST_LINES;
 use panel::refusals::LINE_NUMBER;
 use path_count::Tallied;
+use setup::walk_at;
 use walk::kinds::Walked;
-use walk::setup::walk_at;
 
 // The line with that number, after made references.
 fn own_line(

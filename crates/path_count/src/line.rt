@@ -24,9 +24,9 @@ use panel::refusals::COUNT_OVER;
 use panel::refusals::LINE_NUMBER;
 use panel::refusals::NO_ROOM;
 use panel::widths::REF_WORDS;
+use setup::walk_at;
 use walk::kinds::Walk;
 use walk::kinds::Walked;
-use walk::setup::walk_at;
 use walk_steps::check_line;
 use walk_steps::write_line;
 

@@ -21,7 +21,7 @@ use panel::refusals::NO_SUCH;
 use panel::widths::LINE_FLOATS;
 use path_count::Counted;
 use path_count::count_batch;
-use walk::setup::reached;
+use setup::reached;
 
 // Why the first line lent is refused, which is of another path: 5 and 6 come first.
 fn other_no(line: LineNo, coords: &[f32]) -> u32

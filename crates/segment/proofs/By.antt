@@ -9,13 +9,13 @@ use Rattle.panel.specs.declared.kinds.Path.{Path}
 use Rattle.panel.specs.declared.kinds.TileNo.{TileNo}
 use Rattle.walk.specs.Num.{float}
 use Rattle.walk.specs.Step.{Boxed, zAt, stepOf}
-use Rattle.walk.specs.Carry.{zsOf}
+use Rattle.carry.specs.Carry.{zsOf}
 use Rattle.walk.specs.declared.kinds.Pace.{Pace}
 use Rattle.walk.specs.declared.kinds.Walk.{Walk}
 use Rattle.walk.specs.declared.step.Step.the-variants.{Tile}
 use Rattle.walk.proofs.Walks.{StartsAt}
 use Rattle.walk.proofs.Tiles.{step-told}
-use Rattle.walk.proofs.Corners.{step-floats}
+use Rattle.carry.proofs.Corners.{step-floats}
 use Rattle.segment.specs.Clips.{cornerOf, firstOf, lastOf, segmentOf, pieceOf}
 use Rattle.segment.specs.By.{cornerAt, firstBy, lastBy, segmentBy, pieceBy}
 

@@ -8,7 +8,7 @@ use Rattle.util.specs.Constants.{zero, tileSide}
 use Rattle.util.specs.Vec.{newOf, subOf}
 use Rattle.util.specs.declared.Vec2.{Vec2}
 use Rattle.walk.specs.Num.{float}
-use Rattle.walk.specs.declared.carry.Zs.{Zs}
+use Rattle.carry.specs.declared.Zs.{Zs}
 use Rattle.walk.specs.declared.kinds.Pace.{Pace}
 use Rattle.walk.specs.declared.kinds.Walk.{Walk}
 use Rattle.panel.specs.Segments.{heldOf}

@@ -8,11 +8,11 @@ ghost use Rattle.panel.specs.Limits.{edgeMost};
 ghost use Rattle.panel.specs.Widths.{stepRange};
 ghost use Rattle.segment.specs.Clips.{cornerOf, farOf, atRowOf, atColOf, clipOf, makeOf, edgeOf, offOf, turnOf};
 ghost use Rattle.segment.specs.By.{cornerAt, firstBy, lastBy, segmentBy, pieceBy};
+use carry::Zs;
 use float32::pick;
 use panel::segments::Segment;
 use panel::segments::held;
 use util::Vec2;
-use walk::carry::Zs;
 use walk::kinds::Pace;
 use walk::kinds::Walk;
 

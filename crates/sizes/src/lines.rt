@@ -17,9 +17,9 @@ use panel::refusals::COUNT_OVER;
 use panel::refusals::LINE_NUMBER;
 use panel::refusals::NO_ROOM;
 use path_count::Tallied;
+use setup::walk_at;
 use walk::kinds::Walk;
 use walk::kinds::Walked;
-use walk::setup::walk_at;
 
 // A walk, after made references.
 fn size_walk(walk: Walk, path: Path, made: u32) -> Tallied

@@ -6,7 +6,6 @@
 --     Step    a step's tile
 --     Lent    a line as it is lent: what is refused, skipped or walked
 --     Around   the tile edges around a line, taken once; for proofs
---     Carry   the z's that tiling carries from step to step; for proofs
 pub mod Num
 pub mod Setup
 pub mod Page
@@ -14,4 +13,3 @@ pub mod Skip
 pub mod Step
 pub mod Lent
 pub mod Around
-pub mod Carry

@@ -14,7 +14,6 @@ use Rattle.panel.specs.declared.kinds.Path.{Path}
 use Rattle.walk.specs.Num.{float, cutOf, insideOf}
 use Rattle.walk.specs.declared.kinds.Pace.{Pace}
 use Rattle.walk.specs.declared.step.Step.{Step}
-use Rattle.walk.specs.declared.edges.Edges.{Edges}
 use Rattle.walk.specs.declared.step.Step.the-variants.{Tile, Refused}
 
 -- a path that passed its checks: its box's edges are within the limit and in order, and its tiles are among those that may be lent
@@ -24,10 +23,6 @@ pub record Boxed (b : Path) : Type 0 where
   pub wide : b .x1 ≤ edgeMost
   pub high : b .y1 ≤ edgeMost
   pub last : endOf b ≤ mostTiles
-
--- its box's edges as floats
-abbrev pub edgesOf : Path → Edges
-edgesOf b = record { left = float (b .x0); top = float (b .y0); right = float (b .x1); bottom = float (b .y1) }
 
 -- the tile in column x and row y is in the box
 pub record Within (b : Path) (x y : ℕ) : Type 0 where

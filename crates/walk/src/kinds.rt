@@ -1,5 +1,5 @@
 // What a line is on its way over the tiles: its numbers, a struct for each stage of
-// path_count.rs, lines 22 to 52, and what can become of it. `setup.rt` makes them.
+// path_count.rs, lines 22 to 52, and what can become of it. `setup` makes them.
 use panel::kinds::Path;
 use util::Vec2;
 

@@ -1,5 +1,5 @@
 // A line as it is lent that lies inside its path's box: what counting needs of its walk, which is not clipped and passes no
-// row left of the box. Of any other line it says nothing, and the line is left to `walk` and `clip`.
+// row left of the box. Of any other line it says nothing, and the line is left to `setup` and `clip`.
 ghost use mathlib.Core.Path.{_≡_};
 ghost use Prim.Native.Nat.{_+_, _*_, _<_, _≤_};
 ghost use lib.ListN.{length};

@@ -7,7 +7,7 @@ use Prim.Native.Nat.{_+_, _*_}
 use Rattle.panel.specs.Lines.{lineAt}
 use Rattle.panel.specs.Widths.{lineFloats}
 use Rattle.walk.specs.Setup.{endsOf}
-use Rattle.walk.specs.Step.{edgesOf}
+use Rattle.box_edges.specs.Edges.{edgesOf}
 use Rattle.walk.specs.Lent.{Reached}
 use Rattle.walk.proofs.Counts.{ends-scaled}
 use Rattle.walk.proofs.Lines.{turned-off}

@@ -13,7 +13,7 @@ use Rattle.own_count.proofs.lines.own_line.Tie as tie
 use Rattle.own_count.proofs.lines.own_line.Reads as reads
 use Rattle.own_count.proofs.lines.own_line.Lts as lts
 use Rattle.own_count.proofs.steps.own_walk.Reads as own-walk-reads
-use Rattle.walk.proofs.setup.walk_at.Reads as walk-at-reads
+use Rattle.setup.proofs.walk_at.Reads as walk-at-reads
 
 walk-at-requires : tie.Need-walk-at-requires
 walk-at-requires c κs = search needs

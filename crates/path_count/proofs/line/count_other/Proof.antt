@@ -30,7 +30,7 @@ use Rattle.path_count.proofs.line.count_other.Lts as lts
 use Rattle.path_count.proofs.direct.count_direct.Reads as count-direct-reads
 use Rattle.path_count.proofs.line.count_walk.Reads as count-walk-reads
 use Rattle.path_count.proofs.line.unwalked.Reads as unwalked-reads
-use Rattle.walk.proofs.setup.walk_at.Reads as walk-at-reads
+use Rattle.setup.proofs.walk_at.Reads as walk-at-reads
 
 returns : tie.Need-returns
 returns c =

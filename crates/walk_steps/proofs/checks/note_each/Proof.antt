@@ -23,7 +23,7 @@ use Rattle.walk_steps.proofs.checks.note_each.Tie as tie
 use Rattle.walk_steps.proofs.checks.note_each.Reads as reads
 use Rattle.walk_steps.proofs.checks.note_each.Lts as lts
 use Rattle.walk_steps.proofs.checks.note_step.Reads as note-step-reads
-use Rattle.walk.proofs.edges.edges_of.Reads as edges-of-reads
+use Rattle.box_edges.proofs.edges_of.Reads as edges-of-reads
 use Rattle.walk.proofs.step.z_at.Reads as z-at-reads
 
 abbrev Inv-loop : tie.InvT-loop

@@ -31,7 +31,7 @@ use Rattle.acts.proofs.leaves.Reads as leaves-reads
 use Rattle.walk_steps.proofs.checks.check_step.Reads as check-step-reads
 use Rattle.acts.proofs.next_if.Reads as next-if-reads
 use Rattle.walk.proofs.step.crosses.Reads as crosses-reads
-use Rattle.walk.proofs.edges.step_by.Reads as step-by-reads
+use Rattle.box_edges.proofs.step_by.Reads as step-by-reads
 use Rattle.strides.proofs.word_of.Reads as word-of-reads
 
 step-by-requires : tie.Need-step-by-requires

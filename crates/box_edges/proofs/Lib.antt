@@ -1,0 +1,2 @@
+-- A step's tests by the box's edges as floats. Assumes nothing.
+pub mod Sides

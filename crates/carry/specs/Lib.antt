@@ -1,0 +1,2 @@
+-- The z's that tiling carries from step to step. Definitions only.
+pub mod Carry
