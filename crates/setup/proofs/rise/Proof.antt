@@ -1,6 +1,6 @@
 -- `setup::rise` meets its contract. Assumes nothing.
 use borrow.Author.Needs.{needs}
-use mathlib.Core.Path.{_≡_}
+use mathlib.Core.Path.{_≡_, refl}
 use Rattle.walk.proofs.Counts.{in-float}
 use Rattle.walk.specs.Setup.{aOf}
 use Rattle.setup.proofs.rise.Statement.{statement}
@@ -20,7 +20,7 @@ copysign-requires c κs = search needs
 
 returns : tie.Need-returns
 unfolding aOf
-returns c = rw (rw (c .before .before .floor .ensures) at (c .before .if1 .taken)) (cc)
+returns c = rw (← c .before .before .floor .ensures, c .before .if1 .taken, c .copysign .ensures) refl
 
 returns-2 : tie.Need-returns-2
 unfolding aOf
