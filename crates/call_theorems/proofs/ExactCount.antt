@@ -17,7 +17,8 @@ use Rattle.panel.specs.declared.kinds.Answer.the-variants.{Done, Refused}
 use Rattle.panel.proofs.CheckLaws.{unless-fine, unless-done}
 use Rattle.acts.specs.Acts.{St, stOf}
 use Rattle.acts.specs.Line.{Refusal}
-use Rattle.path_count.specs.Count.{batch, lineStep, callAnswer, counted, CountMet}
+use Rattle.walked_lines.specs.Line.{lineStep}
+use Rattle.path_count.specs.Count.{batch, callAnswer, counted, CountMet}
 use Rattle.path_count.specs.declared.kinds.Counted.{Counted}
 use Rattle.path_count.specs.declared.kinds.Counted.the-variants as Counted
 use Rattle.theorems.proofs.OneAnswer.{one-count}

@@ -22,7 +22,8 @@ use Rattle.walk.specs.declared.kinds.Walked.the-variants.{Refused, Skipped, Lin
 use Rattle.acts.specs.Acts.{St, stOf, Act, mark, visit, stop, marked, visited, takeIf, runActs, deltaOf}
 use Rattle.acts.specs.Line.{Plan, planActs, haltIf, tooFar, planStep, atLine, batchOf}
 use Rattle.acts.proofs.Whole.{no-stop, plan-taken}
-use Rattle.path_count.specs.Count.{planOf, walkedStep, lineStep, batch}
+use Rattle.walked_lines.specs.Line.{planOf, walkedStep, lineStep}
+use Rattle.path_count.specs.Count.{batch}
 use Rattle.check_theorems.proofs.Lines.{at-taken}
 
 -- the same with another list of references

@@ -20,7 +20,8 @@ use Rattle.panel.specs.declared.kinds.Answer.the-variants.{Done}
 use Rattle.walk.specs.Lent.{walkAt}
 use Rattle.acts.specs.Acts.{St}
 use Rattle.acts.specs.Line.{atLine, batchOf}
-use Rattle.path_count.specs.Count.{lineStep, batch}
+use Rattle.walked_lines.specs.Line.{lineStep}
+use Rattle.path_count.specs.Count.{batch}
 use Rattle.made.specs.Made.{walkMade, madeOf}
 use Rattle.made.specs.declared.Made.the-variants.{At, Not}
 use Rattle.theorems.specs.Drawn.{drawnAt, walkOf, actsBy, deltaBy}

@@ -20,7 +20,7 @@ use Rattle.walk.specs.declared.kinds.Walked.the-variants.{Refused, Skipped, Lin
 use Rattle.acts.specs.Acts.{St, Act, mark, visit, stop, Hit, on, off, rowActs, stepActs, stepsActs, marked, visited, runActs}
 use Rattle.acts.specs.Line.{Plan, planActs}
 use Rattle.acts.proofs.Whole.{on-taken, no-stop}
-use Rattle.path_count.specs.Count.{planOf}
+use Rattle.walked_lines.specs.Line.{planOf}
 use Rattle.made.specs.Made.{hitMade, planMade, walkMade}
 use Rattle.made.specs.declared.Made.the-variants.{At, Not}
 use Rattle.theorems.specs.Drawn.{actsBy}

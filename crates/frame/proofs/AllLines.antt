@@ -18,7 +18,8 @@ use Rattle.panel.specs.Checks.{firstNo}
 use Rattle.acts.specs.Acts.{St, stOf}
 use Rattle.acts.specs.Line.{Refusal}
 use Rattle.acts.proofs.Lines.{batch-stops}
-use Rattle.path_count.specs.Count.{lineStep, batch, batchTold, lentChecks, callAnswer, counted}
+use Rattle.walked_lines.specs.Line.{lineStep}
+use Rattle.path_count.specs.Count.{batch, batchTold, lentChecks, callAnswer, counted}
 use Rattle.path_count.proofs.Batches.{batches}
 
 module _ (nos : List ℕ) (coords : List Float) (paths : List ℕ) (room m : ℕ) (most : mostLines ≤ m) where

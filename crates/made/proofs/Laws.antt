@@ -24,8 +24,8 @@ use Rattle.clip.specs.declared.Clip.{Clip}
 use Rattle.acts.specs.Acts.{Hit, on, off}
 use Rattle.acts.specs.Line.{Plan}
 use Rattle.hits.specs.Steps.{hitOf, hitAt}
-use Rattle.path_count.specs.Count.{planOf, Lent}
-use Rattle.path_count.proofs.Lines.{on-tiles, walkable, starts}
+use Rattle.walked_lines.specs.Line.{planOf, Lent}
+use Rattle.walked_lines.proofs.Lines.{on-tiles, walkable, starts}
 use Rattle.made.specs.Made.{hitMade, planMade, walkMade, madeOf, stepMade, WalkFits}
 use Rattle.made.specs.declared.Made.{Made}
 use Rattle.made.specs.declared.Made.the-variants.{At, Not}

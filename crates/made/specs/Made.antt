@@ -14,7 +14,7 @@ use Rattle.walk.specs.declared.kinds.Walked.{Walked}
 use Rattle.walk.specs.declared.kinds.Walked.the-variants.{Refused, Skipped, Line}
 use Rattle.acts.specs.Acts.{Hit, on, off}
 use Rattle.acts.specs.Line.{Plan}
-use Rattle.path_count.specs.Count.{planOf}
+use Rattle.walked_lines.specs.Line.{planOf}
 use Rattle.made.specs.declared.Made.{Made}
 use Rattle.made.specs.declared.Made.the-variants.{At, Not}
 

@@ -8,7 +8,7 @@ ghost use Rattle.panel.specs.Paths.{pathsAnswer};
 ghost use Rattle.panel.specs.declared.kinds.Answer.the-variants.{Done};
 ghost use Rattle.exact.specs.Reach.{Starts};
 ghost use Rattle.walk.specs.Step.{Boxed};
-ghost use Rattle.path_count.specs.Count.{planOf};
+ghost use Rattle.walked_lines.specs.Line.{planOf};
 ghost use Rattle.made.specs.Made.{stepMade, planMade, walkMade, madeOf, WalkFits};
 use box_edges::edges_of;
 use box_edges::step_by;

@@ -39,7 +39,8 @@ use Rattle.acts.specs.Acts.{St, Act, mark, visit, stop, Hit, on, off, rowActs, 
 use Rattle.acts.specs.Rows.{rowsActs}
 use Rattle.acts.specs.Line.{Plan, planActs, Refusal}
 use Rattle.acts.proofs.Once.{check-run}
-use Rattle.path_count.specs.Count.{Told, planOf, lineStep, batch, batchTold, callAnswer, counted, paperOf, CountMet}
+use Rattle.walked_lines.specs.Line.{planOf, lineStep}
+use Rattle.path_count.specs.Count.{Told, batch, batchTold, callAnswer, counted, paperOf, CountMet}
 use Rattle.path_count.specs.declared.kinds.Counted.{Counted}
 use Rattle.path_count.specs.declared.kinds.Counted.the-variants as Counted
 use Rattle.path_count.proofs.Batches.{counted-once}

@@ -23,8 +23,8 @@ use Rattle.acts.specs.Line.{refsOf, planActs, atLine, batchOf}
 use Rattle.acts.proofs.Once as Once
 use Rattle.acts.proofs.Once.{Free, Once}
 use Rattle.acts.proofs.Whole.{plan-refs}
-use Rattle.path_count.specs.Count.{planOf, lineStep}
-use Rattle.path_count.proofs.Lines.{not-far}
+use Rattle.walked_lines.specs.Line.{planOf, lineStep}
+use Rattle.walked_lines.proofs.Lines.{not-far}
 use Rattle.theorems.specs.Drawn.{drawnAt, drawn, actsBy, tilesIn, tilesOf}
 use Rattle.theorems.specs.Events.{eventsIn, eventsAt, eventsOf}
 use Rattle.theorems.specs.Refs.{AllCounted}

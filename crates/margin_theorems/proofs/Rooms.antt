@@ -18,7 +18,8 @@ use Rattle.walk.specs.declared.kinds.Walk.{Walk}
 use Rattle.walk.specs.declared.kinds.Walked.{Walked}
 use Rattle.walk.specs.declared.kinds.Walked.the-variants.{Refused, Skipped, Line}
 use Rattle.walk.proofs.Walks.{line-told}
-use Rattle.path_count.specs.Count.{planOf, callAnswer}
+use Rattle.walked_lines.specs.Line.{planOf}
+use Rattle.path_count.specs.Count.{callAnswer}
 use Rattle.margin.specs.Room.{stepsMost}
 use Rattle.margin.proofs.Steps.{steps-most}
 use Rattle.theorems.specs.Refs.{AllCounted}

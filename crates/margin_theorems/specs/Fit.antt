@@ -17,7 +17,8 @@ use Rattle.walk.specs.Lent.{lineAt, Reached, walkAt}
 use Rattle.walk.specs.declared.kinds.Walked.{Walked}
 use Rattle.walk.specs.declared.kinds.Walked.the-variants.{Refused as WalkRefused, Skipped, Line}
 use Rattle.acts.specs.Acts.{stOf}
-use Rattle.path_count.specs.Count.{planOf, toldOf, paperOf}
+use Rattle.walked_lines.specs.Line.{planOf}
+use Rattle.path_count.specs.Count.{toldOf, paperOf}
 use Rattle.path_count.specs.declared.kinds.Counted.the-variants.{Refused}
 use Rattle.path_tiling.specs.Tiling.{slotsOf}
 use Rattle.frame.specs.declared.kinds.Stage.the-variants as Stage

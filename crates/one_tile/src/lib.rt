@@ -1,6 +1,6 @@
 // A line that lies within one tile, off its edges, as it is counted: most lines of a trace are. Its one step is on that
 // tile and marks nothing, so it needs no walk. Nothing is written here, and nothing refused: where the tile's count or the
-// references are at their limit, and of any other line, it says nothing, and the line is left to `path_count`'s walk.
+// references are at their limit, and of any other line, it says nothing, and the line is left to `one_line`.
 ghost use mathlib.Core.Path.{_≡_};
 ghost use Prim.Native.Nat.{_+_, _*_, _<_, _≤_};
 ghost use lib.ListN.{length};

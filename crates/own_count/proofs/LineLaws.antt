@@ -25,9 +25,10 @@ use Rattle.acts.specs.Acts.{St, runActs, deltaOf}
 use Rattle.acts.specs.Line.{Plan, planActs, planStep, Refusal, batchOf}
 use Rattle.acts.proofs.Once.{said-no}
 use Rattle.acts.proofs.Lines.{plan-far, plan-full, plan-runs, plan-done, batch-goes, batch-stops, batch-ends}
-use Rattle.path_count.specs.Count.{planBy, planOf, lineStep, lineRan, batch}
-use Rattle.path_count.specs.declared.kinds.Tallied.{Tallied}
-use Rattle.path_count.proofs.Lines.{not-far, is-far, line-over, line-made, ran-halted}
+use Rattle.walked_lines.specs.Line.{planBy, planOf, lineStep, lineRan}
+use Rattle.path_count.specs.Count.{batch}
+use Rattle.walked_lines.specs.declared.Tallied.{Tallied}
+use Rattle.walked_lines.proofs.Lines.{not-far, is-far, line-over, line-made, ran-halted}
 use Rattle.path_count.proofs.Batches.{batches}
 use Rattle.own_count.specs.Own.{zeroed, ownTo}
 use Rattle.own_count.specs.View.{viewOf, KeptFrom, ActsRan, Acted, StepAs, startOf, StartsNoted}

@@ -11,8 +11,8 @@ use Rattle.panel.specs.declared.kinds.Verdict.{Verdict}
 use Rattle.panel.specs.declared.kinds.Verdict.the-variants.{Fine, Against}
 use Rattle.acts.specs.Acts.{St, stOf, Act, runActs, verdictOf}
 use Rattle.acts.specs.Line.{Refusal}
-use Rattle.path_count.specs.declared.kinds.Tallied.{Tallied}
-use Rattle.path_count.specs.declared.kinds.Tallied.the-variants.{On, Against as TallyAgainst}
+use Rattle.walked_lines.specs.declared.Tallied.{Tallied}
+use Rattle.walked_lines.specs.declared.Tallied.the-variants.{On, Against as TallyAgainst}
 use Rattle.own_count.specs.Own.{ownTo, ownRan}
 use Rattle.own_count.specs.declared.Own.{Own}
 use Rattle.own_count.specs.declared.Own.the-variants.{Done, Refused}

@@ -7,7 +7,7 @@ ghost use Rattle.panel.specs.Limits.{mostLines, mostSlots};
 ghost use Rattle.panel.specs.Widths.{lineFloats};
 ghost use Rattle.panel.specs.Paths.{pathsAnswer};
 ghost use Rattle.panel.specs.declared.kinds.Answer.the-variants.{Done};
-ghost use Rattle.path_count.specs.Count.{lineStep};
+ghost use Rattle.walked_lines.specs.Line.{lineStep};
 ghost use Rattle.own_count.specs.Own.{zeroed};
 ghost use Rattle.own_count.specs.View.{viewOf, KeptFrom, StepAs, Filled, OwnMet};
 use super::Own;
@@ -15,9 +15,9 @@ use super::ZERO_BACK;
 use super::steps::own_walk;
 use panel::limits::MOST_LINES;
 use panel::refusals::LINE_NUMBER;
-use path_count::Tallied;
 use setup::walk_at;
 use walk::kinds::Walked;
+use walked_lines::Tallied;
 
 // The line with that number, after made references.
 fn own_line(

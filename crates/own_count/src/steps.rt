@@ -7,7 +7,7 @@ ghost use Rattle.acts.specs.Acts.{stepActs, stepsActs, deltaOf};
 ghost use Rattle.acts.specs.Line.{planActs, planStep};
 ghost use Rattle.hits.specs.Steps.{hitAt};
 ghost use Rattle.hits.specs.Notes.{OnTiles};
-ghost use Rattle.path_count.specs.Count.{planBy, planOf, Walkable, Clipped};
+ghost use Rattle.walked_lines.specs.Line.{planBy, planOf, Walkable, Clipped};
 ghost use Rattle.own_count.specs.View.{viewOf, KeptFrom, Acted, StepAs};
 use super::words::own_hit;
 use super::words::own_rows;
@@ -21,13 +21,13 @@ use panel::limits::MOST_STEPS;
 use panel::refusals::COUNT_OVER;
 use panel::refusals::NO_ROOM;
 use panel::refusals::OUTSIDE;
-use path_count::Tallied;
 use walk::kinds::Pace;
 use walk::kinds::Walk;
 use walk::step::Step;
 use walk::step::crosses;
 use walk::step::step_at;
 use walk::step::z_at;
+use walked_lines::Tallied;
 
 // One step.
 fn own_step(work: &mut [u32], n: usize, pace: Pace, path: Path, up: bool, i: u32) -> Verdict

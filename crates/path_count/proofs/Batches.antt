@@ -3,15 +3,14 @@
 use mathlib.Core.Path.{_≡_, refl, sym, ap, ap₂, _∙_}
 use mathlib.Core.Bool.{true}
 use mathlib.Core.List.{List, [], _∷_}
-use Prim.Native.Nat.{ℕ, _+_, _-_, _*_, _/_, _%_, _<_, _≤_}
-use native.Mathlib.Nat.{add-zero, zero-add}
+use Prim.Native.Nat.{ℕ, _+_, _-_, _*_, _/_, _%_, _≤_}
+use native.Mathlib.Nat.{zero-add}
 use native.Mathlib.Omega.{arith}
 use lib.ListN.{length}
 use lib.IntN.{ℤ}
 use lib.Ieee.{Float}
 use borrow.Author.Tests.{leb-true, eqb-true}
-use Rattle.lists.specs.Run.{Step, taken, halted, Ran, done, refused, andThen}
-use Rattle.panel.specs.Limits.{mostLines}
+use Rattle.lists.specs.Run.{Ran, done, refused, andThen}
 use Rattle.panel.specs.Refusals.{doneNo}
 use Rattle.panel.specs.Widths.{lineFloats, refWords}
 use Rattle.panel.specs.Checks.{firstNo, unless}
@@ -22,35 +21,17 @@ use Rattle.panel.specs.declared.kinds.Answer.the-variants.{Done as AnswerDone, 
 use Rattle.panel.specs.declared.kinds.Verdict.{Verdict}
 use Rattle.panel.specs.declared.kinds.Verdict.the-variants.{Fine, Against}
 use Rattle.panel.proofs.CheckLaws.{all-ok, unless-no, unless-fine}
-use Rattle.walk.specs.Lent.{walkAt}
-use Rattle.walk.specs.declared.kinds.Walked.{Walked}
-use Rattle.walk.specs.declared.kinds.Walked.the-variants.{Refused as WalkRefused, Skipped, Line}
 use Rattle.acts.specs.Acts.{St, stOf}
 use Rattle.acts.specs.Line.{Refusal, batchOf}
 use Rattle.acts.proofs.Lines.{batch-cut}
 use Rattle.panel.specs.Kinds.{runningOf}
-use Rattle.path_count.specs.Count.{paperOf, lineStep, lineRan, tallyRan, unwalkedOf, batch, Told, toldOf, batchTold, lentChecks, callAnswer, callTold, counted, Lent}
-use Rattle.path_count.specs.Ones.{batchFrom, fromTold}
-use Rattle.path_count.specs.declared.kinds.Tallied.{Tallied}
+use Rattle.walked_lines.specs.Line.{lineStep}
+use Rattle.path_count.specs.Count.{paperOf, batch, Told, toldOf, batchTold, lentChecks, callAnswer, callTold, counted}
+use Rattle.short_runs.specs.Ones.{firstRan}
+use Rattle.short_runs.proofs.Ones.{run-left}
+use Rattle.path_count.specs.Runs.{batchFrom, fromTold}
 use Rattle.path_count.specs.declared.kinds.Counted.{Counted}
 use Rattle.path_count.specs.declared.kinds.Counted.the-variants.{Done, Refused}
-use Rattle.path_count.proofs.Lines.{line-walked}
-
--- ---- a line with no walk
-
-abbrev pub NoWalk : Walked → Type 0
-NoWalk (WalkRefused n) = Unit {0}
-NoWalk Skipped = Unit {0}
-NoWalk (Line w b) = ⊥
-
-pub line-unwalked : (nos : List ℕ) (coords : List Float) (paths : List ℕ) (room l k : ℕ) (bs : List ℤ) (cs rs : List ℕ) (made : ℕ) (x : Walked) (t : Tallied)
-    → l < mostLines → walkAt nos coords paths k ≡ x → NoWalk x → t ≡ unwalkedOf x
-    → tallyRan t (stOf bs cs rs) made ≡ lineRan (lineStep nos coords paths room l k (stOf bs cs rs made)) (stOf bs cs rs made)
-line-unwalked nos coords paths room l k bs cs rs made (WalkRefused n) t h e u f =
-    rw (f, line-walked nos coords paths room l k (stOf bs cs rs made) (WalkRefused n) h e)
-line-unwalked nos coords paths room l k bs cs rs made Skipped t h e u f =
-    rw (f, line-walked nos coords paths room l k (stOf bs cs rs made) Skipped h e, add-zero made)
-line-unwalked nos coords paths room l k bs cs rs made (Line w b) t h e u f = absurd u
 
 -- ---- a batch
 
@@ -86,6 +67,14 @@ from-zero nos coords paths room a b s =
     told : (o : Ran St Refusal) → fromTold 0 b o ≡ batchTold b o
     told (done t) = refl
     told (refused t why) = rw (zero-add (why .line))
+
+-- what is left of a batch after a run of its first lines says what all of it says
+pub ones-left : (nos : List ℕ) (coords : List Float) (paths : List ℕ) (room base a e n : ℕ) (s t : St) → a + n ≤ e
+    → done t ≡ firstRan (λ j. lineStep nos coords paths room (base + a + j) (a + j)) n s
+    → batchFrom base nos coords paths room (a + n) e t ≡ batchFrom base nos coords paths room a e s
+ones-left nos coords paths room base a e n s t h g =
+    let q : (j : ℕ) → base + a + j ≡ base + (a + j) = λ j. omega arith in
+    run-left (λ k. lineStep nos coords paths room (base + k) k) a e n s t h (g ∙ λ i. firstRan (λ j. lineStep nos coords paths room (q j i) (a + j)) n s)
 
 -- a batch from a to b and then one from b to c is one from a to c, refusals included
 pub batches : (nos : List ℕ) (coords : List Float) (paths : List ℕ) (room a b c : ℕ) (s : St) → a ≤ b → b ≤ c

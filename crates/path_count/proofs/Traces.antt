@@ -21,7 +21,8 @@ use Rattle.clip.specs.Page.{clippedOf}
 use Rattle.acts.specs.Acts.{rowActs, stepsActs, runActs}
 use Rattle.acts.specs.Line.{planStep, batchOf}
 use Rattle.hits.specs.Steps.{hitAt}
-use Rattle.path_count.specs.Count.{planOf, lineStep, callAnswer, counted, Told}
+use Rattle.walked_lines.specs.Line.{planOf, lineStep}
+use Rattle.path_count.specs.Count.{callAnswer, counted, Told}
 
 -- a box with its first tile, a line's ends, and the counts before; and then what the call tells
 pub record Case : Type 0 where

@@ -7,16 +7,16 @@ ghost use Rattle.panel.specs.Checks.{firstNo};
 ghost use Rattle.panel.specs.Paths.{pathsAnswer};
 ghost use Rattle.panel.specs.declared.kinds.Answer.the-variants.{Done};
 ghost use Rattle.acts.specs.Acts.{stOf};
-ghost use Rattle.path_count.specs.Count.{numberOf, lineStep, lineRan, tallyRan, paperOf, madeOf, toldOf, lentChecks, CountMet, Lent, There};
-ghost use Rattle.path_count.specs.Ones.{batchFrom, fromTold};
 ghost use Rattle.hits.specs.Notes.{noteWords};
+ghost use Rattle.walked_lines.specs.Line.{numberOf, lineStep, lineRan, tallyRan, Lent, There};
+ghost use Rattle.path_count.specs.Count.{paperOf, madeOf, toldOf, lentChecks, CountMet};
+ghost use Rattle.path_count.specs.Runs.{batchFrom, fromTold};
 use super::kinds::Counted;
-use super::kinds::Tallied;
-use super::line::count_other;
 use super::runs::TRIES;
 use super::runs::misses_after;
 use super::runs::ones_if;
 use hits::NOTE_ROOM;
+use one_line::count_other;
 use panel::checks::check_paths;
 use panel::kinds::Answer;
 use panel::kinds::LineNo;
@@ -26,6 +26,7 @@ use panel::refusals::DONE;
 use panel::refusals::NOT_WHOLE;
 use panel::widths::LINE_FLOATS;
 use panel::widths::REF_WORDS;
+use walked_lines::Tallied;
 
 // The number of a refusal, which `let .. else` can't bind.
 fn number(t: Tallied) -> u32

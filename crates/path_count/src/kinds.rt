@@ -1,12 +1,6 @@
 // What counting answers.
 use panel::kinds::Running;
 
-// A line counted, with the number of its references; or the number of its refusal.
-pub enum Tallied {
-    On(u32),
-    Against(u32),
-}
-
 // A batch: all its lines, or stopped before the line, or at the path, that is refused, with the
 // refusal's number and the item's. Lines and references so far are carried on.
 pub enum Counted {

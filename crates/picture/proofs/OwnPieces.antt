@@ -32,7 +32,7 @@ use Rattle.acts.specs.Acts.{Act, mark, visit, stop, Hit, on, off, rowActs, cros
 use Rattle.acts.specs.Rows.{rowsActs}
 use Rattle.acts.specs.Line.{planActs}
 use Rattle.hits.specs.Steps.{hitOf, hitAt}
-use Rattle.path_count.specs.Count.{planOf}
+use Rattle.walked_lines.specs.Line.{planOf}
 use Rattle.theorems.specs.Drawn.{Drawn, drawnAt, drawn, walkOf, actsBy, isOf, ofPath}
 use Rattle.theorems.specs.Events.{Event, eventsIn, eventsAt, eventsOf}
 use Rattle.theorems.proofs.Acts.{walk-is}

@@ -35,7 +35,7 @@ use Rattle.acts.specs.Acts.{Act, mark, visit, stop, Hit, on, off, rowActs, cros
 use Rattle.acts.specs.Line.{planActs}
 use Rattle.acts.proofs.Once as Once
 use Rattle.hits.specs.Steps.{hitOf, hitAt}
-use Rattle.path_count.specs.Count.{planOf}
+use Rattle.walked_lines.specs.Line.{planOf}
 use Rattle.theorems.specs.Drawn.{Drawn, walkOf, actsBy, deltaBy, marksIn, marksOf}
 use Rattle.theorems.proofs.Isolation.{addIf, marksAt}
 use Rattle.picture.specs.Picture.{stepMark, stepMarks, lineMarks, times, lineWinding}

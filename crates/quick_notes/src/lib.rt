@@ -1,6 +1,6 @@
 // The check of a line's first steps in whole numbers, with their notes. It refuses nothing itself: where a step is
 // outside, or its tile or its mark at a limit, or its z out of the ordinary, it says no. A line inside its box is then
-// walked (`path_count`); the steps of a walk are gone through one by one (`walk_steps`), which says what becomes of
+// walked (`one_line`); the steps of a walk are gone through one by one (`walk_steps`), which says what becomes of
 // them. Nothing is written but notes.
 ghost use mathlib.Core.Path.{_≡_};
 ghost use mathlib.Core.Bool.{true};

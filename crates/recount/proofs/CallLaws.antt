@@ -22,7 +22,8 @@ use Rattle.panel.proofs.CheckLaws.{all-ok, unless-no, unless-fine, unless-done}
 use Rattle.panel.proofs.PathLaws.{checked}
 use Rattle.acts.specs.Acts.{St, stOf}
 use Rattle.acts.specs.Line.{Refusal}
-use Rattle.path_count.specs.Count.{Told, toldOf, Lent}
+use Rattle.walked_lines.specs.Line.{Lent}
+use Rattle.path_count.specs.Count.{Told, toldOf}
 use Rattle.recount.specs.Recount.{
   paperOf,
   madeOf,

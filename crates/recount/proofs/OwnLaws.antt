@@ -22,8 +22,8 @@ use Rattle.panel.specs.declared.lines.LineEnds.{LineEnds}
 use Rattle.walk.specs.declared.kinds.Walked.the-variants as Walked
 use Rattle.acts.specs.Acts.{St}
 use Rattle.acts.specs.Line.{haltIf}
-use Rattle.path_count.specs.Count.{walkedStep, lineStep}
-use Rattle.path_count.proofs.Lines.{line-made}
+use Rattle.walked_lines.specs.Line.{walkedStep, lineStep}
+use Rattle.walked_lines.proofs.Lines.{line-made}
 use Rattle.recount.specs.Recount.{ownWalk, ownStep, otherNo}
 
 -- ---- a part of the lines lent, from line k on: its line j is line k + j

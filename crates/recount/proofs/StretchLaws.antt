@@ -16,8 +16,9 @@ use Rattle.panel.specs.Widths.{lineFloats}
 use Rattle.acts.specs.Acts.{St, stOf}
 use Rattle.acts.specs.Line.{Refusal, batchOf}
 use Rattle.acts.proofs.Lines.{batch-cut, batch-goes, batch-stops, batch-ends}
-use Rattle.path_count.specs.Count.{lineStep, Told, toldOf}
-use Rattle.path_count.specs.Ones.{batchFrom, fromTold}
+use Rattle.walked_lines.specs.Line.{lineStep}
+use Rattle.path_count.specs.Count.{Told, toldOf}
+use Rattle.path_count.specs.Runs.{batchFrom, fromTold}
 use Rattle.recount.specs.Recount.{ownStep, linesTold}
 use Rattle.recount.specs.Stretches.{InOrder}
 use Rattle.recount.proofs.OwnLaws.{own-rest}

@@ -25,7 +25,8 @@ use Rattle.walk.specs.declared.kinds.Walked.{Walked}
 use Rattle.walk.specs.declared.kinds.Walked.the-variants as Walked
 use Rattle.acts.specs.Acts.{St, stOf}
 use Rattle.acts.specs.Line.{haltIf, Refusal, batchOf}
-use Rattle.path_count.specs.Count.{walkedStep, Told, toldOf}
+use Rattle.walked_lines.specs.Line.{walkedStep}
+use Rattle.path_count.specs.Count.{Told, toldOf}
 use Rattle.recount.specs.declared.kinds.Recounted.{Recounted}
 use Rattle.recount.specs.declared.kinds.Recounted.the-variants.{Done, Refused}
 

@@ -5,7 +5,7 @@ ghost use lib.ListN.{length};
 ghost use Rattle.panel.specs.Paths.{pathAt, pathCount, pathsAnswer};
 ghost use Rattle.panel.specs.Widths.{lineFloats};
 ghost use Rattle.panel.specs.declared.kinds.Answer.the-variants.{Done};
-ghost use Rattle.path_count.specs.Count.{Lent};
+ghost use Rattle.walked_lines.specs.Line.{Lent};
 ghost use Rattle.recount.specs.Recount.{tilesIn, outOf, redrawnOf, RecountMet};
 use super::checks::asked;
 use super::checks::tiles_in;

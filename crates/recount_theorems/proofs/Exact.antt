@@ -24,7 +24,7 @@ use Rattle.panel.specs.Lines.{lineAt}
 use Rattle.walk.specs.Lent.{reachedOf}
 use Rattle.acts.specs.Acts.{St}
 use Rattle.acts.specs.Line.{Refusal}
-use Rattle.path_count.specs.Count.{lineStep}
+use Rattle.walked_lines.specs.Line.{lineStep}
 use Rattle.recount.specs.Recount.{lentChecks, rangeChecks, andAnswer, askedOf, ownStep, otherNo, linesRan}
 use Rattle.recount.proofs.OwnLaws.{own-same, own-other}
 use Rattle.theorems.specs.Refusing.{RowWhy, PathsWhy, BadEnds, LineWhy}

@@ -19,7 +19,7 @@ use Rattle.walk.specs.Lent.{walkAt}
 use Rattle.panel.specs.declared.lines.LineEnds.{LineEnds}
 use Rattle.acts.specs.Acts.{St}
 use Rattle.acts.specs.Line.{atLine}
-use Rattle.path_count.specs.Count.{lineStep}
+use Rattle.walked_lines.specs.Line.{lineStep}
 use Rattle.recount.specs.Recount.{ownStep}
 use Rattle.recount.proofs.OwnLaws.{own-same, own-taken}
 use Rattle.theorems.specs.Drawn.{Drawn, drawnAt, walkOf, actsBy, tilesOf, marksOf, OwnLine}

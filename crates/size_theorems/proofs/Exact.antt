@@ -27,8 +27,8 @@ use Rattle.walk.specs.declared.kinds.Walk.{Walk}
 use Rattle.walk.specs.declared.kinds.Walked.{Walked}
 use Rattle.walk.specs.declared.kinds.Walked.the-variants as Found
 use Rattle.acts.specs.Line.{Plan, tooFar, Refusal}
-use Rattle.path_count.specs.Count.{planOf}
-use Rattle.path_count.proofs.Lines.{is-far, not-far}
+use Rattle.walked_lines.specs.Line.{planOf}
+use Rattle.walked_lines.proofs.Lines.{is-far, not-far}
 use Rattle.theorems.specs.Refusing.{BadEnds, RowWhy, Walks}
 use Rattle.theorems.proofs.Exact.{no-clash, row-exact, never}
 use Rattle.theorems.proofs.ExactPaths.{paths-exact}

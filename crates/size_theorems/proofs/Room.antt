@@ -16,7 +16,8 @@ use Rattle.panel.specs.Pieces.{Pieces}
 use Rattle.panel.specs.declared.kinds.Running.{Running}
 use Rattle.acts.specs.Acts.{St, stOf, Act, mark, visit, stop, deltaOf}
 use Rattle.acts.specs.Line.{planActs, Refusal}
-use Rattle.path_count.specs.Count.{planOf, lineStep, batch}
+use Rattle.walked_lines.specs.Line.{planOf, lineStep}
+use Rattle.path_count.specs.Count.{batch}
 use Rattle.path_tiling.specs.Tiling.{slotsOf}
 use Rattle.frame.specs.Frame.{outOf, frameOf}
 use Rattle.frame.specs.declared.kinds.Stage.{Stage}

@@ -19,7 +19,8 @@ use Rattle.walk.specs.declared.kinds.Walked.{Walked}
 use Rattle.walk.specs.declared.kinds.Walked.the-variants.{Refused as WalkRefused, Skipped, Line}
 use Rattle.acts.specs.Acts.{St}
 use Rattle.acts.specs.Line.{Plan, haltIf, planStep, Refusal, atLine, batchOf}
-use Rattle.path_count.specs.Count.{planOf, walkedStep, lineStep, batch}
+use Rattle.walked_lines.specs.Line.{planOf, walkedStep, lineStep}
+use Rattle.path_count.specs.Count.{batch}
 use Rattle.sizes.specs.Refs.{stopIf, planSize, walkedSize, lineSize, sizeAt, linesSize}
 use Rattle.size_theorems.proofs.Steps.{plan-exact, plan-near}
 

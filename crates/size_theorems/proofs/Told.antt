@@ -20,7 +20,7 @@ use Rattle.walk.specs.declared.kinds.Walk.{Walk}
 use Rattle.walk.specs.declared.kinds.Walked.{Walked}
 use Rattle.walk.specs.declared.kinds.Walked.the-variants.{Refused as WalkRefused, Skipped, Line}
 use Rattle.acts.specs.Line.{Plan, tooFar, Refusal}
-use Rattle.path_count.specs.Count.{planOf}
+use Rattle.walked_lines.specs.Line.{planOf}
 use Rattle.sizes.specs.Refs.{stopIf, planSize, walkedSize, lineSize, sizeAt, linesSize, toldRan, refsOf}
 use Rattle.sizes.specs.Words.{tilesOf, wordsOf}
 use Rattle.sizes.specs.Sizes.{callAnswer, measured, asked, sizesOf, roomOf}

@@ -15,7 +15,7 @@ use Rattle.panel.specs.declared.kinds.Answer.the-variants as Answer
 use Rattle.panel.specs.declared.kinds.Verdict.the-variants.{Fine}
 use Rattle.walk.specs.Lent.{lineAt}
 use Rattle.walk.specs.declared.kinds.Walk.{Walk}
-use Rattle.path_count.specs.Count.{planOf}
+use Rattle.walked_lines.specs.Line.{planOf}
 use Rattle.theorems.specs.Refusing.{RowWhy, PathsWhy, BadEnds, Walks}
 use Rattle.sizes.specs.Refs.{linesSize}
 use Rattle.sizes.specs.Words.{tilesOf, wordsOf}

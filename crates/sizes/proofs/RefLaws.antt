@@ -21,7 +21,7 @@ use Rattle.walk.specs.declared.kinds.Walked.the-variants.{Refused as WalkRefuse
 use Rattle.clip.specs.Page.{clippedOf}
 use Rattle.clip.specs.declared.Clip.{Clip}
 use Rattle.acts.specs.Line.{Plan, tooFar, Refusal}
-use Rattle.path_count.specs.Count.{planBy, planOf}
+use Rattle.walked_lines.specs.Line.{planBy, planOf}
 use Rattle.sizes.specs.Refs.{stopIf, planSize, walkedSize, lineSize, sizeAt, linesSize, toldRan, refsOf}
 use Rattle.sizes.specs.declared.Refs.{Refs}
 use Rattle.sizes.specs.declared.Refs.the-variants.{Made, Refused}

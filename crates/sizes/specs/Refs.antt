@@ -14,9 +14,9 @@ use Rattle.walk.specs.Lent.{walkAt}
 use Rattle.walk.specs.declared.kinds.Walked.{Walked}
 use Rattle.walk.specs.declared.kinds.Walked.the-variants.{Refused as WalkRefused, Skipped, Line}
 use Rattle.acts.specs.Line.{Plan, tooFar, Refusal}
-use Rattle.path_count.specs.Count.{planOf}
-use Rattle.path_count.specs.declared.kinds.Tallied.{Tallied}
-use Rattle.path_count.specs.declared.kinds.Tallied.the-variants.{On, Against}
+use Rattle.walked_lines.specs.Line.{planOf}
+use Rattle.walked_lines.specs.declared.Tallied.{Tallied}
+use Rattle.walked_lines.specs.declared.Tallied.the-variants.{On, Against}
 use Rattle.sizes.specs.declared.Refs.{Refs}
 use Rattle.sizes.specs.declared.Refs.the-variants.{Made, Refused}
 

@@ -5,7 +5,7 @@ ghost use Prim.Native.Nat.{_*_, _<_, _≤_, _+_};
 ghost use lib.ListN.{length};
 ghost use Rattle.panel.specs.Limits.{mostLines};
 ghost use Rattle.panel.specs.Widths.{lineFloats};
-ghost use Rattle.path_count.specs.Count.{planOf};
+ghost use Rattle.walked_lines.specs.Line.{planOf};
 ghost use Rattle.sizes.specs.Refs.{planSize, lineSize, refsOf, talliedSize};
 use crate::Refs;
 use clip::clip_to;
@@ -16,10 +16,10 @@ use panel::limits::MOST_STEPS;
 use panel::refusals::COUNT_OVER;
 use panel::refusals::LINE_NUMBER;
 use panel::refusals::NO_ROOM;
-use path_count::Tallied;
 use setup::walk_at;
 use walk::kinds::Walk;
 use walk::kinds::Walked;
+use walked_lines::Tallied;
 
 // A walk, after made references.
 fn size_walk(walk: Walk, path: Path, made: u32) -> Tallied

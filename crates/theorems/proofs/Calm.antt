@@ -39,9 +39,10 @@ use Rattle.acts.specs.Line.{planActs, atLine, batchOf}
 use Rattle.acts.proofs.Once as Once
 use Rattle.acts.proofs.Once.{Free, Once}
 use Rattle.acts.proofs.Plans.{plan-marks, plan-visits}
-use Rattle.path_count.specs.Count.{planOf, planBy, lineStep, batch, Lent}
+use Rattle.walked_lines.specs.Line.{planOf, planBy, lineStep, Lent}
+use Rattle.path_count.specs.Count.{batch}
 use Rattle.hits.proofs.StepLaws.{apart}
-use Rattle.path_count.proofs.Lines.{not-far, starts, walkable, on-tiles, left}
+use Rattle.walked_lines.proofs.Lines.{not-far, starts, walkable, on-tiles, left}
 use Rattle.theorems.specs.Drawn.{drawnAt, drawn, actsBy, deltaBy, marksIn, marksOf}
 use Rattle.theorems.specs.Refs.{AllCounted}
 use Rattle.theorems.proofs.Acts.{walk-is}

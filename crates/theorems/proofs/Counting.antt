@@ -24,7 +24,8 @@ use Rattle.walk.specs.declared.kinds.Walked.the-variants.{Refused, Skipped, Lin
 use Rattle.walk.proofs.Walks.{line-told}
 use Rattle.acts.specs.Acts.{St, Act, mark, visit, stop}
 use Rattle.acts.specs.Line.{planActs, atLine, batchOf}
-use Rattle.path_count.specs.Count.{planOf, lineStep, batch}
+use Rattle.walked_lines.specs.Line.{planOf, lineStep}
+use Rattle.path_count.specs.Count.{batch}
 use Rattle.theorems.specs.Drawn.{drawnAt, walkOf, actsBy, deltaBy, tilesIn, marksIn, tilesOf, marksOf, InPath, OwnLine}
 use Rattle.theorems.specs.Events.{Event, EventOwn, eventsIn, eventsAt, eventsOf, tilesEv, wordsEv}
 use Rattle.theorems.proofs.Acts.{walk-is, Ran-through, ran-through}

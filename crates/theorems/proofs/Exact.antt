@@ -32,8 +32,8 @@ use Rattle.panel.specs.Signed.{inI32}
 use Rattle.acts.specs.Acts.{St, Act, mark, visit, stop, marked, visited, takeIf, act, runActs, deltaOf}
 use Rattle.acts.specs.Line.{Plan, planActs, haltIf, tooFar, planStep}
 use Rattle.acts.proofs.Lines.{plan-far, plan-full, plan-runs}
-use Rattle.path_count.specs.Count.{planOf, walkedStep, lineStep}
-use Rattle.path_count.proofs.Lines.{is-far, not-far}
+use Rattle.walked_lines.specs.Line.{planOf, walkedStep, lineStep}
+use Rattle.walked_lines.proofs.Lines.{is-far, not-far}
 use Rattle.theorems.specs.Refusing.{RowWhy, HandExact, Walks, StopsAt, ActWhy, LineWhy, five, six, seven, eight, nine, ten, stops}
 use Rattle.theorems.proofs.Grounds.{ends-exact, ends-good, good-ends, plan-hit, plan-stops, plan-halts}
 

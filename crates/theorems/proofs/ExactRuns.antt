@@ -10,7 +10,8 @@ use Rattle.lists.specs.Sums.{from}
 use Rattle.acts.specs.Acts.{St}
 use Rattle.acts.specs.Line.{Refusal, atLine, batchOf}
 use Rattle.acts.proofs.Lines.{batch-append}
-use Rattle.path_count.specs.Count.{lineStep, batch}
+use Rattle.walked_lines.specs.Line.{lineStep}
+use Rattle.path_count.specs.Count.{batch}
 use Rattle.theorems.specs.Refusing.{BatchWhy}
 use Rattle.theorems.proofs.Exact.{no-clash}
 

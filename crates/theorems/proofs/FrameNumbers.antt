@@ -23,7 +23,7 @@ use Rattle.walk.specs.declared.kinds.Walked.the-variants.{Line}
 use Rattle.walk.proofs.Walks.{line-told}
 use Rattle.acts.specs.Acts.{St, stOf, Act, mark, visit, stop, deltaOf}
 use Rattle.acts.specs.Line.{planActs}
-use Rattle.path_count.specs.Count.{planOf}
+use Rattle.walked_lines.specs.Line.{planOf}
 use Rattle.hand_out.specs.HandOut.{hand}
 use Rattle.looks.specs.Look.{Lent, lent, lineAt, packedAt, stepNo, sliceNo}
 use Rattle.path_tiling.specs.Tiling.{slotsOf}

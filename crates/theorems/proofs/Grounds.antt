@@ -37,7 +37,7 @@ use Rattle.acts.specs.Rows.{rowsActs}
 use Rattle.acts.specs.Line.{Plan, planActs}
 use Rattle.acts.proofs.Laws.{steps-turn, steps-halves}
 use Rattle.hits.specs.Steps.{hitOf, hitAt}
-use Rattle.path_count.specs.Count.{planOf}
+use Rattle.walked_lines.specs.Line.{planOf}
 use Rattle.theorems.specs.Refusing.{BadCoordinate, BadEnds, zOf, columnOf, rowOf, Off, StepOutside, EndOutside, StopsAt, actsBefore}
 
 clash : {A : Type 0} → _≡_ {A = ℕ} 0 1 → A

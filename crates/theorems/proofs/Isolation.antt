@@ -23,7 +23,7 @@ use Rattle.panel.proofs.PathLaws.{Checked, checked, one-path, InBox}
 use Rattle.backdrop.specs.Backdrop.{backdropAt, backdropOf, outOf}
 use Rattle.backdrop.proofs.CellLaws.{backdrop-cell, sumOf-same, rowStart, row-held}
 use Rattle.acts.specs.Acts.{St}
-use Rattle.path_count.specs.Count.{lineStep}
+use Rattle.walked_lines.specs.Line.{lineStep}
 use Rattle.theorems.specs.Drawn.{Drawn, drawnAt, drawn, tilesOf, marksOf, isOf, ofPath, InPath, OwnLine}
 use Rattle.theorems.specs.Refs.{AllCounted}
 use Rattle.theorems.proofs.Counting.{lined}

@@ -30,7 +30,7 @@ use Rattle.walk.proofs.Walks.{line-told}
 use Rattle.clip.specs.Page.{clippedOf}
 use Rattle.acts.specs.Acts.{St, Act, mark, visit, stop, deltaOf}
 use Rattle.acts.specs.Line.{Refusal}
-use Rattle.path_count.specs.Count.{planOf, lineStep}
+use Rattle.walked_lines.specs.Line.{planOf, lineStep}
 use Rattle.margin.specs.Room.{HasTile}
 use Rattle.margin.proofs.Margin.{margin-tile}
 use Rattle.margin.proofs.Clips.{clip-few}

@@ -36,8 +36,8 @@ use Rattle.acts.specs.declared.rows.Rows.{Rows}
 use Rattle.acts.proofs.Laws.{row-below}
 use Rattle.acts.proofs.Whole.{plan-taken, plan-refs}
 use Rattle.hits.specs.Steps.{hitAt, hitOf}
-use Rattle.path_count.proofs.Lines.{not-far}
-use Rattle.path_count.specs.Count.{rowsBy, planBy, planOf, walkedStep, lineStep}
+use Rattle.walked_lines.proofs.Lines.{not-far}
+use Rattle.walked_lines.specs.Line.{rowsBy, planBy, planOf, walkedStep, lineStep}
 use Rattle.theorems.specs.Drawn.{actsBy, deltaBy}
 use Rattle.theorems.specs.Events.{StepOn}
 

@@ -18,7 +18,8 @@ use Rattle.clip.specs.Page.{clippedOf}
 use Rattle.acts.specs.Acts.{rowActs, stepsActs, runActs}
 use Rattle.acts.specs.Line.{planStep, batchOf}
 use Rattle.hits.specs.Steps.{hitAt}
-use Rattle.path_count.specs.Count.{planOf, lineStep, callAnswer, counted}
+use Rattle.walked_lines.specs.Line.{planOf, lineStep}
+use Rattle.path_count.specs.Count.{callAnswer, counted}
 use Rattle.hand_out.specs.HandOut.{handOutOf}
 use Rattle.segment.specs.Clips.{cornerOf, farOf, atRowOf, atColOf, clipOf, makeOf, edgeOf, offOf, turnOf, firstOf, lastOf, segmentOf, pieceOf}
 use Rattle.panel.specs.Segments.{heldOf}

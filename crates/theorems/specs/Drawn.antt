@@ -16,7 +16,7 @@ use Rattle.walk.specs.declared.kinds.Walked.{Walked}
 use Rattle.walk.specs.declared.kinds.Walked.the-variants.{Refused, Skipped, Line}
 use Rattle.acts.specs.Acts.{Act, mark, visit, stop, deltaOf}
 use Rattle.acts.specs.Line.{planActs}
-use Rattle.path_count.specs.Count.{planOf}
+use Rattle.walked_lines.specs.Line.{planOf}
 
 pub record Drawn : Type 0 where
   pub path : ℕ

@@ -46,7 +46,8 @@ use Rattle.panel.specs.Signed.{inI32}
 use Rattle.acts.specs.Acts.{St, Act, mark, visit, stop, stepsActs, runActs, deltaOf}
 use Rattle.acts.specs.Rows.{rowsActs}
 use Rattle.acts.specs.Line.{Plan, planActs, Refusal}
-use Rattle.path_count.specs.Count.{planOf, lineStep, batch}
+use Rattle.walked_lines.specs.Line.{planOf, lineStep}
+use Rattle.path_count.specs.Count.{batch}
 
 -- ---- a row of checks, as each call makes it first (refusals 1, 2, 13 and 16): the ground of refusal n is the first check that fails
 

@@ -28,7 +28,8 @@ use Rattle.acts.specs.Rows.{rowsActs}
 use Rattle.acts.specs.Line.{Plan, planActs, planStep, refsOf, haltIf, Refusal, atLine, batchOf}
 use Rattle.acts.proofs.Laws.{runs-append}
 use Rattle.acts.proofs.Whole.{run-made, no-stop, plan-taken, plan-made}
-use Rattle.path_count.specs.Count.{planOf, walkedStep, lineStep, batch}
+use Rattle.walked_lines.specs.Line.{planOf, walkedStep, lineStep}
+use Rattle.path_count.specs.Count.{batch}
 use Rattle.path_count.proofs.Batches.{batches}
 use Rattle.made.specs.Made.{hitMade, planMade, walkMade, madeOf}
 use Rattle.made.specs.declared.Made.{Made}

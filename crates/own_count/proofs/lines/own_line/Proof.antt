@@ -4,7 +4,7 @@ use mathlib.Core.Path.{_≡_, refl, sym, ap, _∙_}
 use Rattle.panel.specs.Limits.{mostSlots}
 use Rattle.walk.specs.Lent.{walkAt}
 use Rattle.walk.specs.declared.kinds.Walked.the-variants.{Line}
-use Rattle.path_count.proofs.Lines.{on-tiles, walkable, line-walked}
+use Rattle.walked_lines.proofs.Lines.{on-tiles, walkable, line-walked}
 use Rattle.own_count.proofs.Shown.{kept-refl}
 use Rattle.own_count.proofs.LineLaws.{step-as, skipped-as}
 use borrow.Author.Needs.{needs}

@@ -9,8 +9,8 @@ use lib.ListN.{length, set, length-set}
 use borrow.Author.Needs.{needs}
 use Rattle.lists.specs.Run.{taken, done}
 use Rattle.panel.specs.Limits.{mostLines, mostSlots}
-use Rattle.path_count.specs.Count.{lineStep}
-use Rattle.path_count.specs.declared.kinds.Tallied.{Tallied}
+use Rattle.walked_lines.specs.Line.{lineStep}
+use Rattle.walked_lines.specs.declared.Tallied.{Tallied}
 use Rattle.own_count.specs.Own.{ownTo}
 use Rattle.own_count.specs.View.{viewOf, StepAs, StartsNoted}
 use Rattle.own_count.proofs.LineLaws.{own-none, own-next, own-stops, own-over, own-here, own-fits, starts-more}

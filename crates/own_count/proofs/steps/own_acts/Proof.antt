@@ -7,8 +7,8 @@ use native.Mathlib.Omega.{arith}
 use Rattle.acts.specs.Acts.{stepsActs, deltaOf}
 use Rattle.acts.specs.Rows.{rowsActs}
 use Rattle.hits.specs.Steps.{hitAt}
-use Rattle.path_count.specs.Count.{rowsBy}
-use Rattle.path_count.proofs.Lines.{rows-in}
+use Rattle.walked_lines.specs.Line.{rowsBy}
+use Rattle.walked_lines.proofs.Lines.{rows-in}
 use Rattle.own_count.proofs.Ran.{turn-goes, turn-stays}
 use borrow.Author.Needs.{needs}
 use Rattle.own_count.proofs.steps.own_acts.Statement.{statement}

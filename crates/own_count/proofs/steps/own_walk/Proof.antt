@@ -4,7 +4,7 @@ use mathlib.Core.Path.{_≡_, refl, sym, ap, _∙_}
 use Prim.Native.Nat.{_+_, _-_, _≤_}
 use native.Mathlib.Omega.{arith}
 use Rattle.panel.specs.Limits.{mostSteps}
-use Rattle.path_count.proofs.Lines.{left, clipped, not-far}
+use Rattle.walked_lines.proofs.Lines.{left, clipped, not-far}
 use Rattle.own_count.proofs.Shown.{kept-refl}
 use Rattle.own_count.proofs.LineLaws.{own-far, own-full, own-refused, own-done}
 use borrow.Author.Needs.{needs}

@@ -13,10 +13,10 @@ use Rattle.panel.specs.declared.kinds.Running.{Running}
 use Rattle.acts.specs.Acts.{St, stOf}
 use Rattle.acts.proofs.Lines.{batch-goes, batch-stops, batch-ends}
 use Rattle.hits.specs.Notes.{noteWords}
-use Rattle.path_count.specs.Count.{lineStep, lineRan, tallyRan, numberOf, Lent}
-use Rattle.path_count.specs.Ones.{batchFrom}
-use Rattle.path_count.specs.declared.kinds.Tallied.{Tallied}
-use Rattle.path_count.proofs.Lines.{ran-taken, ran-halted, line-made}
+use Rattle.walked_lines.specs.Line.{lineStep, lineRan, tallyRan, numberOf, Lent}
+use Rattle.path_count.specs.Runs.{batchFrom}
+use Rattle.walked_lines.specs.declared.Tallied.{Tallied}
+use Rattle.walked_lines.proofs.Lines.{ran-taken, ran-halted, line-made}
 use Rattle.path_count.proofs.Batches.{batch-refused, batch-through}
 use Rattle.path_count.proofs.call.count_batch.Statement.{statement}
 use Rattle.path_count.proofs.call.count_batch.Tie as tie

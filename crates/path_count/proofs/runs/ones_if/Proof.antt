@@ -7,12 +7,12 @@ use lib.ListN.{length}
 use borrow.Author.Needs.{needs}
 use Rattle.panel.specs.Widths.{refWords}
 use Rattle.acts.specs.Acts.{stOf}
-use Rattle.path_count.proofs.Ones.{ones-left}
+use Rattle.path_count.proofs.Batches.{ones-left}
 use Rattle.path_count.proofs.runs.ones_if.Statement.{statement}
 use Rattle.path_count.proofs.runs.ones_if.Tie as tie
 use Rattle.path_count.proofs.runs.ones_if.Reads as reads
 use Rattle.path_count.proofs.runs.ones_if.Lts as lts
-use Rattle.path_count.proofs.runs.count_ones.Reads as count-ones-reads
+use Rattle.short_runs.proofs.count_ones.Reads as count-ones-reads
 
 returns : tie.Need-returns
 returns c = search needs

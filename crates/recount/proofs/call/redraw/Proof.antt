@@ -6,7 +6,7 @@ use borrow.Author.Needs.{needs}
 use Rattle.panel.specs.Paths.{pathAt}
 use Rattle.panel.specs.declared.kinds.Path.{Path}
 use Rattle.panel.proofs.PathLaws.{path-there}
-use Rattle.path_count.specs.Count.{Lent}
+use Rattle.walked_lines.specs.Line.{Lent}
 use Rattle.recount.specs.Recount.{tilesIn}
 use Rattle.recount.proofs.CallLaws.{in-order, in-backs, in-counts, in-kept, redrawn-done, redrawn-refused}
 use Rattle.recount.proofs.call.redraw.Statement.{statement}

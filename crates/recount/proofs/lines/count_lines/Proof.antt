@@ -12,8 +12,9 @@ use Rattle.acts.specs.Acts.{stOf}
 use Rattle.acts.specs.Line.{batchOf}
 use Rattle.acts.proofs.Lines.{batch-stops, batch-ends}
 use Rattle.hits.specs.Notes.{noteWords}
-use Rattle.path_count.specs.Count.{paperOf, madeOf, Lent, toldOf}
-use Rattle.path_count.specs.Ones.{batchFrom, fromTold}
+use Rattle.walked_lines.specs.Line.{Lent}
+use Rattle.path_count.specs.Count.{paperOf, madeOf, toldOf}
+use Rattle.path_count.specs.Runs.{batchFrom, fromTold}
 use Rattle.path_count.specs.declared.kinds.Counted.{Counted}
 use Rattle.recount.specs.Recount.{ownStep, linesRan, linesTold}
 use Rattle.recount.proofs.OwnLaws.{own-other, other-part}

@@ -1,7 +1,7 @@
 -- `sizes::lines::size_walk` meets its contract.
 -- Assumes nothing.
 use Rattle.panel.specs.Limits.{mostSteps}
-use Rattle.path_count.proofs.Lines.{left}
+use Rattle.walked_lines.proofs.Lines.{left}
 use Rattle.sizes.proofs.RefLaws.{size-far, size-full, size-fits}
 use borrow.Author.Needs.{needs}
 use Rattle.sizes.proofs.lines.size_walk.Statement.{statement}

@@ -1,0 +1,2 @@
+-- Laws of a line inside its path's box: its outcome. Assumes nothing.
+pub mod Directs

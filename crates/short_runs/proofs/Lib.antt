@@ -1,0 +1,2 @@
+-- Laws of a line within one tile, and of a run of such lines. Assumes nothing.
+pub mod Ones

@@ -1,0 +1,2 @@
+-- Laws of a line's walk, its clip and its outcome. Assumes nothing.
+pub mod Lines
