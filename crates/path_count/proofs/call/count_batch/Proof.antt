@@ -152,7 +152,7 @@ returns-2 c =
     let h : r .result .lines < a .end = omega (arith, r .ensures .1, c .before .before .before .before .before .before .before .before .before .before .before .before .before .before .before .before .if2 .left) in
     let e = ran-halted (lineStep (a .path-nos .now) (a .coords .now) (a .paths .now) (length (a .refs .now) / refWords) (a .base + r .result .lines) (r .result .lines) s) s _ n
     (sym (ap (λ (x : Tallied). tallyRan x (stOf (t .last .1 .1 .1 .1 .1 .1 .0) (t .last .1 .1 .1 .1 .1 .1 .1 .0) (t .last .1 .1 .1 .1 .1 .1 .1 .1 .0)) (r .result .refs)) (g .1)) ∙ said (c .before .before .before .before .before .before .before .before .before .before .before)) in
-    batch-refused (a .base) _ _ _ n s _ _ (c .before .number .ensures ∙ ap numberOf (g .1)) (e .1)
+    batch-refused (a .base) (a .end) _ _ n s _ _ (c .before .number .ensures ∙ ap numberOf (g .1)) (e .1)
     (batch-stops (λ l. lineStep (a .path-nos .now) (a .coords .now) (a .paths .now) (length (a .refs .now) / refWords) (a .base + l) l) (r .result .lines) (a .end) s h _ (left (c .before .before .before .before .before .before .before .before .before .before .before .before .before .before .before .before .before .before .before .before .before .before)) n (e .0))
 
 -- the line is taken
