@@ -1,5 +1,5 @@
-// One line, in which way it goes: within one tile, inside its path's box, or by its walk. docs/RULES.md, counting: 5, then 6,
-// 7 and the skip rules, then its acts.
+// One line that isn't counted in a run of short ones, in which way it goes: inside its path's box, or by its walk.
+// docs/RULES.md, counting: 5, then 6, 7 and the skip rules, then its acts.
 ghost use mathlib.Core.Path.{_≡_};
 ghost use Prim.Native.Nat.{_/_};
 ghost use lib.ListN.{length};

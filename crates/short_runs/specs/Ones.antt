@@ -1,12 +1,11 @@
--- What is said of a run of lines that each lie within one tile, and of a batch by its lines' numbers. Only proofs lean on this: no promise of a public call does. Definitions only.
+-- What is said of a run of lines that each lie within one tile. Only proofs lean on this: no promise of a public call does. Definitions only.
 use mathlib.Core.Path.{_≡_}
 use mathlib.Core.List.{List}
 use Prim.Native.Nat.{ℕ, zero, suc, _+_, _/_, _<_, _≤_, _^_}
 use lib.ListN.{length}
 use lib.IntN.{ℤ}
 use lib.Ieee.{Float}
-use Rattle.lists.specs.Run.{Step, Ran, done, refused, andThen}
-use Rattle.panel.specs.Refusals.{doneNo}
+use Rattle.lists.specs.Run.{Step, Ran, done, andThen}
 use Rattle.panel.specs.Widths.{refWords}
 use Rattle.acts.specs.Acts.{St, stOf}
 use Rattle.walked_lines.specs.Line.{lineStep, lineRan}
