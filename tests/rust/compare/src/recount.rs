@@ -64,7 +64,7 @@ fn replaced(case: &Case) -> Option<count::Case> {
 
 /// Lengths, numbers and words that a caller may get wrong.
 fn spoil(rng: &mut Rng, case: &mut Case) {
-    match rng.below(22) {
+    match rng.below(24) {
         0 => _ = case.coords.pop(),
         1 => _ = case.path_nos.pop(),
         2 => _ = case.line_nos.pop(),
@@ -86,6 +86,13 @@ fn spoil(rng: &mut Rng, case: &mut Case) {
         }
         12 | 18 => case.refs.truncate(REF * rng.below(4) as usize),
         13 | 19 => case.old.paths = no_tiles(PATHS_MOST as usize + rng.range(0, 1) as usize),
+        20 | 21 => {
+            // one after the other, over the limit of lines or over the last word
+            let first = rng.pick(&[LINES_MOST as u32, 0]).wrapping_sub(rng.below(6) as u32);
+            for (k, l) in case.line_nos.iter_mut().enumerate() {
+                *l = first.wrapping_add(k as u32);
+            }
+        }
         _ => boxes::spoil(rng, &mut case.old.paths, case.old.counts.len()),
     }
 }
