@@ -1,14 +1,12 @@
 -- A step's tile by the edges of its path's box as floats: the tests by floats are those by whole numbers, and what passes them is cast without loss. Assumes nothing.
 --     between          of a whole number rounded to a float, at any size
 --     beyond           of what is no number, nothing passes
---     next-cast        one more than a whole float from 0 up, cast
 --     step-passed, step-failed    so of a step's column and row
 use mathlib.Core.Path.{_≡_, refl, sym, ap, _∙_, subst}
 use mathlib.Core.Bool.{Bool, true, false, not, _&&_, false≢true}
 use mathlib.Core.Logic.{_⊎_, inl, inr}
-use Prim.Native.Nat.{ℕ, suc, _+_, _-_, _*_, _^_, _≤_, _<_}
+use Prim.Native.Nat.{ℕ, _+_, _*_, _^_, _≤_, _<_}
 use native.Mathlib.Nat.{mul-pos}
-use native.Mathlib.Numerals.{add-one}
 use native.Mathlib.Omega.{arith}
 use lib.Dec.{T, ltb, leb, lit<, lit≤}
 use lib.IntN.{ℤ, pos, negsuc, _+ℤ_, _-ℤ_, natAbs}
@@ -25,12 +23,11 @@ use Rattle.float32.proofs.Whole.{whole-value}
 use Rattle.float32.proofs.Order.{not-lt-of-le, le-right}
 use Rattle.float32.proofs.Floors.{lt-plus}
 use Rattle.float32.proofs.Tests.{below-or-not}
-use Rattle.util.specs.Constants.{one}
+use Rattle.util.specs.Constants.{zero}
 use Rattle.panel.specs.Widths.{stepRange}
 use Rattle.panel.specs.declared.kinds.Path.{Path}
 use Rattle.exact.specs.Whole.{IsWhole, Rounded, turn}
 use Rattle.exact.specs.Reach.{Starts}
-use Rattle.exact.proofs.Spans.{one-whole, pos-cast}
 use Rattle.exact.proofs.Signs.{abs-signed, abs-sum}
 use Rattle.exact.proofs.Exact.{nat-whole, whole-cast, add-rounded, sub-rounded, add-whole, rounded-whole, round-signed, large-cast}
 use Rattle.exact.proofs.Compare.{lt-whole}
@@ -43,6 +40,7 @@ use Rattle.box_edges.specs.declared.Edges.{Edges}
 use Rattle.panel.proofs.BoolLaws.{both}
 use Rattle.walk.proofs.Boxes.{okOf, inside-bounds}
 use Rattle.walk.proofs.StepTiles.{z-fits, zWhole, z-whole, turned-whole}
+use Rattle.box_edges.proofs.Zeros.{zero-cast}
 
 -- the test in the code
 abbrev pub betweenOf : Float → (lo hi : Float) → Bool
@@ -165,17 +163,6 @@ no-col t (fin s m e) n nan w f = refl
 no-col t (fin s m e) n (inf r) w f = refl
 no-col t (fin s m e) n (fin r a d) w f = absurd (false≢true (sym f))
 
--- ---- casts
--- one more than a whole float from 0 up
-pub next-cast : (v : Float) (n : ℕ) → IsWhole v (pos n) → n < 2 ^ 20 → T (inUnsigned binary32 32 (add binary32 v one)) × (toUnsigned 32 (add binary32 v one) ≡ n + 1)
-next-cast v n w h =
-    let e : pos n +ℤ pos 1 ≡ pos (suc n) = ap pos (add-one n) in
-    let g = pos-cast (add binary32 v one) n (subst (λ (m : ℤ). IsWhole (add binary32 v one) m) e (add-whole v one (pos n) (pos 1) w one-whole (lim n h))) (omega arith) in
-    (g .0, g .1 ∙ sym (add-one n))
-  where
-    lim : (n : ℕ) → n < 2 ^ 20 → natAbs (pos n +ℤ pos 1) ≤ 2 ^ 24
-    lim n h = omega (arith, abs-sum (pos n) (pos 1))
-
 -- ---- a step of a line that starts as a checked one does
 -- its column and its row, as floats
 abbrev pub xAt : Pace → Float → Float
@@ -191,12 +178,10 @@ testOf p g i z = betweenOf (xAt p z) (g .left) (g .right) && betweenOf (yAt p i 
 -- what passes them: it is in the box, and its column and its row are cast without loss
 pub record Passed (b : Path) (x y z : Float) : Type 0 where
   pub ok : okOf b (toSigned 31 x) (toSigned 31 y) z ≡ true
-  pub col-can : T (inUnsigned binary32 32 (add binary32 x one))
-  pub col-some : 1 ≤ toUnsigned 32 (add binary32 x one)
-  pub col-is : toUnsigned 32 (add binary32 x one) - 1 ≡ cutOf (toSigned 31 x)
-  pub row-can : T (inUnsigned binary32 32 (add binary32 y one))
-  pub row-some : 1 ≤ toUnsigned 32 (add binary32 y one)
-  pub row-is : toUnsigned 32 (add binary32 y one) - 1 ≡ cutOf (toSigned 31 y)
+  pub col-can : T (inUnsigned binary32 32 (add binary32 x zero))
+  pub col-is : toUnsigned 32 (add binary32 x zero) ≡ cutOf (toSigned 31 x)
+  pub row-can : T (inUnsigned binary32 32 (add binary32 y zero))
+  pub row-is : toUnsigned 32 (add binary32 y zero) ≡ cutOf (toSigned 31 y)
 
 module _ (p : Pace) (l : Starts (p .sign) (p .x0) (p .y0)) (b : Path) (k : Boxed b) (i : ℕ) (h : i < stepRange) where
   abbrev z : Float
@@ -270,9 +255,9 @@ module _ (p : Pace) (l : Starts (p .sign) (p .x0) (p .y0)) (b : Path) (k : Boxed
       let g : T (finite z) = subst T (sym (x-number (t .0))) tt in
       let u = is-cast x (l .x0n +ℤ turn (l .turned) n) (b .x0) (b .x1) near wide (x-rounded g) (t .0) in
       let v = is-cast y (l .y0n +ℤ pos i -ℤ n) (b .y0) (b .y1) low high (y-rounded g) (t .1) in
-      let c = next-cast x (cutOf (toSigned 31 x)) (u .0) (u .1) in
-      let d = next-cast y (cutOf (toSigned 31 y)) (v .0) (v .1) in
-      record { ok = sides ∙ q; col-can = c .0; col-some = omega (arith, c .1); col-is = omega (arith, c .1); row-can = d .0; row-some = omega (arith, d .1); row-is = omega (arith, d .1) }
+      let c = zero-cast x (cutOf (toSigned 31 x)) (u .0) (omega (arith, u .1)) in
+      let d = zero-cast y (cutOf (toSigned 31 y)) (v .0) (omega (arith, v .1)) in
+      record { ok = sides ∙ q; col-can = c .0; col-is = c .1; row-can = d .0; row-is = d .1 }
 
   -- by the z and the edges in hand
   module _ (g : Edges) (e : g ≡ edgesOf b) (w : Float) (q : w ≡ zAt (p .a) (p .b) (float i)) where

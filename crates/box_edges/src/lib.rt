@@ -33,7 +33,7 @@ pub fn edges_of(b: Path) -> Edges
     }
 }
 
-// The step whose z is at hand. One is added before a cast, since -0 isn't cast without loss.
+// The step whose z is at hand. 0 is added before a cast, since -0 isn't cast without loss; a tile's corner is made of the same sum.
 pub fn step_with(p: Pace, b: Path, g: Edges, i: u32, z: f32) -> Step
     requires { ⌜ Boxed b × (i < stepRange) × Starts (p .sign) (p .x0) (p .y0) × (g ≡ edgesOf b) × (z ≡ zAt (p .a) (p .b) (float i)) ⌝ }
     ensures { λ r. ⌜ r ≡ stepOf p b i ⌝ }
@@ -42,8 +42,8 @@ pub fn step_with(p: Pace, b: Path, g: Edges, i: u32, z: f32) -> Step
     let x = p.x0 + p.sign * z;
     let y = p.y0 + f - z;
     if (!(x < g.left) & (x < g.right)) & (!(y < g.top) & (y < g.bottom)) {
-        let col = (x + 1.0) as u32 - 1;
-        let row = (y + 1.0) as u32 - 1;
+        let col = (x + 0.0) as u32;
+        let row = (y + 0.0) as u32;
         Step::Tile(tile_at(b, col, row), col, row, z)
     } else {
         Step::Refused

@@ -2,3 +2,4 @@
 pub mod Page
 pub mod Within
 pub mod By
+pub mod Holds

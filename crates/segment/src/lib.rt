@@ -3,7 +3,9 @@
 // page beside the Rust in specs/Page.antt; specs/By.antt has them by the z's and the corner that are at hand.
 ghost use mathlib.Core.Path.{_≡_};
 ghost use Prim.Native.Nat.{_≤_, _<_};
+ghost use lib.Ieee.{binary32, add};
 ghost use Rattle.float32.specs.Meaning.{clampOf};
+ghost use Rattle.util.specs.Constants.{tileSide, nudge};
 ghost use Rattle.panel.specs.Limits.{edgeMost};
 ghost use Rattle.panel.specs.Widths.{stepRange};
 ghost use Rattle.segment.specs.Clips.{cornerOf, farOf, atRowOf, atColOf, clipOf, makeOf, edgeOf, offOf, turnOf};
@@ -49,14 +51,15 @@ pub fn corner_at(p: Pace, i: u32, z: f32) -> Vec2
     Vec2::new((x + 0.0) * util::TILE_SIDE, (y + 0.0) * util::TILE_SIDE)
 }
 
-// v brought within lo ..= hi, as `float32::clamp` does it: by choices, with no branch, since on which side of a tile's
-// edge an end falls can't be foretold.
-fn hold(v: f32, lo: f32, hi: f32) -> f32
-    ensures { λ r. ⌜ r ≡ clampOf v lo hi ⌝ }
+// v brought within a tile's edges in one direction, the near one at t, as `float32::clamp` does it: by choices, with no branch,
+// since on which side of an edge an end falls can't be foretold. The edges are in order wherever the tile is, so no choice asks.
+fn hold(v: f32, t: f32) -> f32
+    ensures { λ r. ⌜ r ≡ clampOf v (add binary32 t nudge) (add binary32 t tileSide) ⌝ }
 {
+    let lo = t + NUDGE;
+    let hi = t + util::TILE_SIDE;
     let above = pick(v < lo, lo, v);
-    let between = pick(hi < above, hi, above);
-    pick(lo <= hi, between, v)
+    pick(hi < above, hi, above)
 }
 
 // Where the line from p to q is at the height y, and at the column x: held to the tile at t.
@@ -64,14 +67,14 @@ pub fn at_row(p: Vec2, q: Vec2, y: f32, t: Vec2) -> Vec2
     ensures { λ r. ⌜ r ≡ atRowOf p q y t ⌝ }
 {
     let xt = p.x + (q.x - p.x) * (y - p.y) / (q.y - p.y);
-    Vec2::new(hold(xt, t.x + NUDGE, far(t).x), y)
+    Vec2::new(hold(xt, t.x), y)
 }
 
 pub fn at_col(p: Vec2, q: Vec2, x: f32, t: Vec2) -> Vec2
     ensures { λ r. ⌜ r ≡ atColOf p q x t ⌝ }
 {
     let yt = p.y + (q.y - p.y) * (x - p.x) / (q.x - p.x);
-    Vec2::new(x, hold(yt, t.y + NUDGE, far(t).y))
+    Vec2::new(x, hold(yt, t.y))
 }
 
 // The clip at the height y where the neighbour step is in the same column, and else at the column x.

@@ -25,14 +25,8 @@ told c =
 float-to-int-col : tie.Need-float-to-int-col
 float-to-int-col c = told (c .before) .col-can
 
-sub-col : tie.Need-sub-col
-sub-col c = told (c .before) .col-some
-
 float-to-int-row : tie.Need-float-to-int-row
 float-to-int-row c = told (c .before .before) .row-can
-
-sub-row : tie.Need-sub-row
-sub-row c = told (c .before .before) .row-some
 
 tile-at-requires : tie.Need-tile-at-requires
 tile-at-requires c κs =
@@ -68,9 +62,7 @@ step-with-spec =
     (tie.spec
     int-to-float-f
     float-to-int-col
-    sub-col
     float-to-int-row
-    sub-row
     tile-at-requires
     returns
     returns-2)
