@@ -79,7 +79,7 @@ fn paced(s0: Vec2, s1: Vec2) -> Inside
     let k = count_steps(left, right, top, bottom);
     let m = incline(s0, s1, left, right, top, bottom);
     let b = start(m, s0);
-    let a = rise(m, k, b);
+    let a = rise(m, left, right, top, bottom, b);
     let pace = Pace {
         a,
         b,

@@ -3,7 +3,7 @@
 // here, so the tile edges around it are taken once, and what is rare is a branch that nothing waits for.
 ghost use mathlib.Core.Path.{_≡_};
 ghost use mathlib.Core.Bool.{false};
-ghost use Prim.Native.Nat.{_+_, _*_, _<_, _≤_, _^_};
+ghost use Prim.Native.Nat.{_+_, _*_, _<_, _≤_};
 ghost use lib.ListN.{length};
 ghost use lib.Ieee.{binary32, sub, lt};
 ghost use Rattle.float32.specs.Meaning.{floorOf, absOf};
@@ -12,7 +12,7 @@ ghost use Rattle.panel.specs.Widths.{lineFloats};
 ghost use Rattle.walk.specs.Setup.{Scaled, endsOf, slopeOf, bOf, aOf, walkOn};
 ghost use Rattle.walk.specs.Skip.{flatOf, pastOf};
 ghost use Rattle.walk.specs.Lent.{Reached, reachedOf, walkedOf, walkAt};
-ghost use Rattle.walk.specs.Around.{tilesOf, Spans, countsBy, Around};
+ghost use Rattle.walk.specs.Around.{apartOf, tilesOf, Spans, countsBy, Around};
 use float32::pick;
 use panel::kinds::Path;
 use panel::limits::COORD_MOST;
@@ -77,14 +77,20 @@ fn across(a: f32, b: f32) -> f32
     last - least
 }
 
-// How many tiles lie from the edge `low` to the edge `high`; at least one. Of a checked line that is
-// whole and small, so a plain cast serves.
+// How many tiles lie from the edge `low` to the edge `high`, as a float; at least one.
+fn apart(low: f32, high: f32) -> f32
+    ensures { λ r. ⌜ r ≡ apartOf low high ⌝ }
+{
+    let d = high - low;
+    pick(d < 1.0, 1.0, d)
+}
+
+// The same in whole numbers. Of a checked line that is whole and small, so a plain cast serves.
 fn span(low: f32, high: f32) -> u32
     requires { ⌜ Spans low high ⌝ }
     ensures { λ r. ⌜ r ≡ tilesOf low high ⌝ }
 {
-    let d = high - low;
-    pick(d < 1.0, 1.0, d) as u32
+    apart(low, high) as u32
 }
 
 // Whether a line has no length, or lies along tiles' edges; `top` is the row that s0 is in.
@@ -148,15 +154,16 @@ pub fn incline(s0: Vec2, s1: Vec2, left: f32, right: f32, top: f32, bottom: f32)
     }
 }
 
-// a, by a branch, since the move by ROBUST_EPSILON is rare.
-pub fn rise(m: Slope, k: Counts, b: f32) -> f32
-    requires { ⌜ (k .«count_x» ≤ 2 ^ 24) × (k .count ≤ 2 ^ 24) ⌝ }
-    ensures { λ r. ⌜ r ≡ aOf m k b ⌝ }
+// a, by a branch, since the move by ROBUST_EPSILON is rare. The steps are counted in floats, by the same edges: nothing waits for
+// a cast to whole numbers and back.
+pub fn rise(m: Slope, left: f32, right: f32, top: f32, bottom: f32, b: f32) -> f32
+    requires { ⌜ Spans left right × Spans top bottom ⌝ }
+    ensures { λ r. ⌜ r ≡ aOf m (countsBy left right top bottom) b ⌝ }
 {
     let a = m.dx * m.idxdy;
-    let count = k.count as f32;
-    let count_x = k.count_x as f32;
-    let robust_err = float32::floor(a * (count - 1.0) + b) - count_x;
+    let count_x = apart(left, right) - 1.0;
+    let last = count_x + (apart(top, bottom) - 1.0);
+    let robust_err = float32::floor(a * last + b) - count_x;
     if robust_err != 0.0 {
         return a - float32::copysign(ROBUST_EPSILON, robust_err);
     }
@@ -176,7 +183,7 @@ fn setup(e: Ends, top: f32) -> Walk
     let k = count_steps(left, right, top, bottom);
     let m = incline(s0, s1, left, right, top, bottom);
     let b = start(m, s0);
-    let a = rise(m, k, b);
+    let a = rise(m, left, right, top, bottom, b);
     let pace = Pace {
         a,
         b,

@@ -1,16 +1,13 @@
 -- `setup::setup` meets its contract. Assumes nothing.
 use borrow.Author.Needs.{needs}
-use mathlib.Core.Path.{_≡_, sym, ap, _∙_, subst}
-use native.Mathlib.Omega.{arith}
+use mathlib.Core.Path.{_≡_, ap, _∙_}
 use lib.Ieee.{lt, neg}
 use Rattle.float32.specs.Meaning.{floorOf, ceilOf}
 use Rattle.float32.proofs.Magic.{ceil-turned}
 use Rattle.exact.proofs.Bounds.{near-within, near-turned}
 use Rattle.exact.proofs.Spans.{near-pick}
-use Rattle.walk.specs.declared.kinds.Counts.{Counts}
 use Rattle.walk.specs.Setup.{countsOf, walkOn}
 use Rattle.walk.specs.Around.{Around}
-use Rattle.walk.proofs.Counts.{Few, counts-few}
 use Rattle.walk.proofs.AroundLaws.{both-span, counts-are}
 use Rattle.setup.proofs.setup.Statement.{statement}
 use Rattle.setup.proofs.setup.Tie as tie
@@ -71,15 +68,18 @@ counted : (c : tie.After-count-steps) → let s = c .before .before .before .bef
 counted c = c .count-steps .ensures ∙ counts-are _ _ (around (c .before))
 
 rise-requires : tie.Need-rise-requires
-rise-requires c κs =
-    let s = c .before .before .before .before .before .before .before .before .before .before .before .before .before .before .before .before .before in
-    let f =
-    subst (λ (k : Counts). Few (k .«count_x») (k .count)) (sym (counted (c .before .before))) (counts-few (s .args .e .s0) (s .args .e .s1) (s .pre .0) (s .pre .1)) in
-    (omega (arith, f .more, f .exact), omega (arith, f .exact))
+rise-requires c κs = both-span _ _ (around (c .before .before .before))
 
 returns : tie.Need-returns
 unfolding walkOn
-returns c = rw (c .before .before .rise .ensures, c .before .before .before .start .ensures, c .before .before .before .before .incline .ensures, counted (c .before .before .before .before .before))
+returns c =
+    rw (
+      c .before .before .rise .ensures,
+      counts-are _ _ (around (c .before .before .before .before .before .before)),
+      c .before .before .before .start .ensures,
+      c .before .before .before .before .incline .ensures,
+      counted (c .before .before .before .before .before),
+    )
 
 pub setup-spec : {M : Type 1} → statement M
 setup-spec =

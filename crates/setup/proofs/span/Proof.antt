@@ -3,14 +3,14 @@ use borrow.Author.Needs.{needs}
 use Rattle.setup.proofs.span.Statement.{statement}
 use Rattle.setup.proofs.span.Tie as tie
 
-pick-requires : tie.Need-pick-requires
-pick-requires c κs = search needs
+apart-requires : tie.Need-apart-requires
+apart-requires c κs = search needs
 
 float-to-int-result : tie.Need-float-to-int-result
-float-to-int-result c = rw (c .before .pick .ensures) (c .before .before .pre .exact)
+float-to-int-result c = rw (c .before .apart .ensures) (c .before .before .pre .exact)
 
 returns : tie.Need-returns
-returns c = rw (c .before .pick .ensures)
+returns c = rw (c .before .apart .ensures)
 
 pub span-spec : {M : Type 1} → statement M
-span-spec = tie.close (tie.spec pick-requires float-to-int-result returns)
+span-spec = tie.close (tie.spec apart-requires float-to-int-result returns)
