@@ -1,5 +1,5 @@
 // A line that lies within one tile, off its edges: most lines of a trace do. Its walk has one step, on that tile, and is
-// not clipped, whatever its slope, so none of the walk's numbers is needed. Where it says nothing, the line is left to `walk`.
+// not clipped, whatever its slope, so none of the walk's numbers is needed. Where it says nothing, the line is left to `setup` and `clip`.
 ghost use mathlib.Core.Path.{_≡_};
 ghost use Rattle.walk.specs.Step.{Boxed};
 ghost use Rattle.spot.specs.Spot.{SpotMet};
@@ -13,8 +13,8 @@ use util::Vec2;
 use walk::step::tile_at;
 use whole::ZERO;
 
-// 2^-20. A line that is shorter, in tiles, across and down together, is left to `walk`; 1 divided by a longer one's length
-// is far from an infinity.
+// 2^-20. A line that is shorter, in tiles, across and down together, is left to `setup` and `clip`; 1 divided by a longer one's
+// length is far from an infinity.
 const SHORT: f32 = 9.5367431640625e-7;
 
 // The tile by its number, its column and its row; or a line to be looked at in another way.
