@@ -36,7 +36,7 @@ use Rattle.frame.specs.Frame.{placedOf, drawnOf, checksOf, frameOf, FrameMet}
 use Rattle.frame.specs.declared.kinds.Stage.the-variants as Stage
 use Rattle.frame.specs.declared.kinds.Framed.{Framed}
 use Rattle.frame.specs.declared.kinds.Framed.the-variants as Framed
-use Rattle.write_lists.specs.Pairs.{tables, onTile, onPath, tilePairs}
+use Rattle.pairs.specs.Pairs.{tables, onTile, onPath, tilePairs}
 use Rattle.write_lists.specs.Lists.{callAnswer, regionsOf, answerOf, listsOf, writeListsOf, ListsMet}
 use Rattle.ppm_write.specs.File.{digitsOf, decimal, headOf, fileOf}
 use Rattle.ppm_write.specs.Write.{writeOf, WriteMet}

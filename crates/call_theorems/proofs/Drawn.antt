@@ -17,7 +17,7 @@ use Rattle.hand_out.specs.HandOut.{outOf, handOutOf}
 use Rattle.looks.specs.Look.{lent}
 use Rattle.path_tiling.specs.Tiling.{applied, callOf}
 use Rattle.path_tiling.proofs.WriteLaws.{length-applied}
-use Rattle.write_lists.specs.Pairs.{tables}
+use Rattle.pairs.specs.Pairs.{tables}
 use Rattle.theorems.specs.Refs.{AllCounted}
 use Rattle.theorems.proofs.SumLaws.{sums}
 use Rattle.theorems.proofs.StrayLaws.{handed-is, no-stray}

@@ -18,8 +18,8 @@ use Rattle.panel.specs.declared.kinds.Verdict.the-variants.{Fine, Against}
 use Rattle.panel.proofs.CheckLaws.{unless-fine, unless-done}
 use Rattle.panel.proofs.KindLaws.{paper-once}
 use Rattle.commands.specs.Numbers.{tileWords}
-use Rattle.write_lists.specs.Pairs.{Tables, tilePairs}
-use Rattle.write_lists.specs.Layout.{commandsOf, written}
+use Rattle.pairs.specs.Pairs.{Tables, tilePairs}
+use Rattle.lay_pairs.specs.Layout.{commandsOf, written}
 use Rattle.write_lists.specs.Lists.{callAnswer, longFrom, fillsFit, roomChecks, screenTiles, regionsOf, thenCheck, answerOf, listsOf, writeListsOf, ListsMet, Left}
 use Rattle.theorems.proofs.Exact.{no-clash, row-exact}
 use Rattle.theorems.proofs.ExactPaths.{paths-exact}

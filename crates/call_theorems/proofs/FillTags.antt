@@ -28,10 +28,10 @@ use Rattle.path_tiling.specs.Tiling.{applied, callOf}
 use Rattle.frame.specs.Frame as Frame
 use Rattle.frame.specs.declared.kinds.Framed.the-variants as Framed
 use Rattle.commands.specs.Pixel.{evenOddOf}
-use Rattle.write_lists.specs.Pairs.{Tables, tables, colourAt, ruleAt, inBox, covers, bitsOf, onTile, onPath}
-use Rattle.write_lists.specs.declared.pairs.Pair.{Pair}
-use Rattle.write_lists.specs.declared.pairs.Pair.the-variants.{Fill, Solid}
-use Rattle.write_lists.proofs.PairLaws.{box-in}
+use Rattle.pairs.specs.Pairs.{Tables, tables, colourAt, ruleAt, inBox, covers, bitsOf, onTile, onPath}
+use Rattle.pairs.specs.declared.Pair.{Pair}
+use Rattle.pairs.specs.declared.Pair.the-variants.{Fill, Solid}
+use Rattle.pairs.proofs.PairLaws.{box-in}
 use Rattle.theorems.specs.Drawn.{InPath}
 use Rattle.theorems.specs.Refs.{AllCounted}
 use Rattle.theorems.specs.Stray.{tagAt, Carries}

@@ -7,7 +7,7 @@ use lib.IntN.{ℤ}
 use lib.Ieee.{Float}
 use Rattle.panel.specs.Pieces.{Pieces}
 use Rattle.looks.specs.Look.{Lent}
-use Rattle.write_lists.specs.Pairs.{Tables}
+use Rattle.pairs.specs.Pairs.{Tables}
 use Rattle.ppm_write.specs.Write.{Left, WriteMet}
 use Rattle.ppm_write.specs.declared.Written.{Written}
 use Rattle.ppm_write.proofs.Answers as Wrote

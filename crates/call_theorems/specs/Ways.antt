@@ -50,8 +50,8 @@ use Rattle.pixel.specs.declared.kinds.Covered.{Covered}
 use Rattle.pixel.specs.declared.kinds.Covered.the-variants as Covered
 use Rattle.pixel.specs.declared.kinds.Coloured.{Coloured}
 use Rattle.pixel.specs.declared.kinds.Coloured.the-variants as Coloured
-use Rattle.write_lists.specs.Pairs.{Tables}
-use Rattle.write_lists.specs.Layout.{written}
+use Rattle.pairs.specs.Pairs.{Tables}
+use Rattle.lay_pairs.specs.Layout.{written}
 use Rattle.write_lists.specs.Lists as Lists
 use Rattle.write_lists.specs.Lists.{listsOf}
 use Rattle.ppm_write.specs.Bytes.{pixelBytes}

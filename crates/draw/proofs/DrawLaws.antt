@@ -20,7 +20,7 @@ use Rattle.frame.specs.Frame.{stageNo}
 use Rattle.frame.specs.declared.kinds.Framed.{Framed}
 use Rattle.frame.specs.declared.kinds.Framed.the-variants as Framed
 use Rattle.frame.specs.declared.kinds.Stage.{Stage}
-use Rattle.write_lists.specs.Pairs.{Tables, tables}
+use Rattle.pairs.specs.Pairs.{Tables, tables}
 use Rattle.write_lists.specs.Lists.{left, writeListsOf}
 use Rattle.fine.specs.Fine.{shown, fineOf}
 use Rattle.draw.specs.Draw.{listsNo, fineNo, lentNo, paintOf, Painted, paintedOf, pageChecks, outOf, framedOf, drawOf}

@@ -22,7 +22,7 @@ use Rattle.sides.specs.Tile.{tileWidth, tileHeight}
 use Rattle.path_tiling.specs.Tiling.{slotsOf}
 use Rattle.frame.specs.Frame as Frame
 use Rattle.frame.specs.Frame.{answerOn}
-use Rattle.write_lists.specs.Pairs.{Tables, tables}
+use Rattle.pairs.specs.Pairs.{Tables, tables}
 use Rattle.write_lists.specs.Lists.{writeListsOf}
 use Rattle.fine.specs.Fine.{fineOf}
 use Rattle.draw.specs.declared.kinds.Drawn.{Drawn}

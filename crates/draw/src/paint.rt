@@ -2,7 +2,7 @@
 ghost use mathlib.Core.Path.{_≡_};
 ghost use Prim.Native.Nat.{_*_, _≤_};
 ghost use Rattle.panel.specs.Limits.{mostTiles};
-ghost use Rattle.write_lists.specs.Pairs.{tables};
+ghost use Rattle.pairs.specs.Pairs.{tables};
 ghost use Rattle.draw.specs.Draw.{paintOf, paintedOf};
 use super::kinds::Drawn;
 use super::kinds::FINE;

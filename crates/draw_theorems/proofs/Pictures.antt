@@ -25,9 +25,9 @@ use Rattle.frame.specs.declared.kinds.Stage.the-variants as Stage
 use Rattle.frame.specs.declared.kinds.Framed.{Framed}
 use Rattle.frame.specs.declared.kinds.Framed.the-variants as Framed
 use Rattle.fine.specs.Fine.{Shown, shown, fineOf}
-use Rattle.write_lists.specs.Pairs.{Tables, tables}
+use Rattle.pairs.specs.Pairs.{Tables, tables}
 use Rattle.write_lists.specs.Lists.{Left, left, answerOf, onDone, listsOf, writeListsOf}
-use Rattle.write_lists.specs.Layout.{written}
+use Rattle.lay_pairs.specs.Layout.{written}
 use Rattle.theorems.specs.Drawn.{drawn}
 use Rattle.theorems.proofs.Framing as Framing
 use Rattle.list_theorems.specs.Written.{AllI32, Holds, Wrote}

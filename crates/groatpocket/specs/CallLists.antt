@@ -2,7 +2,7 @@
 use Prim.Native.Nat.{ℕ}
 use mathlib.Core.Path.{_≡_}
 use mathlib.Core.List.{List}
-use Rattle.write_lists.specs.Pairs.{Tables}
+use Rattle.pairs.specs.Pairs.{Tables}
 use Rattle.write_lists.specs.Lists as Lists
 use Rattle.groatpocket.specs.Seen.{no, item, SeenAt, seenAt}
 

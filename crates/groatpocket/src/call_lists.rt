@@ -1,7 +1,7 @@
 // write_lists::write_lists: a list of commands for each screen tile.
 use panel::kinds::item;
 use panel::kinds::number;
-ghost use Rattle.write_lists.specs.Pairs.{tables};
+ghost use Rattle.pairs.specs.Pairs.{tables};
 ghost use Rattle.groatpocket.specs.CallLists.{GpListsMet};
 
 #[no_mangle]

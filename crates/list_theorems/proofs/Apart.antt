@@ -12,11 +12,11 @@ use Rattle.lists.specs.Run.{All, all-append}
 use Rattle.lists.specs.Sums.{from}
 use Rattle.commands.specs.Numbers.{encodeTo, jumpWords, tileWords, startOf}
 use Rattle.commands.specs.declared.steps.Act.the-variants.{Jump}
-use Rattle.write_lists.specs.Pairs.{Tables, tilePairs}
-use Rattle.write_lists.specs.Layout.{pairWords, pairSize, Chunk, chunk, penAt, fits, jumpIf, turned, past, laid, jumpCount, leftAt, jumpsOf, ownWords, penOf}
+use Rattle.pairs.specs.Pairs.{Tables, tilePairs}
+use Rattle.lay_pairs.specs.Layout.{pairWords, pairSize, Chunk, chunk, penAt, fits, jumpIf, turned, past, laid, jumpCount, leftAt, jumpsOf, ownWords, penOf}
 use Rattle.write_lists.specs.Lists.{freshOf, listsFrom}
-use Rattle.write_lists.specs.declared.pairs.Pair.{Pair}
-use Rattle.write_lists.specs.declared.pairs.Pair.the-variants.{Fill, Solid}
+use Rattle.pairs.specs.declared.Pair.{Pair}
+use Rattle.pairs.specs.declared.Pair.the-variants.{Fill, Solid}
 use Rattle.list_theorems.proofs.Regions.{Apart, AllApart, Off}
 
 -- ---- lists of chunks

@@ -18,12 +18,12 @@ use Rattle.panel.specs.declared.kinds.Path.{Path}
 use Rattle.panel.specs.declared.kinds.Answer.the-variants.{Done}
 use Rattle.panel.proofs.RecordLaws.{path-first, path-next, path-more}
 use Rattle.panel.proofs.CheckLaws.{none-fails, unless-fine}
-use Rattle.write_lists.specs.Pairs.{Tables, tables, onTile, onPath, pairsOf, tilePairs, bitsOf}
-use Rattle.write_lists.specs.Layout.{commandsOf}
+use Rattle.pairs.specs.Pairs.{Tables, tables, onTile, onPath, pairsOf, tilePairs, bitsOf}
+use Rattle.lay_pairs.specs.Layout.{commandsOf}
 use Rattle.write_lists.specs.Lists.{callAnswer, writeListsOf}
 use Rattle.write_lists.specs.Lists as Lists
-use Rattle.write_lists.specs.declared.pairs.Pair.{Pair}
-use Rattle.write_lists.specs.declared.pairs.Pair.the-variants.{Fill, Solid}
+use Rattle.pairs.specs.declared.Pair.{Pair}
+use Rattle.pairs.specs.declared.Pair.the-variants.{Fill, Solid}
 use Rattle.list_theorems.proofs.Instance.{boxes, times}
 use Rattle.list_theorems.proofs.Refuted.{limit-passes, limit-is-met}
 

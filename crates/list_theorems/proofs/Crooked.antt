@@ -29,11 +29,11 @@ use Rattle.commands.specs.declared.steps.Move.the-variants.{Refused, Goes}
 use Rattle.commands.proofs.Traced.{trace-stop}
 use Rattle.commands.proofs.Encoded.{Stands, act-goes, end-goes}
 use Rattle.fine.specs.Screen.{tileTrace, endsAt}
-use Rattle.write_lists.specs.Pairs.{Tables, tilePairs, fillRule, coverOf, colourOf}
-use Rattle.write_lists.specs.Layout.{pairWords, pairSize, chunk, penAt, fits, jumpIf, turned, past, laid, jumpCount, leftAt, jumpsOf, ownWords}
+use Rattle.pairs.specs.Pairs.{Tables, tilePairs, fillRule, coverOf, colourOf}
+use Rattle.lay_pairs.specs.Layout.{pairWords, pairSize, chunk, penAt, fits, jumpIf, turned, past, laid, jumpCount, leftAt, jumpsOf, ownWords}
 use Rattle.write_lists.specs.Lists.{listsOf}
-use Rattle.write_lists.specs.declared.pairs.Pair.{Pair}
-use Rattle.write_lists.specs.declared.pairs.Pair.the-variants.{Fill, Solid}
+use Rattle.pairs.specs.declared.Pair.{Pair}
+use Rattle.pairs.specs.declared.Pair.the-variants.{Fill, Solid}
 use Rattle.list_theorems.specs.Refusing.{Some, CrookedPair}
 use Rattle.list_theorems.specs.Written.{Wrote}
 use Rattle.list_theorems.proofs.Writes.{first-stands}

@@ -17,11 +17,12 @@ use Rattle.panel.specs.declared.kinds.Answer.{Answer}
 use Rattle.panel.specs.declared.kinds.Answer.the-variants.{Done, Refused}
 use Rattle.commands.specs.Numbers.{tileWords}
 use Rattle.panel.proofs.BoolLaws.{one-false}
-use Rattle.write_lists.specs.Pairs.{Tables, tilePairs}
-use Rattle.write_lists.specs.Layout.{commandsOf, written}
-use Rattle.write_lists.specs.Lists.{callAnswer, longFrom, slotsFit, allFit, fillsFit, regionsOf, thenCheck, answerOf, listsOf, onDone, writeListsOf}
-use Rattle.write_lists.specs.declared.pairs.Pair.{Pair}
-use Rattle.write_lists.specs.declared.pairs.Pair.the-variants.{Fill, Solid}
+use Rattle.pairs.specs.Pairs.{Tables, tilePairs}
+use Rattle.lay_pairs.specs.Layout.{commandsOf, written}
+use Rattle.lay_pairs.specs.Slots.{slotsFit, allFit}
+use Rattle.write_lists.specs.Lists.{callAnswer, longFrom, fillsFit, regionsOf, thenCheck, answerOf, listsOf, onDone, writeListsOf}
+use Rattle.pairs.specs.declared.Pair.{Pair}
+use Rattle.pairs.specs.declared.Pair.the-variants.{Fill, Solid}
 use Rattle.list_theorems.specs.Refusing.{Some, FirstLong, AllShort, SlotsOut, NoRoom, ListsExact}
 use Rattle.list_theorems.proofs.Passed.{not-done, few-commands}
 

@@ -23,11 +23,12 @@ use Rattle.hand_out.specs.HandOut.{hand, outOf, onFine, handChecks, handOutOf}
 use Rattle.hand_out.proofs.HandLaws.{reads-back, out-once}
 use Rattle.commands.specs.Numbers.{tileWords}
 use Rattle.commands.specs.Pixel.{evenOddOf}
-use Rattle.write_lists.specs.Pairs.{Tables, tables, colourAt, ruleAt, inBox, covers, bitsOf, onTile, byPath, onPath, pairsOf, tilePairs}
-use Rattle.write_lists.specs.Layout.{written}
-use Rattle.write_lists.specs.Lists.{callAnswer, longFrom, slotsFit, allFit, fillsFit, roomChecks, screenTiles, regionsOf, thenCheck, answerOf, listsOf, onDone, writeListsOf}
-use Rattle.write_lists.specs.declared.pairs.Pair.{Pair}
-use Rattle.write_lists.specs.declared.pairs.Pair.the-variants.{Fill, Solid}
+use Rattle.pairs.specs.Pairs.{Tables, tables, colourAt, ruleAt, inBox, covers, bitsOf, onTile, byPath, onPath, pairsOf, tilePairs}
+use Rattle.lay_pairs.specs.Layout.{written}
+use Rattle.lay_pairs.specs.Slots.{slotsFit, allFit}
+use Rattle.write_lists.specs.Lists.{callAnswer, longFrom, fillsFit, roomChecks, screenTiles, regionsOf, thenCheck, answerOf, listsOf, onDone, writeListsOf}
+use Rattle.pairs.specs.declared.Pair.{Pair}
+use Rattle.pairs.specs.declared.Pair.the-variants.{Fill, Solid}
 use Rattle.list_theorems.specs.Written.{Wrote}
 use Rattle.list_theorems.specs.Refusing.{AllShort}
 use Rattle.list_theorems.proofs.Exact.{short-done}

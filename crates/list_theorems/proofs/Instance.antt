@@ -16,10 +16,10 @@ use Rattle.hand_out.specs.HandOut.{outOf, handOutOf}
 use Rattle.panel.specs.Signed.{inI32}
 use Rattle.commands.specs.Numbers.{endNo, encodeTo, jumpWords, tileWords}
 use Rattle.commands.specs.declared.steps.Act.the-variants.{Jump}
-use Rattle.write_lists.specs.Pairs.{Tables, tables, onTile, onPath, tilePairs}
-use Rattle.write_lists.specs.Layout.{pairWords, pairSize, ownWords}
-use Rattle.write_lists.specs.declared.pairs.Pair.{Pair}
-use Rattle.write_lists.specs.declared.pairs.Pair.the-variants.{Fill, Solid}
+use Rattle.pairs.specs.Pairs.{Tables, tables, onTile, onPath, tilePairs}
+use Rattle.lay_pairs.specs.Layout.{pairWords, pairSize, ownWords}
+use Rattle.pairs.specs.declared.Pair.{Pair}
+use Rattle.pairs.specs.declared.Pair.the-variants.{Fill, Solid}
 use Rattle.write_lists.specs.Lists.{callAnswer, regionsOf, answerOf, listsOf, writeListsOf}
 use Rattle.list_theorems.specs.Written.{Wrote, AllI32, LikePainted}
 use Rattle.list_theorems.proofs.Written.{like-painted}

@@ -19,11 +19,12 @@ use Rattle.panel.proofs.CheckLaws.{all-ok, unless-done}
 use Rattle.panel.proofs.KindLaws.{paper-once}
 use Rattle.panel.proofs.BoolLaws.{both}
 use Rattle.commands.specs.Numbers.{tileWords}
-use Rattle.write_lists.specs.Pairs.{Tables, tilePairs}
-use Rattle.write_lists.specs.Layout.{commandsOf, written}
-use Rattle.write_lists.specs.Lists.{lentChecks, callAnswer, longFrom, slotsFit, allFit, fillsFit, roomChecks, screenTiles, regionsOf, thenCheck, answerOf, listsOf, Left, left, onDone, writeListsOf}
-use Rattle.write_lists.specs.declared.pairs.Pair.{Pair}
-use Rattle.write_lists.specs.declared.pairs.Pair.the-variants.{Fill, Solid}
+use Rattle.pairs.specs.Pairs.{Tables, tilePairs}
+use Rattle.lay_pairs.specs.Layout.{commandsOf, written}
+use Rattle.lay_pairs.specs.Slots.{slotsFit, allFit}
+use Rattle.write_lists.specs.Lists.{lentChecks, callAnswer, longFrom, fillsFit, roomChecks, screenTiles, regionsOf, thenCheck, answerOf, listsOf, Left, left, onDone, writeListsOf}
+use Rattle.pairs.specs.declared.Pair.{Pair}
+use Rattle.pairs.specs.declared.Pair.the-variants.{Fill, Solid}
 use Rattle.write_lists.proofs.TileLaws.{then-done}
 use Rattle.list_theorems.proofs.Regions.{Filled}
 

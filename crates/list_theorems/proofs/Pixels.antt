@@ -22,10 +22,10 @@ use Rattle.colours.specs.Colour as Colour
 use Rattle.commands.specs.Moves.{countOf, Trace, endOf}
 use Rattle.commands.specs.Pixel.{signedOf, evenOddOf, cover, paint, Point, point, pointOf}
 use Rattle.fine.specs.Screen.{clear}
-use Rattle.write_lists.specs.Pairs.{Tables, colourAt, ruleAt, inBox, covers, bitsOf, onTile, byPath, onPath, pairsOf, tilePairs, fillRule, coverOf, colourOf}
-use Rattle.write_lists.specs.Layout.{fits, leftAfter}
-use Rattle.write_lists.specs.declared.pairs.Pair.{Pair}
-use Rattle.write_lists.specs.declared.pairs.Pair.the-variants.{Fill, Solid}
+use Rattle.pairs.specs.Pairs.{Tables, colourAt, ruleAt, inBox, covers, bitsOf, onTile, byPath, onPath, pairsOf, tilePairs, fillRule, coverOf, colourOf}
+use Rattle.lay_pairs.specs.Layout.{fits, leftAfter}
+use Rattle.pairs.specs.declared.Pair.{Pair}
+use Rattle.pairs.specs.declared.Pair.the-variants.{Fill, Solid}
 use Rattle.list_theorems.specs.Painted.{paintTile, paintPath, painted}
 use Rattle.list_theorems.specs.Traced.{jumpThen, pairThen, listTrace}
 use Rattle.list_theorems.specs.Written.{AllI32}

@@ -32,11 +32,11 @@ use Rattle.commands.specs.Pixel.{evenOddOf, cover, paint, pointOf}
 use Rattle.commands.specs.Moves.{Trace, ends, does, opOf, fillMove, wholeMove, moveOf, traceOf}
 use Rattle.fine.specs.Screen.{clear, putTile, tileTrace, endsAt, colourAt as shownAt, tilePixels}
 use Rattle.fine.specs.Fine.{Shown, shown, tileStep, tilesOf, fineOf}
-use Rattle.write_lists.specs.Pairs.{Tables, tables, colourAt, ruleAt, inBox, covers, onTile, onPath, tilePairs}
-use Rattle.write_lists.specs.Layout.{pairWords, commandsOf}
+use Rattle.pairs.specs.Pairs.{Tables, tables, colourAt, ruleAt, inBox, covers, onTile, onPath, tilePairs}
+use Rattle.lay_pairs.specs.Layout.{pairWords, commandsOf}
 use Rattle.write_lists.specs.Lists.{callAnswer, regionsOf, answerOf, listsOf, writeListsOf}
-use Rattle.write_lists.specs.declared.pairs.Pair.{Pair}
-use Rattle.write_lists.specs.declared.pairs.Pair.the-variants.{Fill, Solid}
+use Rattle.pairs.specs.declared.Pair.{Pair}
+use Rattle.pairs.specs.declared.Pair.the-variants.{Fill, Solid}
 use Rattle.list_theorems.specs.Painted.{paintTile, paintPath, screenOf}
 use Rattle.list_theorems.specs.Traced.{pairThen}
 use Rattle.list_theorems.specs.Refusing.{FirstLong}

@@ -16,10 +16,10 @@ use Rattle.coverage.specs.Ground.{groundOf}
 use Rattle.commands.specs.Moves.{countOf, does, traceOf}
 use Rattle.commands.specs.declared.steps.Act.the-variants as Act
 use Rattle.commands.proofs.Encoded.{Stands, written-stands, act-goes, end-goes}
-use Rattle.write_lists.specs.Pairs.{fillRule, coverOf, colourOf}
-use Rattle.write_lists.specs.Layout.{pairWords, pairSize, Chunk, chunk, penAt, fits, jumpIf, turned, past, laid, jumpCount, leftAt, jumpsOf, written}
-use Rattle.write_lists.specs.declared.pairs.Pair.{Pair}
-use Rattle.write_lists.specs.declared.pairs.Pair.the-variants.{Fill, Solid}
+use Rattle.pairs.specs.Pairs.{fillRule, coverOf, colourOf}
+use Rattle.lay_pairs.specs.Layout.{pairWords, pairSize, Chunk, chunk, penAt, fits, jumpIf, turned, past, laid, jumpCount, leftAt, jumpsOf, written}
+use Rattle.pairs.specs.declared.Pair.{Pair}
+use Rattle.pairs.specs.declared.Pair.the-variants.{Fill, Solid}
 use Rattle.list_theorems.specs.Traced.{jumpThen, pairThen, listTrace}
 use Rattle.list_theorems.proofs.Writes.{other-stands, first-stands, then-stands}
 

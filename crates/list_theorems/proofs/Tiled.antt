@@ -5,7 +5,7 @@ use Prim.Native.Nat.{ℕ}
 use lib.IntN.{ℤ}
 use lib.Ieee.{Float}
 use Rattle.lists.specs.Sums.{sum}
-use Rattle.write_lists.specs.Pairs.{Tables, tables}
+use Rattle.pairs.specs.Pairs.{Tables, tables}
 use Rattle.list_theorems.specs.Written.{Wrote, Fills, AllI32, NeverRefused, LikePainted}
 use Rattle.list_theorems.proofs.Handed.{Handed, handed-used}
 use Rattle.list_theorems.proofs.Written.{never-refused, like-painted}

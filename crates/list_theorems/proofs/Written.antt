@@ -27,11 +27,11 @@ use Rattle.commands.specs.Moves.{Trace, endOf}
 use Rattle.commands.specs.Pixel.{point, pointOf}
 use Rattle.fine.specs.Screen.{clear, tileTrace, colourAt}
 use Rattle.fine.specs.Fine.{fineChecks, tilesOf, shownOf, unlessNo, fineOf}
-use Rattle.write_lists.specs.Pairs.{Tables, tilePairs}
-use Rattle.write_lists.specs.Layout.{ownWords}
+use Rattle.pairs.specs.Pairs.{Tables, tilePairs}
+use Rattle.lay_pairs.specs.Layout.{ownWords}
 use Rattle.write_lists.specs.Lists.{freshOf, listsFrom, regionsOf, listsOf, Left, ListsMet}
-use Rattle.write_lists.specs.declared.pairs.Pair.{Pair}
-use Rattle.write_lists.specs.declared.pairs.Pair.the-variants.{Fill, Solid}
+use Rattle.pairs.specs.declared.Pair.{Pair}
+use Rattle.pairs.specs.declared.Pair.the-variants.{Fill, Solid}
 use Rattle.list_theorems.specs.Painted.{painted}
 use Rattle.list_theorems.specs.Written.{Wrote, Fills, AllI32, PairsInOrder, NeverRefused, LikePainted}
 use Rattle.list_theorems.proofs.Regions.{ChunkStands, InWords, Filled, Drawn, Off, all-stand, word-stays, list-goes}

@@ -18,7 +18,7 @@ use Rattle.coverage.specs.Coverage.{pixelOf}
 use Rattle.colours.specs.Colour.{colourOf, overOf, packOf}
 use Rattle.commands.specs.Pixel.{evenOddOf}
 use Rattle.fine.specs.Screen.{placeOf, clear}
-use Rattle.write_lists.specs.Pairs.{Tables, colourAt, ruleAt, inBox, covers}
+use Rattle.pairs.specs.Pairs.{Tables, colourAt, ruleAt, inBox, covers}
 
 -- ---- a pixel's colour
 

@@ -10,11 +10,11 @@ use Rattle.panel.specs.Limits.{mostSlots, mostCommands}
 use Rattle.panel.specs.Refusals.{doneNo, noRoom, tooLong}
 use Rattle.panel.specs.Segments.{segmentAt, Straight}
 use Rattle.commands.specs.Numbers.{tileWords}
-use Rattle.write_lists.specs.Pairs.{Tables, tilePairs}
-use Rattle.write_lists.specs.Layout.{commandsOf}
+use Rattle.pairs.specs.Pairs.{Tables, tilePairs}
+use Rattle.lay_pairs.specs.Layout.{commandsOf}
 use Rattle.write_lists.specs.Lists.{regionsOf, Left}
-use Rattle.write_lists.specs.declared.pairs.Pair.{Pair}
-use Rattle.write_lists.specs.declared.pairs.Pair.the-variants.{Fill, Solid}
+use Rattle.pairs.specs.declared.Pair.{Pair}
+use Rattle.pairs.specs.declared.Pair.the-variants.{Fill, Solid}
 
 -- one of the list has the property
 abbrev pub Some : {A : Type 0} → (A → Type 0) → List A → Type 0

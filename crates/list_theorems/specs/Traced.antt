@@ -5,9 +5,9 @@ use Prim.Native.Nat.{ℕ}
 use Rattle.panel.specs.declared.kinds.Verdict.the-variants.{Fine}
 use Rattle.commands.specs.Moves.{Trace, ends, does}
 use Rattle.commands.specs.declared.steps.Act.the-variants.{Color, Jump}
-use Rattle.write_lists.specs.Pairs.{coverOf, colourOf}
-use Rattle.write_lists.specs.Layout.{fits, leftAfter}
-use Rattle.write_lists.specs.declared.pairs.Pair.{Pair}
+use Rattle.pairs.specs.Pairs.{coverOf, colourOf}
+use Rattle.lay_pairs.specs.Layout.{fits, leftAfter}
+use Rattle.pairs.specs.declared.Pair.{Pair}
 
 abbrev pub jumpThen : Bool → Trace → Trace
 jumpThen true t = t

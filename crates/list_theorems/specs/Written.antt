@@ -15,8 +15,8 @@ use Rattle.panel.specs.Signed.{inI32}
 use Rattle.sides.specs.Tile.{tileWidth, tileHeight}
 use Rattle.fine.specs.Screen.{tileTrace, endsAt}
 use Rattle.fine.specs.Fine.{shown, fineOf}
-use Rattle.write_lists.specs.Pairs.{Tables, tilePairs}
-use Rattle.write_lists.specs.Layout.{ownWords}
+use Rattle.pairs.specs.Pairs.{Tables, tilePairs}
+use Rattle.lay_pairs.specs.Layout.{ownWords}
 use Rattle.write_lists.specs.Lists.{left, writeListsOf}
 use Rattle.list_theorems.specs.Painted.{painted, screenOf}
 use Rattle.list_theorems.specs.Traced.{listTrace}

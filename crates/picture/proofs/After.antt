@@ -37,8 +37,8 @@ use Rattle.frame.specs.Frame as Frame
 use Rattle.frame.specs.declared.kinds.Framed.the-variants as Framed
 use Rattle.commands.specs.Numbers.{tileWords}
 use Rattle.commands.specs.Pixel.{evenOddOf}
-use Rattle.write_lists.specs.Pairs.{Tables, tables, colourAt, ruleAt, inBox, covers}
-use Rattle.write_lists.specs.Layout.{written}
+use Rattle.pairs.specs.Pairs.{Tables, tables, colourAt, ruleAt, inBox, covers}
+use Rattle.lay_pairs.specs.Layout.{written}
 use Rattle.write_lists.specs.Lists.{callAnswer, regionsOf, listsOf, Left, left, writeListsOf}
 use Rattle.theorems.specs.Batches.{Rising, lastOf, inBatches, inRanges}
 use Rattle.theorems.specs.Drawn.{Drawn, drawn, walkOf, ofPath}

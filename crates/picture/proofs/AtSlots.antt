@@ -18,7 +18,7 @@ use Rattle.one_row.specs.Row.{stepSegment}
 use Rattle.coverage.specs.Coverage.{areaAfter, finishOf, sumOf, pixelOf}
 use Rattle.colours.specs.Colour.{colourOf, overOf}
 use Rattle.commands.specs.Pixel.{evenOddOf}
-use Rattle.write_lists.specs.Pairs.{covers}
+use Rattle.pairs.specs.Pairs.{covers}
 use Rattle.list_theorems.specs.Painted.{paintTile}
 use Rattle.picture.specs.Picture.{coverOf, layOf}
 

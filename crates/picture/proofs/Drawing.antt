@@ -44,7 +44,7 @@ use Rattle.frame.specs.Frame as Frame
 use Rattle.frame.specs.declared.kinds.Framed.the-variants as Framed
 use Rattle.fine.specs.Screen.{clear}
 use Rattle.fine.specs.Fine.{shown, fineOf}
-use Rattle.write_lists.specs.Pairs.{Tables, tables, inBox}
+use Rattle.pairs.specs.Pairs.{Tables, tables, inBox}
 use Rattle.theorems.specs.Drawn.{Drawn, drawn, walkOf, isOf, ofPath, marksOf, InPath}
 use Rattle.theorems.specs.Refs.{AllCounted}
 use Rattle.theorems.specs.Stray.{NoStray}
@@ -52,7 +52,7 @@ use Rattle.theorems.proofs.SumLaws.{sums, passed, whole}
 use Rattle.theorems.proofs.StrayLaws.{handed-is, no-stray}
 use Rattle.theorems.proofs.Isolation.{seen-back}
 use Rattle.theorems.proofs.Framing.{frame-done, counts-long}
-use Rattle.write_lists.proofs.PairLaws.{box-in}
+use Rattle.pairs.proofs.PairLaws.{box-in}
 use Rattle.list_theorems.specs.Painted.{paintTile, paintPath, painted, screenOf}
 use Rattle.picture.specs.Picture.{piecesOf, windingOf, lineWinding, layOf, pathOver, pixelOf, pictureOf}
 use Rattle.picture.proofs.AtSlots.{readFrom, tile-laid}

@@ -19,8 +19,8 @@ use Rattle.frame.specs.Frame.{outOf, placedOf, drawnOf, checksOf as frameChecks
 use Rattle.frame.specs.declared.kinds.Framed.the-variants.{Done}
 use Rattle.backdrop.specs.Backdrop.{rowSums, rowFits, rowsSums, rowsFit, sumPaths, backdropOf}
 use Rattle.commands.specs.Numbers.{tileWords}
-use Rattle.write_lists.specs.Pairs.{Tables, tables, inBox, onTile, onPath, tilePairs}
-use Rattle.write_lists.specs.Layout.{written}
+use Rattle.pairs.specs.Pairs.{Tables, tables, inBox, onTile, onPath, tilePairs}
+use Rattle.lay_pairs.specs.Layout.{written}
 use Rattle.write_lists.specs.Lists.{callAnswer, regionsOf, answerOf, listsOf, writeListsOf}
 use Rattle.theorems.specs.Drawn.{Drawn, drawn, walkOf, ofPath}
 use Rattle.theorems.specs.Starred.{floatsOf}

@@ -27,7 +27,7 @@ use Rattle.frame.specs.Frame as Frame
 use Rattle.frame.specs.declared.kinds.Framed.the-variants as Framed
 use Rattle.fine.specs.Screen.{clear}
 use Rattle.fine.specs.Fine.{shown, fineOf}
-use Rattle.write_lists.specs.Pairs.{Tables, tables, inBox}
+use Rattle.pairs.specs.Pairs.{Tables, tables, inBox}
 use Rattle.theorems.specs.Drawn.{Drawn, drawn, walkOf, ofPath}
 use Rattle.theorems.specs.Refs.{AllCounted}
 use Rattle.theorems.specs.Stray.{NoStray}

@@ -31,7 +31,7 @@ use Rattle.coverage.specs.Coverage.{finishOf}
 use Rattle.colours.specs.Colour.{colourOf, overOf}
 use Rattle.commands.specs.Pixel.{evenOddOf}
 use Rattle.fine.specs.Screen.{clear}
-use Rattle.write_lists.specs.Pairs.{inBox, covers}
+use Rattle.pairs.specs.Pairs.{inBox, covers}
 use Rattle.theorems.specs.Drawn.{Drawn, walkOf, ofPath}
 use Rattle.list_theorems.specs.Painted.{screenOf}
 

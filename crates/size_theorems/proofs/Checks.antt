@@ -17,7 +17,7 @@ use Rattle.panel.specs.declared.kinds.Verdict.the-variants.{Fine, Against}
 use Rattle.panel.specs.declared.kinds.Answer.{Answer}
 use Rattle.panel.specs.declared.kinds.Answer.the-variants.{Done, Refused}
 use Rattle.frame.specs.Frame as Frame
-use Rattle.write_lists.specs.Pairs.{Tables}
+use Rattle.pairs.specs.Pairs.{Tables}
 use Rattle.write_lists.specs.Lists as Lists
 use Rattle.theorems.specs.Refusing.{PathsWhy, one, two, three, four}
 use Rattle.theorems.proofs.ExactPaths.{paths-exact}

@@ -7,7 +7,7 @@ use native.Mathlib.Omega.{arith}
 use lib.Dec.{leb, ltb}
 use borrow.Author.Tests.{leb-true, leb-false, ltb-true, ltb-false}
 use Rattle.panel.specs.declared.kinds.Path.{Path}
-use Rattle.write_lists.specs.Pairs.{inBox}
+use Rattle.pairs.specs.Pairs.{inBox}
 use Rattle.sizes.specs.Words.{onScreen, screenPairs}
 
 -- f at 0, 1, .., n - 1

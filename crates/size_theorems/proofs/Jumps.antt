@@ -7,9 +7,9 @@ use native.Mathlib.Omega.{arith}
 use lib.ListN.{length}
 use borrow.Author.Tests.{leb-true, leb-false}
 use Rattle.commands.specs.Numbers.{fillWords, colorWords, jumpWords, tileWords}
-use Rattle.write_lists.specs.Layout.{pairSize, fits, jumpCount, leftAt, jumpsOf, ownWords}
-use Rattle.write_lists.specs.declared.pairs.Pair.{Pair}
-use Rattle.write_lists.specs.declared.pairs.Pair.the-variants.{Fill, Solid}
+use Rattle.lay_pairs.specs.Layout.{pairSize, fits, jumpCount, leftAt, jumpsOf, ownWords}
+use Rattle.pairs.specs.declared.Pair.{Pair}
+use Rattle.pairs.specs.declared.Pair.the-variants.{Fill, Solid}
 use Rattle.sizes.specs.Words.{regionPairs}
 
 pair-most : (p : Pair) → pairSize p ≤ fillWords + colorWords

@@ -22,11 +22,11 @@ use Rattle.panel.specs.declared.kinds.Answer.the-variants as Answer
 use Rattle.panel.proofs.CheckLaws.{none-fails}
 use Rattle.commands.specs.Numbers.{tileWords}
 use Rattle.commands.specs.Pixel.{evenOddOf}
-use Rattle.write_lists.specs.Pairs.{Tables, tables, inBox, covers, bitsOf, onTile, byPath, onPath, pairsOf, tilePairs}
-use Rattle.write_lists.specs.Layout.{jumpsOf, ownWords, commandsOf, written}
+use Rattle.pairs.specs.Pairs.{Tables, tables, inBox, covers, bitsOf, onTile, byPath, onPath, pairsOf, tilePairs}
+use Rattle.lay_pairs.specs.Layout.{jumpsOf, ownWords, commandsOf, written}
 use Rattle.write_lists.specs.Lists.{callAnswer, longFrom, freshOf, fillsFit, roomChecks, screenTiles, regionsOf, thenCheck, answerOf, listsOf, onDone, writeListsOf}
-use Rattle.write_lists.specs.declared.pairs.Pair.{Pair}
-use Rattle.write_lists.specs.declared.pairs.Pair.the-variants.{Fill, Solid}
+use Rattle.pairs.specs.declared.Pair.{Pair}
+use Rattle.pairs.specs.declared.Pair.the-variants.{Fill, Solid}
 use Rattle.list_theorems.proofs.Handed.{Handed, handed-fits}
 use Rattle.sizes.specs.Words.{screenPairs, pairsTo, regionPairs, wordsOf}
 use Rattle.sizes.proofs.WordLaws.{pairs-suc, pairs-none}

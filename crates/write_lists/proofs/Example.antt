@@ -8,11 +8,11 @@ use Rattle.panel.specs.Limits.{edgeMost}
 use Rattle.panel.specs.Paths.{boxed, pathAt, pathsFrom, pathsAnswer}
 use Rattle.commands.specs.Numbers.{endNo, encodeTo, jumpWords, tileWords, startOf}
 use Rattle.commands.specs.declared.steps.Act.the-variants.{Jump}
-use Rattle.write_lists.specs.Pairs.{tables, onTile, onPath, tilePairs}
-use Rattle.write_lists.specs.Layout.{pairWords, pairSize, jumpsOf, ownWords, penOf, laid, written}
+use Rattle.pairs.specs.Pairs.{tables, onTile, onPath, tilePairs}
+use Rattle.lay_pairs.specs.Layout.{pairWords, pairSize, jumpsOf, ownWords, penOf, laid, written}
 use Rattle.write_lists.specs.Lists.{left, callAnswer, regionsOf, answerOf, listsOf, writeListsOf}
-use Rattle.write_lists.specs.declared.pairs.Pair.{Pair}
-use Rattle.write_lists.specs.declared.pairs.Pair.the-variants.{Fill, Solid}
+use Rattle.pairs.specs.declared.Pair.{Pair}
+use Rattle.pairs.specs.declared.Pair.the-variants.{Fill, Solid}
 use Rattle.panel.specs.declared.kinds.Answer.the-variants.{Done}
 
 -- so many words of a region, then 9 in all that are left of it

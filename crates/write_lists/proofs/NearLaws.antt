@@ -15,11 +15,11 @@ use Rattle.panel.proofs.PathLaws.{checked}
 use Rattle.near.specs.Near.{kept, hasRow, hasColumns, blockStart, rowPaths, columnPaths, blockPaths, wideColumns, narrowColumns, Boxed, Listed}
 use Rattle.near.specs.declared.Held.{Held}
 use Rattle.near.proofs.NearLaws.{kept-yes, kept-no, row-there, column-there}
-use Rattle.write_lists.specs.Pairs.{Tables, inBox, onPath, pairsOf, tilePairs}
-use Rattle.write_lists.specs.Ready.{Ready}
-use Rattle.write_lists.specs.Near.{Near}
-use Rattle.write_lists.specs.declared.pairs.Pair.{Pair}
-use Rattle.write_lists.proofs.PairLaws.{box-in, path-outside}
+use Rattle.pairs.specs.Pairs.{Tables, inBox, onPath, pairsOf, tilePairs}
+use Rattle.pairs.specs.Ready.{Ready}
+use Rattle.tile_list.specs.Near.{Near}
+use Rattle.pairs.specs.declared.Pair.{Pair}
+use Rattle.pairs.proofs.PairLaws.{box-in, path-outside}
 
 module _ (f : ℕ → Bool) where
   -- what is left out puts nothing there

@@ -19,14 +19,14 @@ use Rattle.panel.proofs.LimitLaws.{small}
 use Rattle.panel.proofs.PathLaws.{Checked, checked}
 use Rattle.commands.specs.Numbers.{tileWords}
 use Rattle.commands.specs.Pixel.{evenOddOf}
-use Rattle.write_lists.specs.Pairs.{Tables, colourAt, ruleAt, inBox, covers, bitsOf, onTile, byPath, onPath, pairsOf, tilePairs}
-use Rattle.write_lists.specs.Layout.{fits, leftAfter, jumpsOf, ownWords}
+use Rattle.pairs.specs.Pairs.{Tables, colourAt, ruleAt, inBox, covers, bitsOf, onTile, byPath, onPath, pairsOf, tilePairs}
+use Rattle.lay_pairs.specs.Layout.{fits, leftAfter, jumpsOf, ownWords}
 use Rattle.write_lists.specs.Lists.{callAnswer, freshOf}
-use Rattle.write_lists.specs.Ready.{wordsNamed}
-use Rattle.write_lists.specs.declared.pairs.Pair.{Pair}
-use Rattle.write_lists.specs.declared.pairs.Pair.the-variants.{Fill, Solid}
-use Rattle.write_lists.proofs.SizeLaws.{jump-small}
-use Rattle.write_lists.proofs.PairLaws.{box-in}
+use Rattle.lay_pairs.specs.Room.{wordsNamed}
+use Rattle.pairs.specs.declared.Pair.{Pair}
+use Rattle.pairs.specs.declared.Pair.the-variants.{Fill, Solid}
+use Rattle.lay_pairs.proofs.SizeLaws.{jump-small}
+use Rattle.pairs.proofs.PairLaws.{box-in}
 use Rattle.write_lists.proofs.TileLaws.{call-ready}
 
 -- ---- a sum over a list

@@ -19,15 +19,19 @@ use Rattle.panel.specs.declared.kinds.Answer.the-variants.{Done, Refused}
 use Rattle.panel.proofs.CheckLaws.{all-ok, unless-done}
 use Rattle.panel.proofs.BoolLaws.{both}
 use Rattle.commands.specs.Numbers.{tileWords}
-use Rattle.write_lists.specs.Pairs.{Tables, tilePairs}
-use Rattle.write_lists.specs.Layout.{laid, jumpsOf, ownWords, penOf, commandsOf, written}
-use Rattle.write_lists.specs.Lists.{lentChecks, callAnswer, longFrom, freshOf, slotsFit, allFit, fillsFit, roomChecks, listsFrom, regionsOf, thenCheck, answerOf, listsOf, left, writeListsOf}
-use Rattle.write_lists.specs.Ready.{Ready, noWeight, weighAll, tilesAnswer, wordsNamed, Room}
-use Rattle.write_lists.specs.declared.pairs.Pair.{Pair}
-use Rattle.write_lists.specs.declared.pairs.Pair.the-variants.{Fill, Solid}
-use Rattle.write_lists.specs.declared.weigh.Weight.{Weight}
-use Rattle.write_lists.proofs.WeighLaws.{weighed-pairs, weighed-jumps, weighed-slots}
-use Rattle.write_lists.proofs.LayLaws.{written-append, length-written}
+use Rattle.pairs.specs.Pairs.{Tables, tilePairs}
+use Rattle.lay_pairs.specs.Layout.{laid, jumpsOf, ownWords, penOf, commandsOf, written}
+use Rattle.lay_pairs.specs.Slots.{slotsFit, allFit}
+use Rattle.write_lists.specs.Lists.{lentChecks, callAnswer, longFrom, freshOf, fillsFit, roomChecks, listsFrom, regionsOf, thenCheck, answerOf, listsOf, left, writeListsOf}
+use Rattle.pairs.specs.Ready.{Ready}
+use Rattle.lay_pairs.specs.Room.{wordsNamed, Room}
+use Rattle.tile_list.specs.Weight.{noWeight, weighAll}
+use Rattle.write_lists.specs.Ready.{tilesAnswer}
+use Rattle.pairs.specs.declared.Pair.{Pair}
+use Rattle.pairs.specs.declared.Pair.the-variants.{Fill, Solid}
+use Rattle.tile_list.specs.declared.weigh.Weight.{Weight}
+use Rattle.tile_list.proofs.WeighLaws.{weighed-pairs, weighed-jumps, weighed-slots}
+use Rattle.lay_pairs.proofs.LayLaws.{written-append, length-written}
 
 -- ---- checked
 

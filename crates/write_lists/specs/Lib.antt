@@ -1,6 +1,3 @@
--- Command lists: what the paths put on a screen tile, how it is laid out in words, and the call. Definitions only.
-pub mod Pairs
-pub mod Layout
+-- Command lists: the call. Definitions only.
 pub mod Lists
 pub mod Ready
-pub mod Near

@@ -7,7 +7,7 @@ use Prim.Native.Nat.{ℕ, _+_, _*_, _/_, _%_}
 use lib.Dec.{eqb, leb}
 use lib.ListN.{length}
 use Rattle.lists.specs.Sums.{from}
-use Rattle.panel.specs.Limits.{mostTiles, mostSlots, mostCommands}
+use Rattle.panel.specs.Limits.{mostTiles, mostCommands}
 use Rattle.panel.specs.Refusals.{notWhole, tooMany, noRoom, tooLong}
 use Rattle.panel.specs.Widths.{pathWords, paintWords}
 use Rattle.panel.specs.Kinds.{paperOf}
@@ -16,10 +16,9 @@ use Rattle.panel.specs.Paths.{pathsAnswer}
 use Rattle.panel.specs.declared.kinds.Answer.{Answer}
 use Rattle.panel.specs.declared.kinds.Answer.the-variants.{Done, Refused}
 use Rattle.commands.specs.Numbers.{tileWords}
-use Rattle.write_lists.specs.Pairs.{Tables, tilePairs}
-use Rattle.write_lists.specs.Layout.{Chunk, laid, jumpsOf, ownWords, penOf, commandsOf, written}
-use Rattle.write_lists.specs.declared.pairs.Pair.{Pair}
-use Rattle.write_lists.specs.declared.pairs.Pair.the-variants.{Fill, Solid}
+use Rattle.pairs.specs.Pairs.{Tables, tilePairs}
+use Rattle.lay_pairs.specs.Layout.{Chunk, laid, jumpsOf, ownWords, penOf, commandsOf, written}
+use Rattle.lay_pairs.specs.Slots.{allFit}
 
 -- ---- 1 to 4
 
@@ -51,15 +50,7 @@ abbrev pub freshOf : Tables → ℕ → List ℕ → ℕ
 freshOf s cols [] = 0
 freshOf s cols (t ∷ ts) = jumpsOf ownWords (tilePairs s cols t) + freshOf s cols ts
 
--- a FILL's slots lie within the room named and the limit
-abbrev pub slotsFit : ℕ → Pair → Bool
-slotsFit room (Fill count rule first backdrop colour) = leb (first + count) room && leb (first + count) mostSlots
-slotsFit room (Solid colour) = true
-
-abbrev pub allFit : ℕ → List Pair → Bool
-allFit room [] = true
-allFit room (p ∷ ps) = slotsFit room p && allFit room ps
-
+-- whether the slots of all FILLs on these screen tiles fit
 abbrev pub fillsFit : Tables → ℕ → ℕ → List ℕ → Bool
 fillsFit s cols room [] = true
 fillsFit s cols room (t ∷ ts) = allFit room (tilePairs s cols t) && fillsFit s cols room ts

@@ -1,13 +1,7 @@
 // Writes the command lists: one for each screen tile, from the paths in painting order and the tiles'
 // tables. docs/RULES.md, "Command lists" and refusals 1 to 4, 9 and 15. Added: it is in none of the
 // files ported.
-pub mod lay;
-pub mod pairs;
-pub mod sizes;
-pub mod weigh;
-
 use commands::numbers::TILE_WORDS;
-use lay::lay_tile;
 use near::look;
 use near::no_paths;
 use near::nothing_held;
@@ -22,7 +16,8 @@ use panel::refusals::TOO_LONG;
 use panel::refusals::TOO_MANY;
 use panel::widths::PAINT_WORDS;
 use panel::widths::PATH_WORDS;
-use weigh::weigh;
+use tile_list::lay::lay_tile;
+use tile_list::weigh::weigh;
 ghost use mathlib.Core.Path.{_≡_};
 ghost use mathlib.Core.Bool.{true};
 ghost use Prim.Native.Nat.{_+_, _*_, _≤_, _<_, _^_};
@@ -31,10 +26,12 @@ ghost use Rattle.lists.specs.Sums.{from};
 ghost use Rattle.panel.specs.Limits.{mostPaths, mostTiles, mostSlots};
 ghost use Rattle.panel.specs.Checks.{firstNo};
 ghost use Rattle.commands.specs.Numbers.{tileWords};
-ghost use Rattle.write_lists.specs.Pairs.{tables};
-ghost use Rattle.write_lists.specs.Layout.{written};
+ghost use Rattle.pairs.specs.Pairs.{tables};
+ghost use Rattle.pairs.specs.Ready.{Ready};
+ghost use Rattle.lay_pairs.specs.Layout.{written};
+ghost use Rattle.lay_pairs.specs.Room.{wordsNamed};
 ghost use Rattle.write_lists.specs.Lists.{lentChecks, callAnswer, roomChecks, freshOf, fillsFit, listsFrom, ListsMet};
-ghost use Rattle.write_lists.specs.Ready.{Ready, tilesAnswer, wordsNamed};
+ghost use Rattle.write_lists.specs.Ready.{tilesAnswer};
 
 // The lengths lent: whole paths, a paint for each, equally many backdrops, stored words and tally
 // words (1); then the screen (2).

@@ -14,9 +14,9 @@ use Rattle.lists.specs.Sums.{from}
 use Rattle.panel.specs.Limits.{mostPaths, mostCommands}
 use Rattle.panel.proofs.LimitLaws.{small}
 use Rattle.panel.proofs.CheckLaws.{unless-no, unless-fine}
-use Rattle.write_lists.specs.Pairs.{tables, tilePairs}
-use Rattle.write_lists.specs.Layout.{commandsOf}
-use Rattle.write_lists.specs.Lists.{allFit}
+use Rattle.pairs.specs.Pairs.{tables, tilePairs}
+use Rattle.lay_pairs.specs.Layout.{commandsOf}
+use Rattle.lay_pairs.specs.Slots.{allFit}
 use Rattle.write_lists.specs.Ready.{tilesAnswer}
 use Rattle.near.specs.Near.{Listed}
 use Rattle.near.proofs.NearLaws.{from-turn, from-end, from-all, listed-next, listed-first}

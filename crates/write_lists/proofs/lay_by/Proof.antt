@@ -10,7 +10,7 @@ use lib.ListN.{length}
 use Rattle.lists.specs.Sums.{from}
 use Rattle.panel.specs.Limits.{mostPaths}
 use Rattle.panel.proofs.LimitLaws.{small}
-use Rattle.write_lists.specs.Pairs.{tables}
+use Rattle.pairs.specs.Pairs.{tables}
 use Rattle.near.specs.Near.{Listed}
 use Rattle.near.proofs.NearLaws.{from-turn, from-end, from-all, listed-next, listed-first}
 use Rattle.write_lists.proofs.NearLaws.{ready-boxed, listed-near}

@@ -8,7 +8,7 @@ use lib.ListN.{length}
 use Rattle.lists.specs.Sums.{from}
 use Rattle.panel.specs.declared.kinds.Answer.the-variants.{Done}
 use Rattle.panel.proofs.LimitLaws.{small}
-use Rattle.write_lists.specs.Pairs.{tables}
+use Rattle.pairs.specs.Pairs.{tables}
 use Rattle.write_lists.specs.Lists.{callAnswer}
 use Rattle.write_lists.specs.Ready.{tilesAnswer}
 use Rattle.write_lists.proofs.TileLaws.{call-ready, has-columns, tiles-ready, call-no, tiles-no, call-done}

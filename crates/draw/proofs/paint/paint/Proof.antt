@@ -1,6 +1,6 @@
 -- `draw::paint::paint` meets its contract: by what the lists and fine answer. Assumes nothing.
 use denote.Ref.{now}
-use Rattle.write_lists.specs.Pairs.{tables}
+use Rattle.pairs.specs.Pairs.{tables}
 use Rattle.draw.proofs.DrawLaws.{listed-no, shown-no, all-shown}
 use borrow.Author.Needs.{needs}
 use Rattle.draw.proofs.paint.paint.Statement.{statement}

@@ -1,0 +1,3 @@
+-- What the paths put on a screen tile. Definitions only.
+pub mod Pairs
+pub mod Ready
