@@ -54,7 +54,9 @@ use Rattle.svg.specs.declared.Answer.the-variants as Drawing
 use Rattle.svg.proofs.Exact.{one-lines}
 use Rattle.svg.proofs.Examples.{drawing}
 use Rattle.ranges.specs.Ranges.{clearedOf, copiedOf}
-use Rattle.recount.specs.Recount.{ownWalk, ownStep, redrawnOf, askedOf, recountedOf}
+use Rattle.new_lines.specs.Own.{ownWalk, ownStep}
+use Rattle.kept_range.specs.Kept.{redrawnOf}
+use Rattle.recount.specs.Recount.{askedOf, recountedOf}
 use Rattle.pixel.specs.Coverage.{coverageAtOf}
 use Rattle.pixel.specs.Colour.{underList, colourAtOf}
 use Rattle.groatpocket.specs.CallRecount.{GpRecountMet}

@@ -3,9 +3,10 @@ use mathlib.Core.Path.{_≡_, refl, ap}
 use mathlib.Core.List.{List}
 use Prim.Native.Nat.{ℕ}
 use lib.IntN.{ℤ}
-use Rattle.recount.specs.Recount.{Out, outOf, paperOf}
-use Rattle.recount.specs.declared.kinds.Recounted.{Recounted}
-use Rattle.recount.specs.declared.kinds.Recounted.the-variants.{Done, Refused}
+use Rattle.new_lines.specs.Own.{paperOf}
+use Rattle.new_lines.specs.declared.Recounted.{Recounted}
+use Rattle.new_lines.specs.declared.Recounted.the-variants.{Done, Refused}
+use Rattle.kept_range.specs.Kept.{Out, outOf}
 use Rattle.groatpocket.specs.CallRecount.{numberOn, itemOn, madeOn, recountLent, recountPaper, recountSeen}
 
 on-paper : (r : Recounted) (bs : List ℤ) (cs rs : List ℕ) (kb : List ℤ) (kc : List ℕ)

@@ -1,6 +1,6 @@
 // recount::recount: one path's lines counted again, into its own tiles alone.
+use new_lines::Recounted;
 use panel::refusals::DONE;
-use recount::Recounted;
 ghost use mathlib.Core.Path.{_≡_};
 ghost use Rattle.groatpocket.specs.CallRecount.{numberOn, itemOn, madeOn, GpRecountMet};
 

@@ -1,15 +1,12 @@
 // What is checked before anything is changed: docs/RULES.md, "A recount".
 ghost use mathlib.Core.Path.{_≡_};
-ghost use Prim.Native.Nat.{_≤_, _<_};
-ghost use lib.ListN.{length};
-ghost use Rattle.panel.specs.Limits.{mostTiles};
 ghost use Rattle.panel.specs.Checks.{firstNo};
 ghost use Rattle.panel.specs.Paths.{pathsAnswer};
 ghost use Rattle.panel.specs.declared.kinds.Answer.the-variants.{Done};
-ghost use Rattle.recount.specs.Recount.{tilesIn, lentChecks, rangeChecks, askedOf};
+ghost use Rattle.recount.specs.Recount.{lentChecks, rangeChecks, askedOf};
+use kept_range::tiles_in;
 use panel::checks::check_paths;
 use panel::kinds::Answer;
-use panel::kinds::Path;
 use panel::kinds::Verdict;
 use panel::paths::path_at;
 use panel::refusals::NO_SUCH;
@@ -38,14 +35,6 @@ fn check_lent(nl: usize, nn: usize, nc: usize, nb: usize, nt: usize, nr: usize) 
         return Verdict::Against(NOT_WHOLE);
     }
     Verdict::Fine
-}
-
-// How many tiles a path has whose box is in order.
-pub(crate) fn tiles_in(p: Path) -> usize
-    requires { ⌜ (p .x0 ≤ p .x1) × (p .y0 ≤ p .y1) ⌝ }
-    ensures { λ r. ⌜ r ≡ tilesIn p ⌝ }
-{
-    ((p.x1 - p.x0) as usize) * ((p.y1 - p.y0) as usize)
 }
 
 // The path named is there, and each kept slice is as long as its range.

@@ -2,8 +2,5 @@
 // docs/RULES.md, "A recount". A line's check and write are counting's own.
 mod call;
 mod checks;
-mod kinds;
-mod lines;
 
 pub use call::recount;
-pub use kinds::Recounted;

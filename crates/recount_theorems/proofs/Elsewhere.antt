@@ -26,7 +26,9 @@ use Rattle.panel.specs.declared.kinds.Answer.the-variants as Answer
 use Rattle.panel.proofs.PathLaws.{checked}
 use Rattle.acts.specs.Acts.{St, stOf}
 use Rattle.acts.specs.Line.{Refusal, atLine, batchOf}
-use Rattle.recount.specs.Recount.{ownStep, linesRan, Out, tilesIn, clearedFor, keptFrom, givenBack, ranOut, redrawnOf, askedOf, askedOut, recountedOf}
+use Rattle.new_lines.specs.Own.{ownStep, linesRan}
+use Rattle.kept_range.specs.Kept.{Out, tilesIn, clearedFor, keptFrom, givenBack, ranOut, redrawnOf}
+use Rattle.recount.specs.Recount.{askedOf, askedOut, recountedOf}
 use Rattle.recount.proofs.CallLaws.{Asked, asked-done}
 use Rattle.theorems.specs.Drawn.{Drawn, drawnAt, tilesOf, marksOf, InPath, OwnLine}
 use Rattle.theorems.specs.Events.{tilesEv}

@@ -25,8 +25,10 @@ use Rattle.walk.specs.Lent.{reachedOf}
 use Rattle.acts.specs.Acts.{St}
 use Rattle.acts.specs.Line.{Refusal}
 use Rattle.walked_lines.specs.Line.{lineStep}
-use Rattle.recount.specs.Recount.{lentChecks, rangeChecks, andAnswer, askedOf, ownStep, otherNo, linesRan}
-use Rattle.recount.proofs.OwnLaws.{own-same, own-other}
+use Rattle.stretches.specs.Stretches.{otherNo}
+use Rattle.new_lines.specs.Own.{ownStep, linesRan}
+use Rattle.new_lines.proofs.OwnLaws.{own-same, own-other}
+use Rattle.recount.specs.Recount.{lentChecks, rangeChecks, andAnswer, askedOf}
 use Rattle.theorems.specs.Refusing.{RowWhy, PathsWhy, BadEnds, LineWhy}
 use Rattle.theorems.proofs.Exact.{row-exact, line-exact}
 use Rattle.theorems.proofs.ExactPaths.{paths-exact}

@@ -14,9 +14,10 @@ use Rattle.panel.specs.declared.kinds.Answer.{Answer}
 use Rattle.panel.specs.declared.kinds.Answer.the-variants as Answer
 use Rattle.acts.specs.Acts.{St, stOf}
 use Rattle.acts.specs.Line.{Refusal}
-use Rattle.recount.specs.Recount.{Out, clearedFor, keptFrom, RecountMet}
-use Rattle.recount.specs.declared.kinds.Recounted.{Recounted}
-use Rattle.recount.specs.declared.kinds.Recounted.the-variants.{Done, Refused}
+use Rattle.new_lines.specs.declared.Recounted.{Recounted}
+use Rattle.new_lines.specs.declared.Recounted.the-variants.{Done, Refused}
+use Rattle.kept_range.specs.Kept.{Out, clearedFor, keptFrom}
+use Rattle.recount.specs.Recount.{RecountMet}
 use Rattle.recount.proofs.CallLaws.{recount-no, asked-done}
 use Rattle.recount_theorems.specs.Ways.{RecountWay, asked-refused, line-refused, all-recounted}
 use Rattle.recount_theorems.proofs.Elsewhere.{askedHere, ran, outBy, out-is, refused-kept}

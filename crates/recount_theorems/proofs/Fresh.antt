@@ -24,7 +24,8 @@ use Rattle.panel.specs.declared.kinds.Answer.{Answer}
 use Rattle.panel.specs.declared.kinds.Answer.the-variants as Answer
 use Rattle.acts.specs.Acts.{St}
 use Rattle.acts.specs.Line.{Refusal}
-use Rattle.recount.specs.Recount.{tilesIn, Out, recountedOf}
+use Rattle.kept_range.specs.Kept.{tilesIn, Out}
+use Rattle.recount.specs.Recount.{recountedOf}
 use Rattle.recount.proofs.CallLaws.{Asked, asked-done}
 use Rattle.theorems.specs.Drawn.{Drawn, drawnAt, drawn, tilesOf, marksOf, isOf, ofPath, InPath, OwnLine}
 use Rattle.theorems.specs.Events.{eventsOf, tilesEv}

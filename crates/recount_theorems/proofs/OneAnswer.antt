@@ -5,9 +5,11 @@ use Prim.Native.Nat.{ℕ}
 use native.Mathlib.Omega.{arith}
 use lib.IntN.{ℤ}
 use lib.Ieee.{Float}
-use Rattle.recount.specs.Recount.{Out, outOf, paperOf, RecountMet}
-use Rattle.recount.specs.declared.kinds.Recounted.{Recounted}
-use Rattle.recount.specs.declared.kinds.Recounted.the-variants.{Done, Refused}
+use Rattle.new_lines.specs.Own.{paperOf}
+use Rattle.new_lines.specs.declared.Recounted.{Recounted}
+use Rattle.new_lines.specs.declared.Recounted.the-variants.{Done, Refused}
+use Rattle.kept_range.specs.Kept.{Out, outOf}
+use Rattle.recount.specs.Recount.{RecountMet}
 
 recounted-once : (a b : Recounted) → paperOf a ≡ paperOf b → a ≡ b
 recounted-once (Done m) (Done n) e = let q : m ≡ n = cc in ap Done q

@@ -20,8 +20,8 @@ use Rattle.panel.specs.declared.lines.LineEnds.{LineEnds}
 use Rattle.acts.specs.Acts.{St}
 use Rattle.acts.specs.Line.{atLine}
 use Rattle.walked_lines.specs.Line.{lineStep}
-use Rattle.recount.specs.Recount.{ownStep}
-use Rattle.recount.proofs.OwnLaws.{own-same, own-taken}
+use Rattle.new_lines.specs.Own.{ownStep}
+use Rattle.new_lines.proofs.OwnLaws.{own-same, own-taken}
 use Rattle.theorems.specs.Drawn.{Drawn, drawnAt, walkOf, actsBy, tilesOf, marksOf, OwnLine}
 use Rattle.theorems.specs.Events.{Event, eventsIn, eventsAt}
 use Rattle.theorems.proofs.Counting.{Moved, moved-append, lined}

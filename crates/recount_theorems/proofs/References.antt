@@ -25,7 +25,8 @@ use Rattle.panel.specs.declared.kinds.Answer.the-variants as Answer
 use Rattle.panel.proofs.PathLaws.{checked, one-path}
 use Rattle.acts.specs.Acts.{St}
 use Rattle.acts.specs.Line.{Refusal}
-use Rattle.recount.specs.Recount.{tilesIn, clearedFor, recountedOf}
+use Rattle.kept_range.specs.Kept.{tilesIn, clearedFor}
+use Rattle.recount.specs.Recount.{recountedOf}
 use Rattle.recount.proofs.CallLaws.{Asked, asked-done}
 use Rattle.theorems.specs.Drawn.{Drawn, drawnAt, drawn, walkOf, actsBy, isOf, ofPath, InPath}
 use Rattle.theorems.specs.Events.{Event, EventOwn, eventsIn, eventsAt, eventsOf, tilesEv, wordsEv}

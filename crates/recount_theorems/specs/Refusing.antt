@@ -15,7 +15,8 @@ use Rattle.panel.specs.declared.kinds.Answer.the-variants.{Done}
 use Rattle.panel.specs.Lines.{lineAt}
 use Rattle.acts.specs.Acts.{St}
 use Rattle.acts.specs.Line.{Refusal, batchOf}
-use Rattle.recount.specs.Recount.{lentChecks, rangeChecks, ownStep}
+use Rattle.new_lines.specs.Own.{ownStep}
+use Rattle.recount.specs.Recount.{lentChecks, rangeChecks}
 use Rattle.theorems.specs.Refusing.{RowWhy, PathsWhy, BadEnds, LineWhy}
 use Rattle.recount_theorems.specs.Lines.{lentNos, lentCoords}
 

@@ -12,9 +12,11 @@ use Rattle.panel.specs.Paths.{pathAt}
 use Rattle.panel.specs.declared.kinds.Answer.the-variants as Answer
 use Rattle.acts.specs.Acts.{St, stOf}
 use Rattle.acts.specs.Line.{batchOf}
-use Rattle.recount.specs.Recount.{ownStep, linesRan, clearedFor, keptFrom, askedOf}
-use Rattle.recount.specs.declared.kinds.Recounted.{Recounted}
-use Rattle.recount.specs.declared.kinds.Recounted.the-variants.{Done, Refused}
+use Rattle.new_lines.specs.Own.{ownStep, linesRan}
+use Rattle.new_lines.specs.declared.Recounted.{Recounted}
+use Rattle.new_lines.specs.declared.Recounted.the-variants.{Done, Refused}
+use Rattle.kept_range.specs.Kept.{clearedFor, keptFrom}
+use Rattle.recount.specs.Recount.{askedOf}
 use Rattle.recount_theorems.specs.Refusing.{AskedWhy, OwnWhy}
 
 pub data RecountWay (p : ℕ) (lineNos nos : List ℕ) (coords : List Float) (paths : List ℕ) (bs : List ℤ) (cs rs : List ℕ) (kb : List ℤ) (kc : List ℕ)

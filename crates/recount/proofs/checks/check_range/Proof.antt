@@ -5,7 +5,7 @@ use borrow.Author.Needs.{needs}
 use borrow.Author.Tests.{eq-eqb, ne-eqb, lt-ltb, le-ltb}
 use Rattle.panel.specs.Paths.{pathAt, pathCount}
 use Rattle.panel.proofs.PathLaws.{checked, path-there}
-use Rattle.recount.specs.Recount.{tilesIn}
+use Rattle.kept_range.specs.Kept.{tilesIn}
 use Rattle.recount.proofs.checks.check_range.Statement.{statement}
 use Rattle.recount.proofs.checks.check_range.Tie as tie
 

@@ -1,0 +1,2 @@
+-- Laws of the range of a path that is counted again. Assumes nothing.
+pub mod KeptLaws

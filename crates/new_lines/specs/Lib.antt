@@ -1,0 +1,2 @@
+-- The new lines of a recount. Definitions only.
+pub mod Own

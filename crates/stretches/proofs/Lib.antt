@@ -1,0 +1,2 @@
+-- Laws of a stretch of lines. Assumes nothing.
+pub mod StretchLaws
