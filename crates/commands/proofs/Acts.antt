@@ -1,27 +1,22 @@
--- Lists changed by a command, and what a command that goes on has been checked for. Assumes nothing.
-use mathlib.Core.Path.{_≡_, refl, sym, ap, subst, _∙_}
+-- Lists changed place by place, and what a command that goes on has been checked for. Assumes nothing.
+use mathlib.Core.Path.{_≡_, refl, subst, _∙_}
 use mathlib.Core.Bool.{Bool, true, false, cond}
-use mathlib.Core.List.{List, []}
+use mathlib.Core.List.{List}
 use Prim.Native.Nat.{ℕ, _+_, _-_, _<_}
 use native.Mathlib.Omega.{arith}
 use lib.Dec.{leb}
-use lib.IntN.{ℤ}
 use lib.ListN.{length, getD}
-use lib.Ieee.{Float, nan}
-use Rattle.util.specs.Constants as Number
-use Rattle.lists.specs.Grid.{mapi, tabulate}
+use lib.Ieee.{Float}
+use Rattle.lists.specs.Grid.{mapi}
 use Rattle.lists.specs.GridLaws.{mapi-is, getD-mapi, length-mapi}
 use Rattle.panel.specs.Refusals.{pastEnd}
 use Rattle.panel.specs.declared.kinds.Verdict.{Verdict}
 use Rattle.panel.specs.declared.kinds.Verdict.the-variants.{Fine, Against}
 use Rattle.coverage.specs.Ground.{groundOf}
 use Rattle.coverage.proofs.Grounds.{ground-room}
-use Rattle.sides.specs.Tile.{tileSize}
-use Rattle.coverage.specs.Coverage.{pixelOf, coverageOf}
-use Rattle.coverage.proofs.Laws.{mapi-over}
 use Rattle.commands.specs.Moves.{countOf, onGround, fillMove, wholeMove, moveOf}
 use Rattle.commands.specs.Numbers.{wordsOf}
-use Rattle.commands.specs.Pixel.{evenOddOf, signedOf, cover, paint, coverAll, paintAll, Within}
+use Rattle.commands.specs.Pixel.{Within}
 use Rattle.commands.specs.declared.steps.Op.{Op}
 use Rattle.commands.specs.declared.steps.Op.the-variants as Op′
 use Rattle.commands.specs.declared.steps.Act.{Act}
@@ -35,39 +30,6 @@ unchanged d l = mapi-is (λ k x. x) l l d d refl (λ k h. refl)
 
 pub mapi-cong : {A B : Type 0} (d : A) (e : B) (f g : ℕ → A → B) (l : List A) → ((k : ℕ) (x : A) → k < length l → f k x ≡ g k x) → mapi f l ≡ mapi g l
 mapi-cong d e f g l h = mapi-is g l (mapi f l) d e (length-mapi f l) (λ k lt. getD-mapi f l k d e lt ∙ h k (getD l k d) lt)
-
-pub length-cover : (a : Act) (segs area : List Float) → length (coverAll a segs area) ≡ length area
-unfolding coverAll
-length-cover a segs area = length-mapi (cover a segs) area
-
--- ---- what the code's steps leave is what the command says
-module _ (segs area : List Float) (rgba : List (List Float)) where
-  pub by-fill : (rule first backdrop : ℕ) (z : ℤ) (area′ : List Float) → length area ≡ tileSize → z ≡ signedOf backdrop
-      → area′ ≡ coverageOf segs first (countOf rule) (evenOddOf rule) z Number.zero Number.zero → area′ ≡ coverAll (Fill rule first backdrop) segs area
-  unfolding coverAll cover coverageOf
-  by-fill rule first backdrop z area′ n p e =
-      let f = pixelOf segs first (countOf rule) (evenOddOf rule) (signedOf backdrop) Number.zero Number.zero in
-      e ∙ ap (λ (b : ℤ). coverageOf segs first (countOf rule) (evenOddOf rule) b Number.zero Number.zero) p ∙ ap (λ (m : ℕ). tabulate m f) (sym n) ∙ sym (mapi-over f area)
-
-  pub fill-paints : (rule first backdrop : ℕ) → rgba ≡ paintAll (Fill rule first backdrop) area rgba
-  unfolding paintAll paint
-  fill-paints rule first backdrop = unchanged [] rgba
-
-  pub solid-paints : rgba ≡ paintAll Solid area rgba
-  unfolding paintAll paint
-  solid-paints = unchanged [] rgba
-
-  pub color-covers : (word : ℕ) → area ≡ coverAll (Color word) segs area
-  unfolding coverAll cover
-  color-covers word = unchanged nan area
-
-  pub jump-covers : area ≡ coverAll Jump segs area
-  unfolding coverAll cover
-  jump-covers = unchanged nan area
-
-  pub jump-paints : rgba ≡ paintAll Jump area rgba
-  unfolding paintAll paint
-  jump-paints = unchanged [] rgba
 
 -- ---- a command that goes on has its segments among those lent
 pick-goes : (b : Bool) (m : Move) (k : ℕ) (a : Act) (n : ℕ) → cond b m (Refused k) ≡ Goes a n → (b ≡ true) × (m ≡ Goes a n)

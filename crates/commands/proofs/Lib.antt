@@ -1,6 +1,5 @@
 pub mod Acts
 pub mod Traced
 pub mod AlikeLaws
-pub mod Lasts
 pub mod Encoded
 pub mod Signs

@@ -16,8 +16,9 @@ use Rattle.colours.specs.Colour.{compositeOf, packOf}
 use Rattle.colours.specs.Layer.{meant}
 use Rattle.commands.specs.Numbers.{startOf}
 use Rattle.commands.specs.Pixel.{point, pointOf, Ran, ran, runOf}
-use Rattle.commands.specs.Alike.{sameColour, stopped}
-use Rattle.commands.specs.declared.run.Stop.{Stop}
+use Rattle.commands.specs.Alike.{sameColour}
+use Rattle.run_list.specs.Stopped.{stopped}
+use Rattle.run_list.specs.declared.Stop.{Stop}
 use Rattle.commands.proofs.Acts.{mapi-cong}
 use Rattle.commands.proofs.Signs.{all-alike}
 use Rattle.fine.specs.Screen.{inTile, placeOf, putTile, packed, fromList, clear, noColour, tileTrace, endsAt, colourAt, ifFine, tilePixels}

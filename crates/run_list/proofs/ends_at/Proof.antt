@@ -1,9 +1,9 @@
--- `commands::run::ends_at` meets its contract. Assumes nothing.
+-- `run_list::ends_at` meets its contract. Assumes nothing.
 use mathlib.Core.Path.{sym, ap, _∙_}
 use borrow.Author.Needs.{needs}
 use Rattle.commands.specs.Alike.{isEnd}
-use Rattle.commands.proofs.run.ends_at.Statement.{statement}
-use Rattle.commands.proofs.run.ends_at.Tie as tie
+use Rattle.run_list.proofs.ends_at.Statement.{statement}
+use Rattle.run_list.proofs.ends_at.Tie as tie
 
 peek-from-requires : tie.Need-peek-from-requires
 peek-from-requires c κs = search needs

@@ -1,4 +1,4 @@
--- `commands::run::carry_out` meets its contract: an arm for each command. Assumes nothing.
+-- `on_pixels::carry_out` meets its contract: an arm for each command. Assumes nothing.
 use mathlib.Core.Path.{_≡_, sym, ap, subst, _∙_}
 use mathlib.Core.List.{List}
 use lib.ListN.{length}
@@ -8,13 +8,13 @@ use mir.Syntax.{w32}
 use mir.ValLaws.{toZ-ofZ}
 use Rattle.colours.specs.Colour.{compositeOf}
 use Rattle.colours.specs.Layer.{meant}
 use Rattle.commands.specs.Pixel.{cover, paint, coverAll, paintAll, Within}
 use Rattle.commands.specs.declared.steps.Act.{Act}
 use Rattle.commands.specs.declared.steps.Act.the-variants.{Solid, Jump}
-use Rattle.commands.proofs.Acts.{by-fill, fill-paints, solid-paints, color-covers, jump-covers, jump-paints}
+use Rattle.on_pixels.proofs.ActLaws.{by-fill, fill-paints, solid-paints, color-covers, jump-covers, jump-paints}
 use borrow.Author.Needs.{needs}
-use Rattle.commands.proofs.run.carry_out.Statement.{statement}
-use Rattle.commands.proofs.run.carry_out.Tie as tie
+use Rattle.on_pixels.proofs.carry_out.Statement.{statement}
+use Rattle.on_pixels.proofs.carry_out.Tie as tie
 
 -- what holds of the command that the arm knows holds of the one given
 known : (segs area : List Float) (rgba : List (List Float)) (a a′ : Act) (area′ : List Float) (rgba′ : List (List Float)) (L : Type 0) → a ≡ a′ → L

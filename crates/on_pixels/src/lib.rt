@@ -1,20 +1,17 @@
-// A tile's commands carried out, on the areas and the colours lent.
-use crate::numbers::COLOR;
-use crate::numbers::COLOR_WORDS;
-use crate::numbers::END;
-use crate::numbers::FILL;
-use crate::steps::Act;
-use crate::steps::Move;
-use crate::steps::move_at;
-use crate::steps::op_of;
+// What one command does to a tile's areas and colours; and a tile's commands up to its first FILL, on one
+// pixel for all. docs/RULES.md, "Coverage and colour"; fine.rs, lines 128 to 171.
 use colours::colour;
 use colours::layer::composite;
 use colours::over;
+use commands::numbers::END;
+use commands::numbers::FILL;
+use commands::steps::Act;
+use commands::steps::Move;
+use commands::steps::move_at;
+use commands::steps::op_of;
 use coverage::area::fill_path;
 use coverage::area::set_all;
 use panel::limits::MOST_COMMANDS;
-use panel::refusals::PAST_END;
-use panel::refusals::TOO_LONG;
 use reader::Look;
 use reader::peek_from;
 use sides::TILE_HEIGHT;
@@ -28,9 +25,10 @@ ghost use Rattle.util.specs.Constants.{zero};
 ghost use Rattle.panel.specs.Limits.{mostCommands};
 ghost use Rattle.sides.specs.Tile.{tileSize};
 ghost use Rattle.colours.specs.Layer.{meant, NoMinus};
 ghost use Rattle.commands.specs.Moves.{traceOf};
 ghost use Rattle.commands.specs.Pixel.{signedOf, Within, paint, coverAll, paintAll};
-ghost use Rattle.commands.specs.Alike.{alike, coverOne, sameArea, sameColour, runFrom, left, stopped, endsHere};
+ghost use Rattle.commands.specs.Alike.{sameArea, sameColour, runFrom};
+ghost use Rattle.on_pixels.specs.One.{alike, coverOne};
 
 // A word's 32 bits as a signed number.
 pub fn signed(w: u32) -> i32
@@ -153,68 +151,4 @@ pub fn begin(words: &[u32], segments: &[f32], start: usize, px: &mut [f32; 4]) -
         count += 1;
     }
     Opening { at, count, area }
-}
-
-// Whether END stands at a place.
-pub fn ends_at(words: &[u32], at: usize) -> bool
-    ensures { λ r. ⌜ r ≡ endsHere (now (words .entry)) at ⌝ }
-{
-    match peek_from(words, at) {
-        Look::Word(tag) => tag == END,
-        Look::Past => false,
-    }
-}
-
-// How far a tile's commands were carried out: to END, to one that is refused, or to a COLOR of this word that END
-// follows. That COLOR is the caller's to lay.
-pub enum Stop {
-    End,
-    Against(u32),
-    Last(u32),
-}
-
-// The commands from the word `start` on, after `gone` others, from these areas: up to END, the first that is
-// refused or a COLOR that END follows. END passes where as many as may be have been carried out; any other is
-// refused with 15 there.
-pub fn run(
-    words: &[u32],
-    segments: &[f32],
-    start: usize,
-    gone: u32,
-    area: &mut [f32],
-    rgba: &mut [[f32; 4]; TILE_SIZE],
-    flat: &mut [bool; TILE_HEIGHT],
-) -> Stop
-    requires { ⌜ (length (now area) ≡ tileSize) × (length (now rgba) ≡ tileSize) × (gone ≤ mostCommands) × NoMinus (now area) ⌝ }
-    ensures { λ r. ⌜ (length (now (area .exit)) ≡ tileSize) × (length (now (rgba .exit)) ≡ tileSize) × NoMinus (now (area .exit))
-        × (stopped r (now (area .exit)) (meant (now (flat .exit)) (now (rgba .exit)))
-        ≡ left (now (segments .entry)) (traceOf (mostCommands - gone) (now (words .entry)) (now (segments .entry)) start) (now (area .entry)) (meant (now (flat .entry)) (now (rgba .entry)))) ⌝ }
-{
-    let mut at = start;
-    let mut count = gone;
-    loop {
-        let Look::Word(tag) = peek_from(words, at) else {
-            return Stop::Against(PAST_END);
-        };
-        if tag == END {
-            return Stop::End;
-        }
-        if count == MOST_COMMANDS {
-            return Stop::Against(TOO_LONG);
-        }
-        if (tag == COLOR) & ends_at(words, at + COLOR_WORDS) {
-            let word = words[at + 1];
-            return Stop::Last(word);
-        }
-        match move_at(words, segments, at, op_of(tag)) {
-            Move::Refused(no) => {
-                return Stop::Against(no);
-            }
-            Move::Goes(act, next) => {
-                carry_out(act, segments, area, rgba, flat);
-                at = next;
-            }
-        }
-        count += 1;
-    }
 }

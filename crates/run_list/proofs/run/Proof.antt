@@ -1,4 +1,4 @@
--- `commands::run::run` meets its contract. The invariant: what is left to do, from the present place with the commands left, gives what the whole gives. Assumes nothing.
+-- `run_list::run` meets its contract. The invariant: what is left to do, from the present place with the commands left, gives what the whole gives. Assumes nothing.
 use mathlib.Core.Path.{_≡_, refl, sym, ap, _∙_}
 use mathlib.Core.List.{List}
 use Prim.Native.Nat.{ℕ, suc, _-_, _+_, _≤_}
@@ -8,20 +8,21 @@ use lib.Ieee.{Float}
 use Rattle.panel.specs.Limits.{mostCommands}
 use Rattle.panel.specs.declared.kinds.Verdict.{Verdict}
 use Rattle.sides.specs.Tile.{tileSize}
 use Rattle.commands.specs.Moves.{Trace, ends, does, traceOf}
 use Rattle.commands.specs.Pixel.{coverAll, paintAll, Ran, ran}
 use Rattle.commands.specs.Alike.{left}
 use Rattle.commands.specs.declared.steps.Act.{Act}
-use Rattle.commands.proofs.Acts.{length-cover, move-within}
+use Rattle.commands.proofs.Acts.{move-within}
 use Rattle.commands.proofs.Traced.{found, more, trace-past, trace-end, trace-full, trace-stop, trace-goes, left-ends, left-does}
-use Rattle.commands.proofs.Lasts.{word-room, is-last, last-left}
+use Rattle.on_pixels.proofs.ActLaws.{length-cover}
+use Rattle.run_list.proofs.Lasts.{word-room, is-last, last-left}
 use Rattle.colours.specs.Layer.{meant, NoMinus}
 use Rattle.colours.proofs.FlatLaws.{meant-length}
-use Rattle.commands.proofs.Signs.{all-covered}
+use Rattle.on_pixels.proofs.Signs.{all-covered}
 use native.Mathlib.Omega.{arith}
 use borrow.Author.Needs.{needs}
-use Rattle.commands.proofs.run.run.Statement.{statement}
-use Rattle.commands.proofs.run.run.Tie as tie
+use Rattle.run_list.proofs.run.Statement.{statement}
+use Rattle.run_list.proofs.run.Tie as tie
 
 module _ (ws : List ℕ) (segs : List Float) (all : Ran) (area : List Float) (rgba : List (List Float)) (at count : ℕ)
     (inv : left segs (traceOf (mostCommands - count) ws segs at) area rgba ≡ all) where

@@ -1,4 +1,4 @@
--- `commands::run::begin` meets its contract. The invariant: what is left to do, from the present place on pixels that are alike, gives what the
+-- `on_pixels::begin` meets its contract. The invariant: what is left to do, from the present place on pixels that are alike, gives what the
 -- whole gives. Assumes nothing.
 use mathlib.Core.Path.{_≡_, refl, sym, subst, _∙_}
 use mathlib.Core.Bool.{false, _||_, true≢false}
@@ -11,14 +11,14 @@ use denote.Ref.{now}
 use Rattle.float32.specs.Meaning.{signOf}
 use Rattle.util.specs.Constants.{zero}
 use Rattle.panel.specs.Limits.{mostCommands}
 use Rattle.commands.specs.Numbers.{endNo, fillNo}
 use Rattle.commands.specs.Moves.{traceOf}
 use Rattle.commands.specs.Alike.{sameColour, runFrom}
 use Rattle.commands.proofs.Traced.{found, trace-goes}
-use Rattle.commands.proofs.AlikeLaws.{alike-turn}
-use Rattle.commands.proofs.Signs.{zero-plus, one-covered}
-use Rattle.commands.proofs.run.begin.Statement.{statement}
-use Rattle.commands.proofs.run.begin.Tie as tie
+use Rattle.on_pixels.proofs.OneLaws.{alike-turn}
+use Rattle.on_pixels.proofs.Signs.{zero-plus, one-covered}
+use Rattle.on_pixels.proofs.begin.Statement.{statement}
+use Rattle.on_pixels.proofs.begin.Tie as tie
 
 abbrev Inv-loop : tie.InvT-loop
 Inv-loop words segments start px₀ area₀ at₀ count₀ px area at count =

@@ -1,9 +1,9 @@
--- `commands::run::paint_one` meets its contract: an arm for each command. Assumes nothing.
+-- `on_pixels::paint_one` meets its contract: an arm for each command. Assumes nothing.
 use borrow.Author.Needs.{needs}
 use denote.Ref.{now}
-use Rattle.commands.proofs.AlikeLaws.{paint-fill, paint-solid, paint-color, paint-jump}
-use Rattle.commands.proofs.run.paint_one.Statement.{statement}
-use Rattle.commands.proofs.run.paint_one.Tie as tie
+use Rattle.on_pixels.proofs.OneLaws.{paint-fill, paint-solid, paint-color, paint-jump}
+use Rattle.on_pixels.proofs.paint_one.Statement.{statement}
+use Rattle.on_pixels.proofs.paint_one.Tie as tie
 
 enum-told : tie.Need-enum-told
 enum-told c = search needs

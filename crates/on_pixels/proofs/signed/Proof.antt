@@ -1,4 +1,4 @@
--- `commands::run::signed` meets its contract.
+-- `on_pixels::signed` meets its contract.
 -- Assumes nothing.
 use mathlib.Core.Path.{_≡_, refl, sym, ap, subst, _∙_}
 use Prim.Native.Nat.{ℕ, zero, suc, _-_, _^_, _≤_}
@@ -8,11 +8,11 @@ use native.Mathlib.Nat.{zero-add}
 use mir.Syntax.{w32}
 use mir.Val.{SFits, toZ, ofZ}
 use mir.ValLaws.{toZ-pos, toZ-ofZ}
 use Rattle.commands.specs.Pixel.{signedOf}
 use borrow.Author.Needs.{needs}
 use native.Mathlib.Omega.{arith}
-use Rattle.commands.proofs.run.signed.Statement.{statement}
-use Rattle.commands.proofs.run.signed.Tie as tie
+use Rattle.on_pixels.proofs.signed.Statement.{statement}
+use Rattle.on_pixels.proofs.signed.Tie as tie
 
 minus : (k : ℕ) → negsuc 0 -ℤ pos k ≡ negsuc k
 minus zero = refl

@@ -1,0 +1,2 @@
+-- Commands on one pixel for all. Definitions only.
+pub mod One
