@@ -12,7 +12,7 @@ use Rattle.lists.specs.Sums as Numbers
 use Rattle.panel.specs.Limits.{mostTiles}
 use Rattle.panel.specs.declared.kinds.Verdict.{Verdict}
 use Rattle.panel.specs.declared.kinds.Verdict.the-variants.{Fine, Against}
-use Rattle.fine.specs.Screen.{endsAt, tilePixels}
+use Rattle.screen_tile.specs.Tile.{endsAt, tilePixels}
 use Rattle.fine.specs.Fine.{onEnd}
 use Rattle.fine.proofs.Screens.{tile-length}
 use Rattle.bands.specs.Bands.{bandStep, bandTiles}

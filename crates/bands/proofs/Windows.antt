@@ -30,7 +30,8 @@ use Rattle.panel.specs.declared.kinds.Verdict.{Verdict}
 use Rattle.panel.specs.declared.kinds.Verdict.the-variants.{Fine, Against}
 use Rattle.colours.specs.Colour.{packOf}
 use Rattle.sides.specs.Tile.{tileWidth, tileHeight}
-use Rattle.fine.specs.Screen.{inTile, placeOf, putTile, packed, endsAt, colourAt, ifFine, tilePixels}
+use Rattle.screen_rows.specs.Rows.{inTile, placeOf, putTile, packed}
+use Rattle.screen_tile.specs.Tile.{endsAt, colourAt, ifFine, tilePixels}
 use Rattle.fine.specs.Fine.{No, onEnd, tileStep, tilesOf}
 use Rattle.fine.proofs.Ranges.{some}
 use Rattle.bands.specs.Bands.{bandStep, bandTiles}

@@ -14,7 +14,7 @@ use Rattle.panel.specs.Refusals.{notWhole, tooMany, badScreen}
 use Rattle.panel.specs.Widths.{segmentFloats}
 use Rattle.panel.specs.declared.kinds.Answer.{Answer}
 use Rattle.sides.specs.Tile.{tileWidth, tileHeight}
-use Rattle.fine.specs.Screen.{endsAt, tilePixels}
+use Rattle.screen_tile.specs.Tile.{endsAt, tilePixels}
 use Rattle.fine.specs.Fine.{Shown, shown, shownOf, No, onEnd, unlessNo}
 
 -- of so many floats of segments and so many pixels of the band: 1 of its rows, 2 of the whole screen, 16 of its width and the band's rows

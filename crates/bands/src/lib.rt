@@ -1,8 +1,6 @@
 // A band of the screen: the tiles of some of its rows, on pixels of the band's own, so that several
 // can be drawn at once. docs/RULES.md, "Bands". Each tile is fine's own; only its row is counted
 // from the band's first.
-use fine::screen::no_colour;
-use fine::screen::tile;
 use panel::kinds::Answer;
 use panel::kinds::Verdict;
 use panel::limits::MOST_TILES;
@@ -10,6 +8,8 @@ use panel::refusals::BAD_SCREEN;
 use panel::refusals::NOT_WHOLE;
 use panel::refusals::TOO_MANY;
 use panel::widths::SEGMENT_FLOATS;
+use screen_tile::no_colour;
+use screen_tile::tile;
 use sides::TILE_HEIGHT;
 use sides::TILE_WIDTH;
 ghost use mathlib.Core.Path.{_≡_};

@@ -17,7 +17,7 @@ use Rattle.panel.specs.declared.kinds.Verdict.{Verdict}
 use Rattle.panel.specs.declared.kinds.Verdict.the-variants.{Fine, Against}
 use Rattle.sides.specs.Tile.{tileWidth, tileSize}
 use Rattle.commands.specs.Numbers.{startOf}
-use Rattle.fine.specs.Screen.{endsAt, tilePixels}
+use Rattle.screen_tile.specs.Tile.{endsAt, tilePixels}
 use Rattle.fine.specs.Fine.{No, Shown, onEnd}
 use Rattle.bands.specs.Bands.{bandStep, bandTiles, bandOf, BandMet}
 use Rattle.theorems.proofs.Exact.{no-clash, row-exact}

@@ -14,7 +14,7 @@ use Rattle.sides.specs.Tile.{tileSize}
 use Rattle.coverage.specs.Coverage.{pixelOf}
 use Rattle.coverage.specs.Fill.{fillChecks}
 use Rattle.colours.specs.Colour.{packOf}
-use Rattle.fine.specs.Screen.{endsAt, colourAt}
+use Rattle.screen_tile.specs.Tile.{endsAt, colourAt}
 use Rattle.pixel.specs.Place.{placeAt, placeChecks}
 use Rattle.pixel.specs.Coverage.{coverageAtOf, CoverageAtMet}
 use Rattle.pixel.specs.Colour.{wholeChecks, underList, colourAtOf, ColourAtMet}

@@ -42,7 +42,7 @@ use Rattle.coverage.specs.Coverage.{pixelOf}
 use Rattle.sides.specs.Tile.{tileSize}
 use Rattle.colours.specs.Colour.{packOf}
 use Rattle.commands.specs.Numbers.{startOf}
-use Rattle.fine.specs.Screen.{endsAt, colourAt}
+use Rattle.screen_tile.specs.Tile.{endsAt, colourAt}
 use Rattle.fine.specs.Fine.{fineChecks, tilesOf}
 use Rattle.pixel.specs.Place.{placeAt, placeChecks}
 use Rattle.pixel.specs.Colour.{wholeChecks}

@@ -12,7 +12,7 @@ use Rattle.panel.specs.Limits.{mostTiles}
 use Rattle.panel.specs.declared.kinds.Verdict.{Verdict}
 use Rattle.panel.specs.declared.kinds.Verdict.the-variants.{Fine, Against}
 use Rattle.sides.specs.Tile.{tileWidth, tileHeight}
-use Rattle.fine.specs.Screen.{endsAt, tilePixels}
+use Rattle.screen_tile.specs.Tile.{endsAt, tilePixels}
 use Rattle.fine.specs.Fine.{onEnd, tileStep, tilesOf}
 
 -- ---- a tile of a screen that was checked lies on it

@@ -16,7 +16,8 @@ use Rattle.panel.proofs.CheckLaws.{all-ok, none-fails}
 use Rattle.panel.specs.declared.kinds.Answer.the-variants.{Done}
 use Rattle.panel.specs.declared.kinds.Verdict.{Verdict}
 use Rattle.panel.specs.declared.kinds.Verdict.the-variants.{Fine, Against}
-use Rattle.fine.specs.Screen.{inTile, putTile, packed, colourAt, endsAt, ifFine, tilePixels}
+use Rattle.screen_rows.specs.Rows.{inTile, putTile, packed}
+use Rattle.screen_tile.specs.Tile.{colourAt, endsAt, ifFine, tilePixels}
 use Rattle.fine.specs.Fine.{fineChecks, Shown, shown, No, onEnd, tileStep, tilesOf, shownOf, unlessNo, fineOf}
 use Rattle.fine.proofs.Ranges.{two-ranges}
 

@@ -17,7 +17,7 @@ use Rattle.panel.specs.declared.kinds.Answer.the-variants.{Done, Refused}
 use Rattle.panel.specs.declared.kinds.Verdict.{Verdict}
 use Rattle.panel.specs.declared.kinds.Verdict.the-variants.{Fine, Against}
 use Rattle.sides.specs.Tile.{tileWidth, tileHeight}
-use Rattle.fine.specs.Screen.{endsAt, tilePixels}
+use Rattle.screen_tile.specs.Tile.{endsAt, tilePixels}
 
 -- of so many floats of segments and so many pixels. 16 is over whole numbers, as long as they may be
 abbrev pub fineChecks : ℕ → ℕ → ℕ → ℕ → ℕ → ℕ → ℕ → List Check

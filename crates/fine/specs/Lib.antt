@@ -1,3 +1,2 @@
--- The screen: what a tile leaves on it, and a range of tiles. Definitions only.
-pub mod Screen
+-- The screen: its checks, and a range of its tiles. Definitions only.
 pub mod Fine

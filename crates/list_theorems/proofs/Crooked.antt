@@ -28,7 +28,7 @@ use Rattle.commands.specs.declared.steps.Act.the-variants as Act
 use Rattle.commands.specs.declared.steps.Move.the-variants.{Refused, Goes}
 use Rattle.commands.proofs.Traced.{trace-stop}
 use Rattle.commands.proofs.Encoded.{Stands, act-goes, end-goes}
-use Rattle.fine.specs.Screen.{tileTrace, endsAt}
+use Rattle.screen_tile.specs.Tile.{tileTrace, endsAt}
 use Rattle.pairs.specs.Pairs.{Tables, tilePairs, fillRule, coverOf, colourOf}
 use Rattle.lay_pairs.specs.Layout.{pairWords, pairSize, chunk, penAt, fits, jumpIf, turned, past, laid, jumpCount, leftAt, jumpsOf, ownWords}
 use Rattle.write_lists.specs.Lists.{listsOf}

@@ -21,7 +21,7 @@ use Rattle.coverage.specs.Coverage.{pixelOf}
 use Rattle.colours.specs.Colour as Colour
 use Rattle.commands.specs.Moves.{countOf, Trace, endOf}
 use Rattle.commands.specs.Pixel.{signedOf, evenOddOf, cover, paint, Point, point, pointOf}
-use Rattle.fine.specs.Screen.{clear}
+use Rattle.screen_tile.specs.Tile.{clear}
 use Rattle.pairs.specs.Pairs.{Tables, colourAt, ruleAt, inBox, covers, bitsOf, onTile, byPath, onPath, pairsOf, tilePairs, fillRule, coverOf, colourOf}
 use Rattle.lay_pairs.specs.Layout.{fits, leftAfter}
 use Rattle.pairs.specs.declared.Pair.{Pair}

@@ -30,7 +30,8 @@ use Rattle.colours.specs.Colour.{channelOf, colourOf, overOf, byteOf, packOf}
 use Rattle.commands.specs.Numbers.{endNo, tileWords}
 use Rattle.commands.specs.Pixel.{evenOddOf, cover, paint, pointOf}
 use Rattle.commands.specs.Moves.{Trace, ends, does, opOf, fillMove, wholeMove, moveOf, traceOf}
-use Rattle.fine.specs.Screen.{clear, putTile, tileTrace, endsAt, colourAt as shownAt, tilePixels}
+use Rattle.screen_rows.specs.Rows.{putTile}
+use Rattle.screen_tile.specs.Tile.{clear, tileTrace, endsAt, colourAt as shownAt, tilePixels}
 use Rattle.fine.specs.Fine.{Shown, shown, tileStep, tilesOf, fineOf}
 use Rattle.pairs.specs.Pairs.{Tables, tables, colourAt, ruleAt, inBox, covers, onTile, onPath, tilePairs}
 use Rattle.lay_pairs.specs.Layout.{pairWords, commandsOf}

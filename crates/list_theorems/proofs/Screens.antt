@@ -17,7 +17,8 @@ use Rattle.panel.specs.declared.kinds.Verdict.{Verdict}
 use Rattle.panel.specs.declared.kinds.Verdict.the-variants.{Fine}
 use Rattle.colours.specs.Colour.{packOf}
 use Rattle.commands.proofs.Acts.{mapi-cong, unchanged}
-use Rattle.fine.specs.Screen.{inTile, placeOf, putTile, packed, colourAt, endsAt, ifFine, tilePixels}
+use Rattle.screen_rows.specs.Rows.{inTile, placeOf, putTile, packed}
+use Rattle.screen_tile.specs.Tile.{colourAt, endsAt, ifFine, tilePixels}
 use Rattle.fine.specs.Fine.{tilesOf}
 use Rattle.fine.proofs.Ranges.{no-tiles, tile-goes}
 use Rattle.list_theorems.specs.Painted.{columnOf, rowOf, showsAt, screenOf}

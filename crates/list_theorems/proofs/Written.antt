@@ -25,7 +25,7 @@ use Rattle.sides.specs.Tile.{tileWidth, tileHeight}
 use Rattle.commands.specs.Numbers.{tileWords, startOf}
 use Rattle.commands.specs.Moves.{Trace, endOf}
 use Rattle.commands.specs.Pixel.{point, pointOf}
-use Rattle.fine.specs.Screen.{clear, tileTrace, colourAt}
+use Rattle.screen_tile.specs.Tile.{clear, tileTrace, colourAt}
 use Rattle.fine.specs.Fine.{fineChecks, tilesOf, shownOf, unlessNo, fineOf}
 use Rattle.pairs.specs.Pairs.{Tables, tilePairs}
 use Rattle.lay_pairs.specs.Layout.{ownWords}

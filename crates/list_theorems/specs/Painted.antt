@@ -17,7 +17,8 @@ use Rattle.sides.specs.Tile.{tileWidth, tileHeight}
 use Rattle.coverage.specs.Coverage.{pixelOf}
 use Rattle.colours.specs.Colour.{colourOf, overOf, packOf}
 use Rattle.commands.specs.Pixel.{evenOddOf}
-use Rattle.fine.specs.Screen.{placeOf, clear}
+use Rattle.screen_rows.specs.Rows.{placeOf}
+use Rattle.screen_tile.specs.Tile.{clear}
 use Rattle.pairs.specs.Pairs.{Tables, colourAt, ruleAt, inBox, covers}
 
 -- ---- a pixel's colour

@@ -13,7 +13,7 @@ use Rattle.panel.specs.declared.kinds.Answer.the-variants.{Done}
 use Rattle.panel.specs.declared.kinds.Verdict.the-variants.{Fine}
 use Rattle.panel.specs.Signed.{inI32}
 use Rattle.sides.specs.Tile.{tileWidth, tileHeight}
-use Rattle.fine.specs.Screen.{tileTrace, endsAt}
+use Rattle.screen_tile.specs.Tile.{tileTrace, endsAt}
 use Rattle.fine.specs.Fine.{shown, fineOf}
 use Rattle.pairs.specs.Pairs.{Tables, tilePairs}
 use Rattle.lay_pairs.specs.Layout.{ownWords}

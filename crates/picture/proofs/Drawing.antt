@@ -42,7 +42,7 @@ use Rattle.looks.specs.Look.{Lent, lent}
 use Rattle.path_tiling.specs.Tiling.{Range, range, applied, slotsOf, rangeOf, wholeOf, checksOf, checkedThen, callOf}
 use Rattle.frame.specs.Frame as Frame
 use Rattle.frame.specs.declared.kinds.Framed.the-variants as Framed
-use Rattle.fine.specs.Screen.{clear}
+use Rattle.screen_tile.specs.Tile.{clear}
 use Rattle.fine.specs.Fine.{shown, fineOf}
 use Rattle.pairs.specs.Pairs.{Tables, tables, inBox}
 use Rattle.theorems.specs.Drawn.{Drawn, drawn, walkOf, isOf, ofPath, marksOf, InPath}

@@ -25,7 +25,7 @@ use Rattle.looks.specs.Look.{lent}
 use Rattle.path_tiling.specs.Tiling.{Range, range, applied, slotsOf, callOf}
 use Rattle.frame.specs.Frame as Frame
 use Rattle.frame.specs.declared.kinds.Framed.the-variants as Framed
-use Rattle.fine.specs.Screen.{clear}
+use Rattle.screen_tile.specs.Tile.{clear}
 use Rattle.fine.specs.Fine.{shown, fineOf}
 use Rattle.pairs.specs.Pairs.{Tables, tables, inBox}
 use Rattle.theorems.specs.Drawn.{Drawn, drawn, walkOf, ofPath}

@@ -30,7 +30,7 @@ use Rattle.one_row.specs.Row.{stepSegment}
 use Rattle.coverage.specs.Coverage.{finishOf}
 use Rattle.colours.specs.Colour.{colourOf, overOf}
 use Rattle.commands.specs.Pixel.{evenOddOf}
-use Rattle.fine.specs.Screen.{clear}
+use Rattle.screen_tile.specs.Tile.{clear}
 use Rattle.pairs.specs.Pairs.{inBox, covers}
 use Rattle.theorems.specs.Drawn.{Drawn, walkOf, ofPath}
 use Rattle.list_theorems.specs.Painted.{screenOf}

@@ -10,7 +10,7 @@ use Rattle.commands.specs.Moves.{Trace, does, traceOf, endOf}
 use Rattle.commands.specs.Pixel.{Point, point, cover, paint, pointOf}
 use Rattle.commands.specs.declared.steps.Act.{Act}
 use Rattle.commands.specs.declared.steps.Act.the-variants.{Fill, Solid, Color, Jump}
-use Rattle.fine.specs.Screen.{tileTrace, colourAt}
+use Rattle.screen_tile.specs.Tile.{tileTrace, colourAt}
 use Rattle.pixel.specs.Answers.{Paper, answered, unlessNo}
 use Rattle.pixel.specs.Held.{pointIn, nothingHeld, laidOn, heldAfter}
 use Rattle.pixel.specs.Colour.{underList}

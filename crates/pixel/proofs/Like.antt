@@ -24,9 +24,10 @@ use Rattle.coverage.specs.Coverage.{pixelOf, coverageOf}
 use Rattle.coverage.specs.Fill.{fillChecks, fillOf, ifFine as orOld}
 use Rattle.coverage.proofs.Bounds.{cover-at}
 use Rattle.colours.specs.Colour.{packOf}
-use Rattle.fine.specs.Screen.{inTile, placeOf, rowAt, putTile, packed, endsAt, colourAt, ifFine, tilePixels}
+use Rattle.screen_rows.specs.Rows.{inTile, placeOf, rowAt, putTile, packed}
+use Rattle.screen_tile.specs.Tile.{endsAt, colourAt, ifFine, tilePixels}
 use Rattle.fine.specs.Fine.{fineChecks, Shown, No, tilesOf, shownOf, unlessNo as screenUnless, fineOf}
-use Rattle.fine.proofs.Places.{inside, place-in-row, row-room}
+use Rattle.screen_rows.proofs.Places.{inside, place-in-row, row-room}
 use Rattle.fine.proofs.Ranges.{on-screen, no-tiles, tile-stops, tile-goes}
 use Rattle.fine.proofs.Screens.{outside-kept, inside-put, tile-length}
 use Rattle.pixel.specs.Place.{placeAt, placeChecks}

@@ -10,7 +10,7 @@ use Rattle.panel.specs.Checks.{Check, check, firstNo}
 use Rattle.panel.specs.Refusals.{notWhole}
 use Rattle.panel.specs.Widths.{segmentFloats}
 use Rattle.colours.specs.Colour.{packOf}
-use Rattle.fine.specs.Screen.{endsAt, colourAt}
+use Rattle.screen_tile.specs.Tile.{endsAt, colourAt}
 use Rattle.pixel.specs.Place.{placeAt, placeChecks}
 use Rattle.pixel.specs.Answers.{Paper, answered, colourPaper, unlessNo}
 use Rattle.pixel.specs.declared.kinds.Coloured.{Coloured}

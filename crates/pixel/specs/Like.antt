@@ -6,7 +6,7 @@ use lib.Dec.{eqb}
 use lib.ListN.{getD}
 use lib.Ieee.{Float, nan}
 use Rattle.coverage.specs.Fill.{Filled}
-use Rattle.fine.specs.Screen.{rowAt}
+use Rattle.screen_rows.specs.Rows.{rowAt}
 use Rattle.fine.specs.Fine.{Shown}
 use Rattle.pixel.specs.Answers.{Paper, answered, refusedBy}
 

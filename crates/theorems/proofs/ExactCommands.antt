@@ -29,7 +29,7 @@ use Rattle.commands.specs.declared.steps.Move.the-variants.{Refused, Goes}
 use Rattle.panel.specs.Limits.{mostCommands}
 use Rattle.panel.specs.Widths.{segmentFloats}
 use Rattle.commands.specs.Numbers.{startOf}
-use Rattle.fine.specs.Screen.{tileTrace, endsAt}
+use Rattle.screen_tile.specs.Tile.{tileTrace, endsAt}
 use Rattle.theorems.specs.Commands.{GroundWhy, WholeWhy, MoveWhy, TraceWhy}
 use Rattle.theorems.proofs.Exact.{no-clash}
 

@@ -23,7 +23,7 @@ use Rattle.looks.specs.Look.{Lent, lookOf}
 use Rattle.path_tiling.specs.Tiling.{lookThen, rangeOf}
 use Rattle.looks.specs.declared.Look as Lk
 use Rattle.looks.specs.declared.Look.the-variants.{Put, Empty, Against}
-use Rattle.fine.specs.Screen.{endsAt, tilePixels}
+use Rattle.screen_tile.specs.Tile.{endsAt, tilePixels}
 use Rattle.fine.specs.Fine.{No, onEnd, tileStep, tilesOf}
 use Rattle.theorems.specs.Refusing.{PathsWhy, one, two, three, four, BackdropWhy, RangeWhy, TilesWhy}
 use Rattle.theorems.proofs.Exact.{no-clash}

@@ -29,7 +29,8 @@ use Rattle.coverage.specs.Coverage.{areaAfter, finishOf, sumOf, pixelOf}
 use Rattle.colours.specs.Colour.{channelOf, colourOf, overOf, byteOf, packOf}
 use Rattle.commands.specs.Moves.{opOf, moveOf, wholeMove, traceOf}
 use Rattle.commands.specs.Pixel.{cover, paint, pointOf}
-use Rattle.fine.specs.Screen.{putTile, tileTrace, colourAt, tilePixels}
+use Rattle.screen_rows.specs.Rows.{putTile}
+use Rattle.screen_tile.specs.Tile.{tileTrace, colourAt, tilePixels}
 use Rattle.fine.specs.Fine.{tileStep, tilesOf, fineOf}
 use Rattle.theorems.specs.Starred.{table, Holding}
 

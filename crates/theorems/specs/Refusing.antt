@@ -39,7 +39,7 @@ use Rattle.panel.specs.declared.segments.Segment.{Segment}
 use Rattle.looks.specs.Look as Look
 use Rattle.looks.specs.declared.Look.the-variants as Looked
 use Rattle.looks.specs.Look.{lookOf}
-use Rattle.fine.specs.Screen.{endsAt}
+use Rattle.screen_tile.specs.Tile.{endsAt}
 use Rattle.fine.specs.Fine.{tilesOf}
 use Rattle.looks.specs.Look.{Lent, packedAt, stepNo, sliceNo}
 use Rattle.panel.specs.Signed.{inI32}

@@ -11,9 +11,10 @@ use Rattle.panel.specs.declared.kinds.Answer.the-variants.{Done, Refused}
 use Rattle.panel.specs.declared.kinds.Verdict.{Verdict}
 use Rattle.panel.specs.declared.kinds.Verdict.the-variants.{Fine, Against}
 use Rattle.sides.specs.Tile.{tileWidth, tileHeight, tileSize}
-use Rattle.fine.specs.Screen.{endsAt, ifFine, putTile, packed, colourAt, tilePixels}
+use Rattle.screen_rows.specs.Rows.{putTile, packed}
+use Rattle.screen_tile.specs.Tile.{endsAt, ifFine, colourAt, tilePixels}
 use Rattle.fine.specs.Fine.{shown, shownOf}
-use Rattle.fine.proofs.Flats.{no-colour-length}
+use Rattle.screen_tile.proofs.Room.{no-colour-length}
 use Rattle.fine.proofs.Ranges.{some, on-screen}
 use Rattle.bands.specs.Bands.{bandTiles}
 use Rattle.bands.proofs.BandLaws.{no-tiles, tile-stops, tile-goes}

@@ -1,0 +1,2 @@
+-- A screen tile: what its commands leave on the screen. Definitions only.
+pub mod Tile
