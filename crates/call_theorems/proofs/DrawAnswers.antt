@@ -11,9 +11,10 @@ use Rattle.panel.specs.Pieces.{Pieces, pieces}
 use Rattle.backdrop.specs.Backdrop.{backdropOf, sumPaths}
 use Rattle.frame.specs.Frame.{frameOf, checksOf, drawnOf, placedOf}
 use Rattle.write_lists.specs.Lists.{callAnswer, regionsOf, answerOf, listsOf, writeListsOf}
-use Rattle.draw.specs.Draw.{Out, paperOf, lentNo, paintedOf, framedOf, drawOf, DrawMet}
-use Rattle.draw.specs.declared.kinds.Drawn.{Drawn}
-use Rattle.draw.specs.declared.kinds.Drawn.the-variants.{Done, Refused}
+use Rattle.paint.specs.Paint.{paperOf, paintedOf}
+use Rattle.paint.specs.declared.kinds.Drawn.{Drawn}
+use Rattle.paint.specs.declared.kinds.Drawn.the-variants.{Done, Refused}
+use Rattle.draw.specs.Draw.{Out, lentNo, framedOf, drawOf, DrawMet}
 use Rattle.theorems.proofs.StarredTable.{computing}
 use Rattle.call_theorems.specs.Cheats.{Once, Shut}
 use Rattle.call_theorems.proofs.Cheats.{shut, apart}

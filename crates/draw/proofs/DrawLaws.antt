@@ -1,49 +1,28 @@
 -- A drawing by what its parts answer, one law for each way that it can end. Assumes nothing.
-use mathlib.Core.Path.{_≡_, refl, sym, ap, _∙_}
+use mathlib.Core.Path.{_≡_, sym, _∙_}
 use mathlib.Core.List.{List}
-use Prim.Native.Nat.{ℕ, _*_}
+use Prim.Native.Nat.{ℕ}
 use lib.ListN.{length}
 use lib.IntN.{ℤ}
 use lib.Ieee.{Float}
-use Rattle.panel.specs.Kinds as Kinds
 use Rattle.panel.specs.Kinds.{runningOf}
 use Rattle.panel.specs.Checks.{firstNo}
 use Rattle.panel.specs.Pieces.{Pieces}
 use Rattle.panel.specs.declared.kinds.Running.{Running}
 use Rattle.panel.specs.declared.kinds.Verdict.{Verdict}
 use Rattle.panel.specs.declared.kinds.Verdict.the-variants.{Fine, Against}
-use Rattle.panel.specs.declared.kinds.Answer.{Answer}
-use Rattle.panel.specs.declared.kinds.Answer.the-variants as Answer
-use Rattle.path_tiling.specs.Tiling.{slotsOf}
 use Rattle.frame.specs.Frame as Frame
 use Rattle.frame.specs.Frame.{stageNo}
 use Rattle.frame.specs.declared.kinds.Framed.{Framed}
 use Rattle.frame.specs.declared.kinds.Framed.the-variants as Framed
 use Rattle.frame.specs.declared.kinds.Stage.{Stage}
-use Rattle.pairs.specs.Pairs.{Tables, tables}
-use Rattle.write_lists.specs.Lists.{left, writeListsOf}
-use Rattle.fine.specs.Fine.{shown, fineOf}
-use Rattle.draw.specs.Draw.{listsNo, fineNo, lentNo, paintOf, Painted, paintedOf, pageChecks, outOf, framedOf, drawOf}
-use Rattle.draw.specs.declared.kinds.Drawn.{Drawn}
-use Rattle.draw.specs.declared.kinds.Drawn.the-variants.{Done, Refused}
+use Rattle.pairs.specs.Pairs.{tables}
+use Rattle.page_check.specs.Page.{pageChecks}
+use Rattle.paint.specs.Paint.{paintOf, paintedOf}
+use Rattle.paint.specs.declared.kinds.Drawn.{Drawn}
+use Rattle.paint.specs.declared.kinds.Drawn.the-variants.{Refused}
+use Rattle.draw.specs.Draw.{lentNo, outOf, framedOf, drawOf}
 
--- ---- the lists and the pixels
-module _ (s : Running) (t : Tables) (segs : List Float) (width cols rows : ℕ) (words pixels : List ℕ) (room : ℕ) (er : room ≡ slotsOf (length segs))
-    (a : Answer) (ws : List ℕ) (ea : left a ws ≡ writeListsOf t cols rows room words) where
-  pub listed-no : (n item : ℕ) → a ≡ Answer.Refused n item → paintOf (Refused listsNo n item s) ws pixels ≡ paintedOf s t segs width cols rows words pixels
-  unfolding paintedOf
-  listed-no n item e = rw (← er, ← ea, e)
-
-  module _ (fa : a ≡ Answer.Done) (b : Answer) (px : List ℕ) (eb : shown b px ≡ fineOf ws segs width cols rows 0 (cols * rows) pixels) where
-    pub shown-no : (n item : ℕ) → b ≡ Answer.Refused n item → paintOf (Refused fineNo n item s) ws px ≡ paintedOf s t segs width cols rows words pixels
-    unfolding paintedOf
-    shown-no n item e = rw (← er, ← ea, fa, ← eb, e)
-
-    pub all-shown : b ≡ Answer.Done → paintOf (Done s) ws px ≡ paintedOf s t segs width cols rows words pixels
-    unfolding paintedOf
-    all-shown e = rw (← er, ← ea, fa, ← eb, e)
-
--- ---- the call
 module _ (nos : List ℕ) (coords : List Float) (paths paints : List ℕ) (backs : List ℤ) (stored tally refs : List ℕ) (p : Pieces)
     (width cols rows : ℕ) (words pixels : List ℕ) (v : Verdict)
     (ev : v ≡ firstNo (Frame.lentChecks (length nos) (length coords) (length backs) (length stored) (length tally) (length refs) (length (p .segments)) (length (p .tags)))) where

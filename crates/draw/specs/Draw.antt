@@ -2,48 +2,28 @@
 -- the first that refuses. docs/RULES.md, "From lines to pixels". Definitions only.
 use mathlib.Core.Path.{_≡_}
 use mathlib.Core.List.{List, [], _∷_}
-use Prim.Native.Nat.{ℕ, _*_, _/_, _%_}
-use lib.Dec.{eqb, leb}
+use Prim.Native.Nat.{ℕ}
 use lib.ListN.{length}
 use lib.IntN.{ℤ}
 use lib.Ieee.{Float}
-use Rattle.panel.specs.Refusals.{doneNo, notWhole, tooMany, badScreen}
-use Rattle.panel.specs.Limits.{mostPaths, mostTiles}
-use Rattle.panel.specs.Widths.{pathWords, paintWords}
 use Rattle.panel.specs.Kinds.{runningOf}
-use Rattle.panel.specs.Checks.{Check, check, firstNo}
+use Rattle.panel.specs.Checks.{firstNo}
 use Rattle.panel.specs.Pieces.{Pieces}
 use Rattle.panel.specs.declared.kinds.Running.{Running}
 use Rattle.panel.specs.declared.kinds.Verdict.{Verdict}
 use Rattle.panel.specs.declared.kinds.Verdict.the-variants.{Fine, Against}
-use Rattle.panel.specs.declared.kinds.Answer.{Answer}
-use Rattle.panel.specs.declared.kinds.Answer.the-variants as Answer
-use Rattle.sides.specs.Tile.{tileWidth, tileHeight}
-use Rattle.path_tiling.specs.Tiling.{slotsOf}
 use Rattle.frame.specs.Frame as Frame
-use Rattle.frame.specs.Frame.{answerOn}
-use Rattle.pairs.specs.Pairs.{Tables, tables}
-use Rattle.write_lists.specs.Lists.{writeListsOf}
-use Rattle.fine.specs.Fine.{fineOf}
-use Rattle.draw.specs.declared.kinds.Drawn.{Drawn}
-use Rattle.draw.specs.declared.kinds.Drawn.the-variants.{Done, Refused}
+use Rattle.pairs.specs.Pairs.{tables}
+use Rattle.page_check.specs.Page.{pageChecks}
+use Rattle.paint.specs.Paint.{paperOf, Painted, paintOf, paintedOf}
+use Rattle.paint.specs.declared.kinds.Drawn.{Drawn}
+use Rattle.paint.specs.declared.kinds.Drawn.the-variants.{Done, Refused}
 
 -- ---- the answer on paper
 
 -- the parts: 1 to 5 are a frame's, its checks the first
 abbrev pub lentNo : ℕ
 lentNo = 1
-
-abbrev pub listsNo : ℕ
-listsNo = 6
-
-abbrev pub fineNo : ℕ
-fineNo = 7
-
--- as a frame's: the number, then of a refusal the part's and the item's, then lines and references counted
-abbrev pub paperOf : Drawn → List ℕ
-paperOf (Done s) = doneNo ∷ s .lines ∷ s .refs ∷ []
-paperOf (Refused at n item s) = n ∷ at ∷ item ∷ s .lines ∷ s .refs ∷ []
 
 -- read off a frame's paper
 abbrev pub drawnOn : List ℕ → Drawn
@@ -54,44 +34,7 @@ drawnOn (n ∷ l ∷ m ∷ []) = Done (runningOf l m)
 drawnOn (n ∷ at ∷ item ∷ l ∷ []) = Refused at n item (runningOf l 0)
 drawnOn (n ∷ at ∷ item ∷ l ∷ m ∷ more) = Refused at n item (runningOf l m)
 
--- ---- the lists and the pixels
-
--- the answer on paper, the words and the pixels afterwards
-pub record Painted : Type 0 where
-  pub paper : List ℕ
-  pub words : List ℕ
-  pub pixels : List ℕ
-
-abbrev pub paintOf : Drawn → List ℕ → List ℕ → Painted
-paintOf d words pixels = record { paper = paperOf d; words = words; pixels = pixels }
-
--- a part that is done goes on; one that refused ends the call, with what it left
-abbrev pub goOn : Answer → ℕ → Running → (Drawn → Painted) → Painted → Painted
-goOn Answer.Done at s ends next = next
-goOn (Answer.Refused n item) at s ends next = ends (Refused at n item s)
-
--- over what a done frame left: the lists, with as much room for slots as segments are lent; then all screen tiles
-unfoldable pub paintedOf : Running → Tables → (segments : List Float) (width cols rows : ℕ) (words pixels : List ℕ) → Painted
-paintedOf s t segments width cols rows words pixels =
-    let l = writeListsOf t cols rows (slotsOf (length segments)) words in
-    let f = fineOf (l .words) segments width cols rows 0 (cols * rows) pixels in
-    goOn (answerOn (l .paper)) listsNo s (λ d. paintOf d (l .words) pixels)
-    (goOn (answerOn (f .answer)) fineNo s (λ d. paintOf d (l .words) (f .pixels))
-    (paintOf (Done s) (l .words) (f .pixels)))
-
 -- ---- the call
-
--- after what a frame checks of the lengths: so many words of paths, words of paints and tiles, the screen, and so many pixels
-abbrev pub pageChecks : (np na nt width cols rows pixels : ℕ) → List Check
-pageChecks np na nt width cols rows pixels =
-    check (eqb (np % pathWords) 0) notWhole
-    ∷ check (eqb na (paintWords * (np / pathWords))) notWhole
-    ∷ check (leb (np / pathWords) mostPaths) tooMany
-    ∷ check (leb nt mostTiles) tooMany
-    ∷ check (leb (cols * rows) mostTiles) tooMany
-    ∷ check (leb (tileWidth * cols) width) badScreen
-    ∷ check (leb (width * (tileHeight * rows)) pixels) badScreen
-    ∷ []
 
 -- all that was lent to be changed, as it is afterwards
 pub record Out : Type 0 where

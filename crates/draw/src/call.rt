@@ -2,15 +2,17 @@
 ghost use mathlib.Core.Path.{_≡_};
 ghost use Rattle.panel.specs.Pieces.{pieces};
 ghost use Rattle.draw.specs.Draw.{DrawMet};
-use super::checks::check_page;
-use super::kinds::Drawn;
-use super::kinds::LENT;
-use super::paint::paint;
 use frame::Framed;
 use frame::check_lent;
 use frame::stage_no;
+use page_check::check_page;
+use paint::kinds::Drawn;
+use paint::paint;
 use panel::kinds::Running;
 use panel::kinds::Verdict;
+
+// The part that checks what is lent.
+const LENT: u32 = 1;
 
 // From lines to pixels: what a frame takes, then the paints, the screen, and the words and pixels that
 // are written.

@@ -2,9 +2,5 @@
 // "From lines to pixels". Each part is its own public call; it ends at the first that refuses, and what
 // came before it stands.
 mod call;
-mod checks;
-mod kinds;
-mod paint;
 
 pub use call::draw;
-pub use kinds::Drawn;

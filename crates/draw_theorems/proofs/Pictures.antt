@@ -31,8 +31,10 @@ use Rattle.lay_pairs.specs.Layout.{written}
 use Rattle.theorems.specs.Drawn.{drawn}
 use Rattle.theorems.proofs.Framing as Framing
 use Rattle.list_theorems.specs.Written.{AllI32, Holds, Wrote}
-use Rattle.draw.specs.Draw.{Painted, Out, paperOf, paintOf, paintedOf, pageChecks, outOf, framedOf, drawOf, drawnOn, afterFrame, withPaint, unlessNo, goOn, listsNo, fineNo}
-use Rattle.draw.specs.declared.kinds.Drawn.the-variants.{Done, Refused}
+use Rattle.page_check.specs.Page.{pageChecks}
+use Rattle.paint.specs.Paint.{Painted, paperOf, paintOf, paintedOf, goOn, listsNo, fineNo}
+use Rattle.paint.specs.declared.kinds.Drawn.the-variants.{Done, Refused}
+use Rattle.draw.specs.Draw.{Out, outOf, framedOf, drawOf, drawnOn, afterFrame, withPaint, unlessNo}
 use Rattle.picture.specs.Picture.{pictureOf}
 use Rattle.picture.proofs.Pictures.{frame-shows}
 use Rattle.draw_theorems.specs.Drawing.{ShowsLines}

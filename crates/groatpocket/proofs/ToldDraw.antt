@@ -5,9 +5,10 @@ use Prim.Native.Nat.{ℕ}
 use lib.IntN.{ℤ}
 use Rattle.panel.specs.Pieces.{Pieces}
 use Rattle.panel.specs.declared.kinds.Running.{Running}
-use Rattle.draw.specs.Draw.{Out, outOf, paperOf}
-use Rattle.draw.specs.declared.kinds.Drawn.{Drawn}
-use Rattle.draw.specs.declared.kinds.Drawn.the-variants.{Done, Refused}
+use Rattle.paint.specs.Paint.{paperOf}
+use Rattle.paint.specs.declared.kinds.Drawn.{Drawn}
+use Rattle.paint.specs.declared.kinds.Drawn.the-variants.{Done, Refused}
+use Rattle.draw.specs.Draw.{Out, outOf}
 use Rattle.groatpocket.specs.CallFrame.{toldOf, toldOn}
 use Rattle.groatpocket.specs.CallDraw.{numberOn, stageOn, itemOn, runningOn, drawLent, drawSeen}
 

@@ -7,9 +7,9 @@ use lib.Ieee.{Float}
 use Rattle.panel.specs.Refusals.{doneNo}
 use Rattle.panel.specs.Pieces.{Pieces}
 use Rattle.panel.specs.declared.kinds.Running.{Running}
+use Rattle.paint.specs.declared.kinds.Drawn.{Drawn}
+use Rattle.paint.specs.declared.kinds.Drawn.the-variants.{Done, Refused}
 use Rattle.draw.specs.Draw as Draw
-use Rattle.draw.specs.declared.kinds.Drawn.{Drawn}
-use Rattle.draw.specs.declared.kinds.Drawn.the-variants.{Done, Refused}
 use Rattle.groatpocket.specs.CallFrame.{Told, toldOf, toldOn}
 
 -- a drawing that is done names no part and no item

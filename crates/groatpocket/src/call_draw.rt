@@ -1,5 +1,5 @@
 // draw::draw: from lines to pixels in one call.
-use draw::Drawn;
+use paint::kinds::Drawn;
 use panel::kinds::Running;
 use panel::refusals::DONE;
 ghost use mathlib.Core.Path.{_≡_};

@@ -4,7 +4,7 @@ use lib.ListN.{length}
 use denote.Ref.{now}
 use borrow.Author.Tests.{leb-true}
 use Rattle.panel.proofs.CheckLaws.{all-ok}
-use Rattle.draw.specs.Draw.{pageChecks}
+use Rattle.page_check.specs.Page.{pageChecks}
 use Rattle.draw.proofs.DrawLaws.{lent-no, page-no, frame-no, frame-done}
 use borrow.Author.Needs.{needs}
 use Rattle.draw.proofs.call.draw.Statement.{statement}

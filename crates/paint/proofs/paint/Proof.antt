@@ -1,10 +1,10 @@
--- `draw::paint::paint` meets its contract: by what the lists and fine answer. Assumes nothing.
+-- `paint::paint` meets its contract: by what the lists and fine answer. Assumes nothing.
 use denote.Ref.{now}
 use Rattle.pairs.specs.Pairs.{tables}
-use Rattle.draw.proofs.DrawLaws.{listed-no, shown-no, all-shown}
+use Rattle.paint.proofs.PaintLaws.{listed-no, shown-no, all-shown}
 use borrow.Author.Needs.{needs}
-use Rattle.draw.proofs.paint.paint.Statement.{statement}
-use Rattle.draw.proofs.paint.paint.Tie as tie
+use Rattle.paint.proofs.paint.Statement.{statement}
+use Rattle.paint.proofs.paint.Tie as tie
 
 slots-of-requires : tie.Need-slots-of-requires
 slots-of-requires c κs = search needs

@@ -1,18 +1,21 @@
-// The lists and the pixels, once the frame is done.
+// The lists and the pixels of a drawing, once its frame is done. docs/RULES.md, "From lines to pixels".
+// It ends at the first that refuses, and what came before it stands.
+pub mod kinds;
+
 ghost use mathlib.Core.Path.{_≡_};
 ghost use Prim.Native.Nat.{_*_, _≤_};
 ghost use Rattle.panel.specs.Limits.{mostTiles};
 ghost use Rattle.pairs.specs.Pairs.{tables};
-ghost use Rattle.draw.specs.Draw.{paintOf, paintedOf};
-use super::kinds::Drawn;
-use super::kinds::FINE;
-use super::kinds::LISTS;
+ghost use Rattle.paint.specs.Paint.{paintOf, paintedOf};
+use kinds::Drawn;
+use kinds::FINE;
+use kinds::LISTS;
 use panel::kinds::Answer;
 use panel::kinds::Running;
 
 // Over what the frame left. There is as much room for slots as segments are lent, and all screen tiles
 // are drawn.
-pub(crate) fn paint(
+pub fn paint(
     s: Running,
     paths: &[u32],
     paints: &[u32],

@@ -8,9 +8,7 @@ pub enum Drawn {
     Refused(u32, u32, u32, Running),
 }
 
-// The parts after a frame's five, and the one that checks what is lent.
-pub const LENT: u32 = 1;
-
+// The parts after a frame's five.
 pub const LISTS: u32 = 6;
 
 pub const FINE: u32 = 7;

@@ -1,12 +1,12 @@
--- `draw::checks::check_page` meets its contract. Assumes nothing.
+-- `page_check::check_page` meets its contract. Assumes nothing.
 use Prim.Native.Nat.{ℕ, _*_, _/_, _^_, _≤_, _<_}
 use native.Mathlib.Nat.{mul-le-mul, mul-left-comm}
 use native.Mathlib.Omega.{arith}
 use borrow.Author.Tests.{eq-eqb, ne-eqb, le-leb, lt-leb}
 use Rattle.sides.specs.Tile.{tileHeight}
 use borrow.Author.Needs.{needs}
-use Rattle.draw.proofs.checks.check_page.Statement.{statement}
-use Rattle.draw.proofs.checks.check_page.Tie as tie
+use Rattle.page_check.proofs.check_page.Statement.{statement}
+use Rattle.page_check.proofs.check_page.Tie as tie
 
 product : (a b : ℕ) → a < 2 ^ 32 → b < 2 ^ 32 → a * b < 2 ^ 64
 product a b p q = omega (arith, mul-le-mul {n₁ = a} {m₁ = b} {n₂ = 4294967295} {m₂ = 4294967295} (omega arith) (omega arith))

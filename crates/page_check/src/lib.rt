@@ -1,7 +1,9 @@
-// What is checked of the page before a frame begins.
+// What a drawing checks before its frame begins, of the paths, the paints, the tiles, the screen and the
+// pixels: by lengths and sizes alone, so that a refusal changes nothing. docs/RULES.md, "From lines to
+// pixels".
 ghost use mathlib.Core.Path.{_≡_};
 ghost use Rattle.panel.specs.Checks.{firstNo};
-ghost use Rattle.draw.specs.Draw.{pageChecks};
+ghost use Rattle.page_check.specs.Page.{pageChecks};
 use panel::kinds::Verdict;
 use panel::limits::MOST_PATHS;
 use panel::limits::MOST_TILES;
@@ -15,7 +17,7 @@ use sides::TILE_WIDTH;
 
 // Whole paths with a paint each (1), not too many of them, of tiles and of screen tiles (2), then the
 // width and the pixels (16). 16 * width * rows can pass 64 bits, so the pixels are divided.
-pub(crate) fn check_page(
+pub fn check_page(
     np: usize,
     na: usize,
     nt: usize,

@@ -1,0 +1,2 @@
+-- What is checked before a drawing begins. Definitions only.
+pub mod Page

@@ -1,0 +1,2 @@
+-- The lists and the pixels, over what a frame left. Definitions only.
+pub mod Paint
