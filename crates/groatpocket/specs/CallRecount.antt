@@ -7,7 +7,6 @@ use lib.Ieee.{Float}
 use Rattle.panel.specs.Refusals.{doneNo}
 use Rattle.new_lines.specs.declared.Recounted.{Recounted}
 use Rattle.new_lines.specs.declared.Recounted.the-variants.{Done, Refused}
-use Rattle.kept_range.specs.Kept as Kept
 use Rattle.recount.specs.Recount as Recount
 
 -- a recount that is done names no item
@@ -44,7 +43,7 @@ recountPaper (n ∷ []) bs cs rs kb kc = recountLent n 0 0 bs cs rs kb kc
 recountPaper (n ∷ m ∷ []) bs cs rs kb kc = recountLent n 0 m bs cs rs kb kc
 recountPaper (n ∷ i ∷ m ∷ more) bs cs rs kb kc = recountLent n i m bs cs rs kb kc
 
-abbrev pub recountSeen : Kept.Out → RecountSeen
+abbrev pub recountSeen : Recount.Out → RecountSeen
 recountSeen o = recountPaper (o .paper) (o .backs) (o .counts) (o .refs) (o .keptBacks) (o .keptCounts)
 
 -- the call's promise: what a caller sees is what the recount's definition leaves

@@ -15,7 +15,8 @@ use Rattle.panel.specs.declared.kinds.Answer.{Answer}
 use Rattle.panel.specs.declared.kinds.Answer.the-variants as Answer
 use Rattle.new_lines.specs.declared.Recounted.{Recounted}
 use Rattle.new_lines.specs.declared.Recounted.the-variants.{Refused}
-use Rattle.kept_range.specs.Kept.{Out, outOf, tilesIn, redrawnOf}
+pub use Rattle.kept_range.specs.Kept.{Out}
+use Rattle.kept_range.specs.Kept.{outOf, tilesIn, redrawnOf}
 
 -- the lengths lent: line numbers, path numbers, coordinates, backdrops, counts, references
 abbrev pub lentChecks : (nl nn nc nb nt nr : ℕ) → List Check
