@@ -11,7 +11,9 @@ use Rattle.panel.specs.Limits.{edgeMost}
 use Rattle.panel.specs.Paths.{boxFits, pathOf}
 use Rattle.panel.specs.declared.kinds.Path.{Path}
 use Rattle.margin.specs.Room.{Inside}
-use Rattle.boxes.specs.Boxes.{tileAt, columns, rows, least, past, boxAround, areaOf}
+use Rattle.end_tiles.specs.Lines.{tileAt}
+use Rattle.box_records.specs.Records.{areaOf}
+use Rattle.boxes.specs.Boxes.{columns, rows, least, past, boxAround}
 use Rattle.boxes.proofs.WordLaws.{least-most}
 use Rattle.box_theorems.specs.Made.{Within, Inner}
 

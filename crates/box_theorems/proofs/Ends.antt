@@ -19,9 +19,10 @@ use Rattle.panel.specs.Paths.{pathAt, pathCount}
 use Rattle.panel.specs.declared.kinds.Path.{Path}
 use Rattle.margin.specs.Room.{Inside}
 use Rattle.margin_theorems.specs.Fit.{Fit}
-use Rattle.boxes.specs.Boxes.{tileAt, endsFrom, boxOf, tilesOf, least, past, columns, rows, LineOk, BoxesMet}
+use Rattle.end_tiles.specs.Lines.{tileAt, LineOk}
+use Rattle.boxes.specs.Boxes.{endsFrom, boxOf, tilesOf, least, past, columns, rows, BoxesMet}
 use Rattle.boxes.specs.declared.kinds.Boxed.the-variants.{Done}
-use Rattle.boxes.proofs.LineLaws.{each-line}
+use Rattle.end_tiles.proofs.LineLaws.{each-line}
 use Rattle.box_theorems.specs.Made.{Within, InnerLine}
 use Rattle.box_theorems.proofs.Ways.{made-told}
 use Rattle.box_theorems.proofs.Around.{Between, held, roomy}

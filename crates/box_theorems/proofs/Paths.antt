@@ -19,9 +19,10 @@ use Rattle.panel.specs.Paths as Paths
 use Rattle.panel.specs.declared.kinds.Path.{Path}
 use Rattle.panel.specs.declared.kinds.Answer.the-variants as Answer
 use Rattle.panel.proofs.CheckLaws.{none-fails, unless-fine}
-use Rattle.boxes.specs.Boxes.{endsFrom, boxOf, areaOf, tilesOf, recordsFrom, BoxesMet}
+use Rattle.box_records.specs.Records.{areaOf}
+use Rattle.boxes.specs.Boxes.{endsFrom, boxOf, tilesOf, BoxesMet}
 use Rattle.boxes.specs.declared.kinds.Boxed.the-variants.{Done}
-use Rattle.boxes.proofs.RowLaws.{length-records}
+use Rattle.box_records.proofs.RowLaws.{length-records}
 use Rattle.boxes.proofs.CallLaws.{lent-told}
 use Rattle.box_theorems.proofs.Ways.{MadeTold, made-told}
 use Rattle.box_theorems.proofs.Around.{first-of, area-of, box-fits}

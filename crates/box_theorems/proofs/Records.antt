@@ -8,7 +8,7 @@ use Rattle.lists.specs.Sums.{sum, from}
 use Rattle.panel.specs.Paths.{pathAt, beamAt, pathRecord, endOf}
 use Rattle.panel.specs.declared.kinds.Path.{Path}
 use Rattle.panel.proofs.RecordLaws.{path-first, beam-first, path-next, beam-next}
-use Rattle.boxes.specs.Boxes.{areaOf, recordsFrom}
+use Rattle.box_records.specs.Records.{areaOf, recordsFrom}
 
 -- one more at the end of a sum
 sum-more : (f : ℕ → ℕ) (k n : ℕ) → sum (map f (from k (suc n))) ≡ sum (map f (from k n)) + f (k + n)

@@ -20,7 +20,10 @@ use Rattle.panel.specs.declared.kinds.Verdict.{Verdict}
 use Rattle.panel.specs.declared.kinds.Verdict.the-variants.{Fine, Against}
 use Rattle.panel.specs.declared.kinds.Answer.{Answer}
 use Rattle.panel.specs.declared.kinds.Answer.the-variants as Answer
-use Rattle.boxes.specs.Boxes.{boxWords, linesFrom, lentChecks, tilesOf, boxOf, recordsFrom, Out, outOf, askedOf, askedOut, madeOf, boxesOf, BoxesMet}
+use Rattle.end_tiles.specs.Lines.{linesFrom}
+use Rattle.path_reach.specs.Room.{boxWords}
+use Rattle.box_records.specs.Records.{recordsFrom}
+use Rattle.boxes.specs.Boxes.{lentChecks, tilesOf, boxOf, Out, outOf, askedOf, askedOut, madeOf, boxesOf, BoxesMet}
 use Rattle.boxes.specs.declared.kinds.Boxed.{Boxed}
 use Rattle.boxes.specs.declared.kinds.Boxed.the-variants.{Done, Refused}
 use Rattle.box_theorems.specs.Made.{BoxesWay, lent-refused, line-refused, tiles-refused, made}

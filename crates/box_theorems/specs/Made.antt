@@ -14,7 +14,10 @@ use Rattle.panel.specs.declared.kinds.Path.{Path}
 use Rattle.panel.specs.declared.kinds.Verdict.the-variants.{Fine, Against}
 use Rattle.panel.specs.declared.kinds.Answer.the-variants as Answer
 use Rattle.ranges.specs.Ranges.{clearedOf}
-use Rattle.boxes.specs.Boxes.{tileAt, lentChecks, linesFrom, boxWords, boxOf, tilesOf, recordsFrom, BoxesMet}
+use Rattle.end_tiles.specs.Lines.{tileAt, linesFrom}
+use Rattle.path_reach.specs.Room.{boxWords}
+use Rattle.box_records.specs.Records.{recordsFrom}
+use Rattle.boxes.specs.Boxes.{lentChecks, boxOf, tilesOf, BoxesMet}
 use Rattle.boxes.specs.declared.kinds.Boxed.{Boxed}
 use Rattle.boxes.specs.declared.kinds.Boxed.the-variants.{Done, Refused}
 

@@ -20,12 +20,17 @@ use Rattle.panel.specs.Checks.{firstNo}
 use Rattle.panel.specs.declared.kinds.Verdict.the-variants.{Fine, Against}
 use Rattle.panel.specs.declared.kinds.Answer.the-variants as Answer
 use Rattle.panel.proofs.CheckLaws.{all-ok, unless-no, unless-fine}
-use Rattle.boxes.specs.Boxes.{boxWords, linesFrom, endsFrom, boxOf, areaOf, tilesOf, recordsFrom, lentChecks, outOf, askedOf, askedOut, madeOf, boxesOf, BoxesMet}
-use Rattle.boxes.specs.Words.{gatherFrom, boxIn}
+use Rattle.end_tiles.specs.Lines.{linesFrom}
+use Rattle.end_tiles.proofs.LineLaws.{each-line}
+use Rattle.path_reach.specs.Room.{boxWords}
+use Rattle.path_reach.specs.Words.{gatherFrom}
+use Rattle.path_reach.proofs.WordLaws.{length-gather, gather-out}
+use Rattle.box_records.specs.Records.{areaOf, recordsFrom}
+use Rattle.box_records.specs.Told.{boxIn}
+use Rattle.box_records.proofs.RowLaws.{length-records, records-same, sets-whole, sum-same}
+use Rattle.boxes.specs.Boxes.{endsFrom, boxOf, tilesOf, lentChecks, outOf, askedOf, askedOut, madeOf, boxesOf, BoxesMet}
 use Rattle.boxes.specs.declared.kinds.Boxed.the-variants.{Done, Refused}
-use Rattle.boxes.proofs.LineLaws.{each-line}
-use Rattle.boxes.proofs.WordLaws.{length-gather, gather-out, gather-told, box-told}
-use Rattle.boxes.proofs.RowLaws.{length-records, records-same, sets-whole, sum-same}
+use Rattle.boxes.proofs.WordLaws.{gather-told, box-told}
 
 -- what the lengths tell where none is refused
 pub record Lent (nn nc np nb nw : ℕ) : Type 0 where

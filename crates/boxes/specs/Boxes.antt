@@ -1,66 +1,29 @@
 -- The boxes of paths, from their lines: for each path the tiles that its lines' ends lie in, a margin larger on every side, then first tiles one after
 -- another. No word of the working room decides anything here: that room is only asked for and cleared. docs/RULES.md, "Boxes". Definitions only.
 use mathlib.Core.Path.{_≡_}
-use mathlib.Core.Bool.{Bool, cond, _&&_}
-use mathlib.Core.List.{List, [], _∷_, _++_, map}
-use Prim.Native.Nat.{ℕ, zero, suc, _+_, _-_, _*_, _/_, _%_, _<_, min, max}
-use lib.Dec.{leb, ltb, eqb}
+use mathlib.Core.Bool.{cond}
+use mathlib.Core.List.{List, [], _∷_, map}
+use Prim.Native.Nat.{ℕ, zero, suc, _+_, _-_, _*_, _/_, _%_, min, max}
+use lib.Dec.{leb, eqb}
 use lib.ListN.{length, getD}
-use lib.Ieee.{Float, toUnsigned}
+use lib.Ieee.{Float}
 use Rattle.lists.specs.Sums.{sum, from}
 use Rattle.ranges.specs.Ranges.{clearedOf}
 use Rattle.util.specs.declared.Vec2.{Vec2}
-use Rattle.panel.specs.Limits.{mostPaths, mostTiles, edgeMost, mostLines}
-use Rattle.panel.specs.Refusals.{notWhole, tooMany, badBox, lineNumber, coordinate, noSuch, noRoom}
+use Rattle.panel.specs.Limits.{mostPaths, mostTiles, edgeMost}
+use Rattle.panel.specs.Refusals.{notWhole, tooMany, noRoom}
 use Rattle.panel.specs.Widths.{pathWords, lineFloats}
 use Rattle.panel.specs.Checks.{Check, check, firstNo, unless}
 use Rattle.panel.specs.Lines.{lineAt}
-use Rattle.panel.specs.Paths.{pathRecord, pathOf, widthOf, heightOf, endOf}
+use Rattle.panel.specs.Paths.{pathOf}
 use Rattle.panel.specs.declared.kinds.Path.{Path}
-use Rattle.panel.specs.declared.kinds.Verdict.{Verdict}
-use Rattle.panel.specs.declared.kinds.Verdict.the-variants.{Fine, Against}
 use Rattle.panel.specs.declared.kinds.Answer.{Answer}
 use Rattle.panel.specs.declared.kinds.Answer.the-variants as Answer
-use Rattle.panel.specs.declared.lines.LineEnds.{LineEnds}
-use Rattle.exact.specs.Reach.{scaled}
-use Rattle.walk.specs.Lent.{reachedOf, Reached}
+use Rattle.end_tiles.specs.Lines.{tileAt, linesFrom}
+use Rattle.path_reach.specs.Room.{boxWords}
+use Rattle.box_records.specs.Records.{areaOf, recordsFrom}
 use Rattle.boxes.specs.declared.kinds.Boxed.{Boxed}
 use Rattle.boxes.specs.declared.kinds.Boxed.the-variants.{Done, Refused}
-
--- ---- lines
-
--- the tile, counted from 0, that a coordinate lies in; one below 0 counts as in tile 0
-abbrev pub tileAt : Float → ℕ
-tileAt v = toUnsigned 32 (scaled v)
-
--- a point in a tile whose outer edges are no edges over the limit
-unfoldable pub inTiles : Vec2 → Bool
-inTiles p = ltb (tileAt (p .x)) edgeMost && ltb (tileAt (p .y)) edgeMost
-
--- line l, with its path's number, among n paths: 5, 6 and 7 with the line's number, then 3 with the path's
-unfoldable pub lineAnswer : LineEnds → (path n l : ℕ) → Answer
-lineAnswer e path n l =
-    unless (firstNo (check (ltb l mostLines) lineNumber ∷ check (reachedOf (e .p0) (e .p1)) coordinate ∷ check (ltb path n) noSuch ∷ [])) l
-    (unless (firstNo (check (inTiles (e .p0) && inTiles (e .p1)) badBox ∷ [])) path Answer.Done)
-
-abbrev pub onward : Answer → Answer → Answer
-onward Answer.Done next = next
-onward (Answer.Refused why item) next = Answer.Refused why item
-
--- so many lines from line l on, in order
-unfoldable pub linesFrom : (nos : List ℕ) (coords : List Float) (n : ℕ) → ℕ → ℕ → Answer
-linesFrom nos coords n zero l = Answer.Done
-linesFrom nos coords n (suc more) l = onward (lineAnswer (lineAt coords l) (getD nos l 0) n l) (linesFrom nos coords n more (suc l))
-
--- what is meant by a line that passes
-pub record LineOk (e : LineEnds) (path n l : ℕ) : Type 0 where
-  pub numbered : l < mostLines
-  pub reached : Reached (e .p0) (e .p1)
-  pub there : path < n
-  pub p0x : tileAt (e .p0 .x) < edgeMost
-  pub p0y : tileAt (e .p0 .y) < edgeMost
-  pub p1x : tileAt (e .p1 .x) < edgeMost
-  pub p1y : tileAt (e .p1 .y) < edgeMost
 
 -- ---- boxes
 
@@ -96,23 +59,11 @@ boxAround m (p ∷ ps) first =
 abbrev pub boxOf : (nos : List ℕ) (coords : List Float) (m : ℕ) → ℕ → ℕ → Path
 boxOf nos coords m k first = boxAround m (endsFrom nos coords k (length nos) 0) first
 
-abbrev pub areaOf : Path → ℕ
-areaOf p = widthOf p * heightOf p
-
 -- the tiles that the boxes of n paths take
 abbrev pub tilesOf : (nos : List ℕ) (coords : List Float) (m n : ℕ) → ℕ
 tilesOf nos coords m n = sum (map (λ k. areaOf (boxOf nos coords m k 0)) (from 0 n))
 
--- so many records from path k on: each begins where the one before it ends
-abbrev pub recordsFrom : (ℕ → ℕ → Path) → (beams : List ℕ) → ℕ → (k first : ℕ) → List ℕ
-recordsFrom box beams zero k first = []
-recordsFrom box beams (suc more) k first = pathRecord (box k first) (getD beams k 0) ++ recordsFrom box beams more (suc k) (endOf (box k first))
-
 -- ---- the call
-
--- words of working room to a path
-abbrev pub boxWords : ℕ
-boxWords = 4
 
 -- the lengths lent: path numbers, coordinates, words of paths, beam numbers, words of working room
 abbrev pub lentChecks : (nn nc np nb nw : ℕ) → List Check

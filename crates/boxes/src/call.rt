@@ -4,17 +4,17 @@ ghost use mathlib.Core.List.{map};
 ghost use Prim.Native.Nat.{_*_, _≤_};
 ghost use lib.ListN.{length};
 ghost use Rattle.boxes.specs.Boxes.{BoxesMet};
-use super::checks::BOX_WORDS;
 use super::checks::check_lent;
-use super::checks::check_lines;
-use super::edges::total;
 use super::kinds::Boxed;
-use super::reach::gather;
-use super::records::put_records;
+use box_records::edges::total;
+use box_records::records::put_records;
+use end_tiles::check_lines;
 use panel::kinds::Answer;
 use panel::kinds::Verdict;
 use panel::limits::MOST_TILES;
 use panel::refusals::TOO_MANY;
+use path_reach::BOX_WORDS;
+use path_reach::gather;
 use ranges::clear_words;
 
 // The records of the paths, from their lines. The working room is cleared afterwards, so far as it is

@@ -3,7 +3,4 @@
 // the files ported.
 pub mod call;
 pub mod checks;
-pub mod edges;
 pub mod kinds;
-pub mod reach;
-pub mod records;

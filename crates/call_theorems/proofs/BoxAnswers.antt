@@ -8,7 +8,9 @@ use lib.Ieee.{Float}
 use Rattle.ranges.specs.Ranges.{clearedOf}
 use Rattle.panel.specs.Paths.{stamped}
 use Rattle.panel.specs.Refusals.{notWhole}
-use Rattle.boxes.specs.Boxes.{boxWords, inTiles, lineAnswer, linesFrom, endsFrom, askedOf, boxesOf, BoxesMet}
+use Rattle.end_tiles.specs.Lines.{inTiles, lineAnswer, linesFrom}
+use Rattle.path_reach.specs.Room.{boxWords}
+use Rattle.boxes.specs.Boxes.{endsFrom, askedOf, boxesOf, BoxesMet}
 use Rattle.boxes.specs.declared.kinds.Boxed.{Boxed}
 use Rattle.boxes.specs.declared.kinds.Boxed.the-variants.{Done, Refused}
 use Rattle.box_theorems.proofs.Ways.{one-boxes}

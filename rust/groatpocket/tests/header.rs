@@ -141,7 +141,7 @@ fn room_for_outlines() {
 #[cfg(feature = "boxes")]
 #[test]
 fn room_for_boxes() {
-    let room = numbers(&text("crates/boxes/src/checks.rt"), "pub const ", ": usize = ");
+    let room = numbers(&text("crates/path_reach/src/lib.rt"), "pub const ", ": usize = ");
     let each = BOX_WORDS as u32;
     assert_eq!((header()["BOX_WORDS"], room["BOX_WORDS"]), (each, each));
 }

@@ -9,8 +9,10 @@ use lib.Seq.{sets}
 use Rattle.lists.specs.Sums.{sum, from}
 use Rattle.ranges.specs.Ranges.{clearedOf}
 use Rattle.panel.proofs.LimitLaws.{small}
-use Rattle.boxes.specs.Boxes.{boxWords, areaOf, recordsFrom}
-use Rattle.boxes.specs.Words.{gatherFrom, boxIn}
+use Rattle.path_reach.specs.Room.{boxWords}
+use Rattle.path_reach.specs.Words.{gatherFrom}
+use Rattle.box_records.specs.Records.{areaOf, recordsFrom}
+use Rattle.box_records.specs.Told.{boxIn}
 use Rattle.boxes.proofs.CallLaws.{lent-told, fullOf, boxes-lent, boxes-line, boxes-many, boxes-done}
 use borrow.Author.Needs.{needs}
 use Rattle.boxes.proofs.call.make_boxes.Statement.{statement}

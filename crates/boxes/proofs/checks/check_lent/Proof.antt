@@ -4,7 +4,8 @@ use mathlib.Core.Path.{sym}
 use Prim.Native.Nat.{_*_}
 use native.Mathlib.Omega.{arith}
 use Rattle.panel.proofs.CheckLaws.{fails-at, none-fails}
-use Rattle.boxes.specs.Boxes.{boxWords, lentChecks}
+use Rattle.path_reach.specs.Room.{boxWords}
+use Rattle.boxes.specs.Boxes.{lentChecks}
 use borrow.Author.Tests.{eq-eqb, ne-eqb, le-leb, lt-leb}
 use borrow.Author.Needs.{needs}
 use Rattle.boxes.proofs.checks.check_lent.Statement.{statement}
