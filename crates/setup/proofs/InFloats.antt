@@ -2,47 +2,36 @@
 -- nothing.
 --     columns-told    count_x
 --     last-told       the last step's number, count less one
-use mathlib.Core.Path.{_≡_, sym, ap, _∙_}
-use mathlib.Core.Bool.{Bool, true, false, true≢false, cond}
-use Prim.Native.Nat.{ℕ, _+_, _-_, _*_, _^_, _≤_, _<_}
-use native.Mathlib.Nat.{add-mul, mul-one, mul-assoc, mul-comm, mul-pos}
+use mathlib.Core.Path.{_≡_, refl, sym, ap, _∙_}
+use mathlib.Core.Bool.{Bool, true, false, cond}
+use Prim.Native.Nat.{ℕ, _+_, _-_, _^_, _≤_}
 use native.Mathlib.Omega.{arith}
-use lib.Dec.{T, lit<}
-use lib.IntN.{pos}
-use lib.Ieee.{Float, nan, inf, fin, binary32, up, down, add, sub, sum, round, lt, ofBits, fits}
-use lib.Ieee.Exact.{HasValue}
-use lib.Ieee.Back.{round-whole, whole-unique, float-back-unsigned}
-use lib.Ieee.Fits.{down-pos, add-fits, sub-fits, ofInt-fits}
-use lib.Ieee.Scale.{round-same}
+use lib.Dec.{T}
+use lib.IntN.{pos, _+ℤ_}
+use lib.Ieee.{Float, binary32, add, sub, sum, lt, ofInt, ofBits, fits}
+use lib.Ieee.Back.{float-back-unsigned}
+use lib.Ieee.Fits.{sub-fits}
 use Rattle.util.specs.Constants.{one}
 use Rattle.exact.proofs.Limits.{far}
-use Rattle.exact.proofs.Less.{nat-value, one-less}
+use Rattle.float32.specs.Meaning.{whole}
+use Rattle.exact.specs.Whole.{Rounded}
+use Rattle.exact.proofs.Signs.{plusOf, neg-plus}
+use Rattle.exact.proofs.Exact.{nat-whole, add-rounded}
+use Rattle.exact.proofs.Less.{one-less}
 use Rattle.walk.specs.Num.{float}
 use Rattle.walk.specs.Around.{apartOf, tilesOf, Spans, countsBy}
 
--- ---- a / c + b / c, for a whole a and b over the same c
-both-more : (a b c p q : ℕ) → 0 < c → p ≡ a * c → q ≡ b * c → a + b ≤ 2 ^ 24 → HasValue (round binary32 false (p + q) c) false (a + b) 1
-both-more a b c p q C e f h =
-    rw (round-same binary32 false (p + q) c (a + b) 1 C (lit< tt) (omega (arith, add-mul a b c, e, f))) (round-whole binary32 false (a + b) h)
-
-value-more : (x y : Float) (a b : ℕ) → HasValue x false a 1 → HasValue y false b 1 → a + b ≤ 2 ^ 24 → HasValue (add binary32 x y) false (a + b) 1
-unfolding add sum
-value-more nan y a b p q h = absurd p
-value-more (inf s) y a b p q h = absurd p
-value-more (fin s m e) nan a b p q h = absurd q
-value-more (fin s m e) (inf t) a b p q h = absurd q
-value-more (fin false m e) (fin false n d) a b p q h =
-    both-more a b (down e * down d) (m * up e * down d) (n * up d * down e) (mul-pos (down-pos e) (down-pos d))
-    (ap (λ (z : ℕ). z * down d) (sym (mul-one (m * up e)) ∙ p .1) ∙ mul-assoc a (down e) (down d))
-    (ap (λ (z : ℕ). z * down e) (sym (mul-one (n * up d)) ∙ q .1) ∙ mul-assoc b (down d) (down e) ∙ ap (λ (z : ℕ). b * z) (mul-comm (down d) (down e)))
-    h
-value-more (fin false m e) (fin true n d) a b p q h = absurd (true≢false (q .0))
-value-more (fin true m e) (fin t n d) a b p q h = absurd (true≢false (p .0))
+-- ---- a sum of two whole numbers' floats: exact or rounded once, and with no minus sign
+zeros-sum : (a b : ℕ) → a ≡ 0 → b ≡ 0 → add binary32 (float a) (float b) ≡ float (a + b)
+zeros-sum a b e f = rw (e, f) (unfold add sum ofInt in refl)
 
 floats-add : (a b : ℕ) → a + b ≤ 2 ^ 24 → add binary32 (float a) (float b) ≡ float (a + b)
-floats-add a b h =
-    whole-unique binary32 (add binary32 (float a) (float b)) (float (a + b)) false (a + b) (add-fits binary32 (float a) (float b)) (ofInt-fits binary32 (pos (a + b)))
-    (value-more (float a) (float b) a b (nat-value a (omega arith)) (nat-value b (omega arith)) h) (nat-value (a + b) h)
+unfolding ofInt
+floats-add a b h = go (add-rounded (float a) (float b) (pos a) (pos b) (nat-whole a (omega arith)) (nat-whole b (omega arith)))
+  where
+    go : Rounded (add binary32 (float a) (float b)) (pos a +ℤ pos b) → add binary32 (float a) (float b) ≡ float (a + b)
+    go (false, k, e, f) = e ∙ ap (whole false) (sym (ap plusOf f))
+    go (true, k, e, f) = let o : a + b ≡ 0 = ap plusOf f ∙ neg-plus (pos k) in zeros-sum a b (omega arith) (omega arith)
 
 -- ---- between two edges
 one-fits : T (fits binary32 one)
