@@ -9,7 +9,7 @@ use panel::kinds::Verdict;
 use panel::refusals::SUM_OVER;
 
 // Rows low .. high of a box whose top row is top, with its first tile and its width.
-#[derive(Drop)]
+#[derive(Clone, Copy)]
 pub struct Rows {
     pub first: u32,
     pub top: u32,

@@ -1,5 +1,7 @@
 // backdrop.rs: running sums of the backdrops along the tile rows of each path. docs/RULES.md,
 // refusals 1 to 4 and 11. A path is checked as a whole before its first tile is written.
+#![tactic(auto)]
+
 ghost use Rattle.std.specs.Prelude.{◌≡◌, length};
 ghost use Rattle.panel.specs.Paths.{path_count, paths_answer};
 ghost use Rattle.panel.specs.declared.kinds.Answer.TheVariants.{Done};

@@ -1,6 +1,8 @@
 // A band of the screen: the tiles of some of its rows, on pixels of the band's own, so that several
 // can be drawn at once. docs/RULES.md, "Bands". Each tile is fine's own; only its row is counted
 // from the band's first.
+#![tactic(auto)]
+
 ghost use Rattle.std.specs.Prelude.{◌≡◌, ◌+◌, ◌*◌, ◌≤◌, length};
 ghost use Rattle.panel.specs.Checks.{first_no};
 ghost use Rattle.panel.specs.Limits.{most_tiles};

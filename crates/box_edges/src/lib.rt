@@ -1,6 +1,8 @@
 // A step's tile by the edges of its path's box as floats: the step of `walk::step`, for a line that was
 // checked. Such a line's column and row are whole numbers, exactly, so they are held against the
 // edges as floats, which no NaN and no infinity passes, and what passes is cast without loss.
+#![tactic(auto)]
+
 ghost use Rattle.std.specs.Prelude.{◌≡◌, ◌<◌};
 ghost use Rattle.panel.specs.Widths.{step_range};
 ghost use Rattle.exact.specs.Reach.{Starts};
@@ -12,7 +14,7 @@ use panel::kinds::Path;
 use walk::kinds::Pace;
 use walk::step::{Step, tile_at, z_at};
 
-#[derive(Drop)]
+#[derive(Clone, Copy)]
 pub struct Edges {
     pub left: f32,
     pub top: f32,

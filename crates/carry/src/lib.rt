@@ -1,5 +1,7 @@
 // z carried from one step to the next: of a line's references each step is mostly one more than the last,
 // so its z and the z before it are at hand, and only the z after it is worked out.
+#![tactic(auto)]
+
 ghost use Rattle.std.specs.Prelude.{◌≡◌, ◌<◌};
 ghost use Rattle.panel.specs.Widths.{step_range};
 ghost use Rattle.carry.specs.Carry.{Carried, zs_of, no_zs};
@@ -9,7 +11,7 @@ use walk::kinds::Pace;
 use walk::step::z_at;
 
 // A step's z, with those of the steps before and after it.
-#[derive(Drop)]
+#[derive(Clone, Copy)]
 pub struct Zs {
     pub at: u32,
     pub before: f32,

@@ -1,5 +1,7 @@
 // The walk clipped to its path's box, in step numbers, and the rows it passes left of the box:
 // path_count.rs, lines 68 to 126. docs/RULES.md, "The walk of a line".
+#![tactic(auto)]
+
 ghost use Rattle.std.specs.Prelude.{◌≡◌, cond, min, max};
 ghost use Rattle.clip.specs.Clip.{row_step_by, col_step_of, first_step_of, last_step_of, rows_of, left_of, enter_of, leave_of, by_left_of, by_right_of, cols_of};
 ghost use Rattle.clip.specs.Page.{clipped_of};
@@ -12,7 +14,7 @@ use walk::step::z_at;
 
 // Steps imin to imax of the walk are left, and rows ymin to ymax are marked in the box's first
 // column. The rows are unsigned: a negative one is 0, and the box's top is no higher.
-#[derive(Drop)]
+#[derive(Clone, Copy)]
 pub struct Clip {
     pub imin: u32,
     pub imax: u32,

@@ -1,6 +1,8 @@
 // Colours of four floats, red first, multiplied by their alpha: unpacked from a COLOR command's word,
 // laid over a tile's pixels (src/layer.rt), and packed for the screen. fine.rs, lines 34 to 49 and 153 to 165;
 // docs/RULES.md, "Coverage and colour".
+#![tactic(auto)]
+
 pub mod layer;
 
 ghost use Rattle.std.specs.Prelude.{◌≡◌, ◌<◌};

@@ -9,7 +9,7 @@ use panel::kinds::Verdict;
 use panel::refusals::{PAST_END, UNKNOWN};
 
 // What a command's first word asks for.
-#[derive(Drop)]
+#[derive(Clone, Copy)]
 pub enum Op {
     Fill,
     Solid,
@@ -19,7 +19,7 @@ pub enum Op {
 }
 
 // What a command does: FILL has its three words, COLOR its one.
-#[derive(Drop)]
+#[derive(Clone, Copy)]
 pub enum Act {
     Fill(u32, u32, u32),
     Solid,
@@ -28,7 +28,7 @@ pub enum Act {
 }
 
 // A command is refused, or does something, and the next one stands at the place given.
-#[derive(Drop)]
+#[derive(Clone, Copy)]
 pub enum Move {
     Refused(u32),
     Goes(Act, usize),

@@ -1,5 +1,7 @@
 // Coverage of a tile's 16 by 16 pixels: fill_path of fine.rs, lines 51 to 109, and the public call
 // with refusals 1 and 13 before it. docs/RULES.md, "Coverage and colour".
+#![tactic(auto)]
+
 pub mod area;
 pub mod ground;
 

@@ -1,5 +1,7 @@
 // The tile that a line's end lies in; and lines checked in order, before boxes are made from them.
 // docs/RULES.md, "Boxes". Added: it is in none of the files ported.
+#![tactic(auto)]
+
 ghost use Rattle.std.specs.Prelude.{◌≡◌, ◌*◌, ◌≤◌, length};
 ghost use Rattle.panel.specs.Widths.{line_floats};
 ghost use Rattle.end_tiles.specs.Lines.{tile_at, in_tiles, line_answer, lines_from};

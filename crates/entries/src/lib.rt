@@ -1,5 +1,7 @@
 // The tables of another's count: the first count that isn't ours, and the first tile whose slots lie
 // past the room or over an earlier tile's. Ours stand in working room that the caller lends.
+#![tactic(auto)]
+
 ghost use Rattle.std.specs.Prelude.{◌≡◌, ◌&&◌, ◌+◌, ◌-◌, ◌≤◌, ◌<◌, ◌^◌, ltb, length};
 ghost use Rattle.lists.specs.Sums.{first};
 ghost use Rattle.panel.specs.Slots.{not32};

@@ -1,5 +1,7 @@
 // A line of few steps inside its path's box, counted as it goes: each step is checked in whole numbers, noted and written.
 // Where a step doesn't pass, those before it are taken back by their notes, so that all is as it was but the notes.
+#![tactic(auto)]
+
 ghost use Rattle.std.specs.Prelude.{◌≡◌, ◌+◌, ◌*◌, ◌<◌, ◌≤◌, length};
 ghost use Rattle.exact.specs.Reach.{Starts};
 ghost use Rattle.panel.specs.Limits.{most_slots};
@@ -26,7 +28,7 @@ pub const FEW: u32 = 16;
 const STEP_NOTES: usize = 3;
 
 // A line inside its path's box counted, with the number of its references; or one to be walked.
-#[derive(Drop)]
+#[derive(Clone, Copy)]
 pub enum Direct {
     On(u32),
     Other,

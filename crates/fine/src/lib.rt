@@ -1,5 +1,7 @@
 // The screen: its tiles in order, each by its commands, on the pixels lent. docs/RULES.md, "Coverage
 // and colour" and refusals 1, 2, 13 to 16; fine_main of fine.rs, lines 112 to 182.
+#![tactic(auto)]
+
 ghost use Rattle.std.specs.Prelude.{◌≡◌, ◌*◌, ◌≤◌, length};
 ghost use Rattle.panel.specs.Checks.{first_no};
 ghost use Rattle.panel.specs.Limits.{most_tiles};

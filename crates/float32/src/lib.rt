@@ -1,6 +1,8 @@
 // Rust's methods and casts of `f32`, as functions (docs/RULES.md, "Float meanings"). Each is total and
 // has no `requires`. Its contract says its result by a definition of specs/Meaning.antt, or by the
 // cast that lib.Ieee has.
+#![tactic(auto)]
+
 ghost use Rattle.std.specs.Prelude.{◌≡◌, cond, ◌^◌, ◌≤◌, pos, nat_abs};
 ghost use Rattle.std.specs.Float.Ieee as Ieee;
 ghost use Rattle.std.specs.Float.{binary32};

@@ -5,7 +5,7 @@ ghost use Rattle.frame.specs.Frame.{stage_no};
 use panel::kinds::Running;
 
 // The parts of a frame, in order: the checks of what is lent, then the four stages.
-#[derive(Drop)]
+#[derive(Clone, Copy)]
 pub enum Stage {
     Lent,
     Count,
@@ -16,7 +16,7 @@ pub enum Stage {
 
 // A frame done, or refused: by which part, with the refusal's number and the item's. Lines and
 // references counted are told either way.
-#[derive(Drop)]
+#[derive(Clone, Copy)]
 pub enum Framed {
     Done(Running),
     Refused(Stage, u32, u32, Running),

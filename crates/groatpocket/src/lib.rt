@@ -1,6 +1,8 @@
 // The functions that a panel in C or Rust links: `rt staticlib groatpocket` writes the archive. Each is
 // a thin call of a proved function, named with the prefix gp_, with the promise of that function.
 // A slice is lent as a pointer and a length. A module for each stage.
+#![tactic(auto)]
+
 pub mod call_backdrop;
 pub mod call_bands;
 pub mod call_boxes;

@@ -1,5 +1,7 @@
 // Hand-out: the first slot of each tile, from the counts. docs/RULES.md, "The walk of a line" and
 // refusals 1, 2 and 9. Added: it is in none of the files ported.
+#![tactic(auto)]
+
 ghost use Rattle.std.specs.Prelude.{◌≡◌, ◌≤◌, length};
 ghost use Rattle.lists.specs.Sums.{sum};
 ghost use Rattle.panel.specs.Limits.{most_tiles, most_slots};

@@ -12,7 +12,7 @@ pub fn room() -> [u32; 262144]
 }
 
 // What one read brought.
-#[derive(Drop)]
+#[derive(Clone, Copy)]
 enum Turn {
     More(Scan),
     End,

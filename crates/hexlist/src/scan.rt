@@ -5,7 +5,7 @@ ghost use Rattle.hexlist.specs.Text.{digit_of, start_of, state_of, take_of, feed
 
 // Where the text stands: the word begun, whether there is one, whether in a comment, and how many
 // words are stored.
-#[derive(Drop)]
+#[derive(Clone, Copy)]
 pub struct Scan {
     pub value: u32,
     pub begun: bool,

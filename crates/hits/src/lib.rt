@@ -2,6 +2,8 @@
 // tell each other of a line's steps in these.
 
 // So many steps of a line are noted by its check; those past them are walked again by its write.
+#![tactic(auto)]
+
 pub const NOTE_WORDS: u32 = 256;
 
 // The same, as an array's length.

@@ -1,5 +1,7 @@
 // A line that lies inside its path's box: its walk is not clipped and passes no row left of the box, so that its pace and
 // the number of its steps say all. Where it says nothing, the line is left to `setup` and `clip`.
+#![tactic(auto)]
+
 ghost use Rattle.std.specs.Prelude.{◌≡◌, false, ◌+◌, ◌*◌, ◌≤◌, length};
 ghost use Rattle.std.specs.Float.Ieee.{lt};
 ghost use Rattle.panel.specs.Widths.{line_floats};
@@ -18,14 +20,14 @@ use util::{TILE_SCALE, Vec2};
 use walk::kinds::Pace;
 
 // A line's pace, and its steps; or a line to be looked at in another way.
-#[derive(Drop)]
+#[derive(Clone, Copy)]
 pub enum Inside {
     In(Pace, u32),
     Other,
 }
 
 // A line's ends in tiles, the upper one first.
-#[derive(Drop)]
+#[derive(Clone, Copy)]
 struct Tiled {
     s0: Vec2,
     s1: Vec2,

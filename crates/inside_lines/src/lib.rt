@@ -2,6 +2,8 @@
 // One of few steps is counted as it goes instead (`few_steps`). Nothing is refused here: where there is no room, or a step
 // doesn't pass so, nothing is left written but notes, and the line is left to its walk (`walked_lines`), which says what
 // becomes of it.
+#![tactic(auto)]
+
 ghost use Rattle.std.specs.Prelude.{◌≡◌, ◌/◌, length};
 ghost use Rattle.panel.specs.Widths.{ref_words};
 ghost use Rattle.walk.specs.Lent.{walk_at};

@@ -1,5 +1,7 @@
 // The range of the path counted again: its tiles are kept and zeroed, its new lines are counted into them, and where one is
 // refused they get back what they held.
+#![tactic(auto)]
+
 ghost use Rattle.std.specs.Prelude.{◌≡◌, ◌*◌, ◌≤◌, ◌<◌, length};
 ghost use Rattle.panel.specs.Paths.{path_at, path_count};
 ghost use Rattle.panel.specs.Widths.{line_floats};

@@ -1,4 +1,6 @@
 // The last colour of a screen tile, laid over its rows as they are packed into the screen's pixels.
+#![tactic(auto)]
+
 ghost use Rattle.std.specs.Prelude.{◌≡◌, ◌+◌, ◌*◌, ◌≤◌, ◌<◌, length};
 ghost use Rattle.lists.specs.Grid.{mapi, within};
 ghost use Rattle.panel.specs.Limits.{most_tiles};

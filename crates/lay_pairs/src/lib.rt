@@ -1,5 +1,7 @@
 // A tile's list written, pair by pair: a pair's words, a JUMP before it where it doesn't fit, and END.
 // docs/RULES.md, "Command lists". Added: it is in none of the files ported.
+#![tactic(auto)]
+
 pub mod sizes;
 
 ghost use Rattle.std.specs.Prelude.{◌≡◌, true, [], ◌∷◌, ◌+◌, ◌*◌, ◌<◌, ◌≤◌, length};
@@ -22,7 +24,7 @@ const FRESH_START: usize = 0;
 
 // Where the next word goes, how many words are left in its region, and where the next fresh region
 // is.
-#[derive(Drop)]
+#[derive(Clone, Copy)]
 pub struct Pen {
     pub at: usize,
     pub left: usize,

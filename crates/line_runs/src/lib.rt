@@ -1,5 +1,7 @@
 // A run of references that name one line: path_tiling.rs. The line and its tag are found once; for each reference a segment
 // is written at its slot, with the tag beside it, up to the first that is refused.
+#![tactic(auto)]
+
 mod beams;
 
 ghost use Rattle.std.specs.Prelude.{◌≡◌, ◌-◌, ◌*◌, ◌/◌, ◌≤◌, length};
@@ -45,7 +47,7 @@ fn tile_one(
 }
 
 // How far a run of references was tiled: up to `next`, or up to the refusal of `next`.
-#[derive(Drop)]
+#[derive(Clone, Copy)]
 pub struct Ran {
     pub answer: Answer,
     pub next: u32,

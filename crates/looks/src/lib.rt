@@ -1,5 +1,7 @@
 // What one reference comes to: path_tiling.rs, lines 24 to 28 and 56 to 76, with the refusals in the
 // place of its panics.
+#![tactic(auto)]
+
 ghost use Rattle.std.specs.Prelude.{◌≡◌, ◌*◌, ◌<◌, ◌≤◌, ◌^◌, length};
 ghost use Rattle.panel.specs.Widths.{line_floats, step_range};
 ghost use Rattle.panel.specs.Paths.{end_of};
@@ -24,7 +26,7 @@ use walk::kinds::{Walk, Walked};
 use walk::step::Step;
 
 // A segment and its slot; nothing, where the tile is empty; or a refusal.
-#[derive(Drop)]
+#[derive(Clone, Copy)]
 pub enum Look {
     Put(SlotNo, Segment),
     Empty,

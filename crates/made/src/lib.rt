@@ -1,5 +1,7 @@
 // Whether our lines make a reference: a step of a line's clipped walk, with its tile. docs/RULES.md,
 // "The walk of a line". A step in the box and below the walk's count need not be in the clipped walk.
+#![tactic(auto)]
+
 ghost use Rattle.std.specs.Prelude.{◌≡◌, ℕ, ◌*◌, ◌<◌, ◌≤◌, length};
 ghost use Rattle.panel.specs.Widths.{line_floats, step_range};
 ghost use Rattle.panel.specs.Paths.{paths_answer};
@@ -18,7 +20,7 @@ use walk::step::Step;
 
 // A step that a line makes: how many steps of its clipped walk stand before it, and its tile. Or no
 // step that a line makes.
-#[derive(Drop)]
+#[derive(Clone, Copy)]
 pub enum Made {
     At(u32, u32),
     Not,

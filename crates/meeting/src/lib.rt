@@ -1,5 +1,7 @@
 // The first of a row of ranges that meets an earlier one, with no sort: flags for a window of keys at
 // a time, in working room that the caller lends. The ranges' first keys stand in the same room.
+#![tactic(auto)]
+
 ghost use Rattle.std.specs.Prelude.{◌≡◌, ◌+◌, ◌-◌, ◌*◌, ◌≤◌, ◌<◌, length};
 ghost use Rattle.meeting.specs.Meeting.{first_meeting, starts_at, lens_in};
 ghost use Rattle.meeting.specs.Found.{KeptBelow, ClearFrom, FlagRan, PassedTo, keys, place_of, window_end, Nearer, NextStart, FewPasses};
@@ -9,7 +11,7 @@ const KEYS: u64 = 0x1_0000_0000;
 
 // The first range that meets an earlier one; how many passes were made to find it, how many ranges
 // they looked at and how many words for a flag.
-#[derive(Drop)]
+#[derive(Clone, Copy)]
 pub struct Met {
     pub first: usize,
     pub passes: u64,
@@ -18,7 +20,7 @@ pub struct Met {
 }
 
 // What one pass finds, and how many ranges and words it looked at.
-#[derive(Drop)]
+#[derive(Clone, Copy)]
 struct Passed {
     first: usize,
     ranges: usize,

@@ -1,6 +1,8 @@
 // Parts of a segment that are narrow, as most are: within their row they lie in a few columns that stand side by side, a
 // span. Only in these is anything divided. The columns left of the span get what y_edge adds, and those right of it that
 // and the part's whole height.
+#![tactic(auto)]
+
 ghost use Rattle.std.specs.Prelude.{◌≡◌, ◌+◌, ◌≤◌, ◌<◌, length};
 ghost use Rattle.lists.specs.Grid.{mapi, within};
 ghost use Rattle.sides.specs.Tile.{tile_width, tile_height, tile_size, row_start, row_end};
@@ -23,7 +25,7 @@ pub const LAST_SPAN: usize = TILE_WIDTH - SPAN;
 pub const PARTS: usize = TILE_WIDTH + LAST_SPAN;
 
 // A number for each column of a span.
-#[derive(Drop)]
+#[derive(Clone, Copy)]
 pub struct Four {
     pub n0: f32,
     pub n1: f32,

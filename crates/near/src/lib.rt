@@ -1,6 +1,8 @@
 // The paths that can put something on a screen tile, in painting order: of all paths those whose box has
 // the tile's row, of these the ones that reach into a wide block of its columns, and of these the ones
 // that reach into a narrow block. What is left out puts nothing there.
+#![tactic(auto)]
+
 ghost use Rattle.std.specs.Prelude.{◌≡◌, ◌+◌, ◌-◌, ◌%◌, ◌<◌, ◌≤◌, length, take};
 ghost use Rattle.lists.specs.Run.{All};
 ghost use Rattle.panel.specs.Limits.{most_paths, most_tiles};
@@ -21,7 +23,7 @@ const NARROW: u32 = 8;
 const MANY: usize = MOST_PATHS as usize;
 
 // How many paths each of the three lists has.
-#[derive(Drop)]
+#[derive(Clone, Copy)]
 pub struct Held {
     pub row: usize,
     pub wide: usize,

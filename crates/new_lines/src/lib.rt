@@ -1,4 +1,6 @@
 // The new lines of the path, in order, stretch by stretch: each is counting's own line, where it is of this path.
+#![tactic(auto)]
+
 ghost use Rattle.std.specs.Prelude.{◌≡◌, ◌*◌, ◌/◌, ◌≤◌, ◌<◌, length};
 ghost use Rattle.panel.specs.Paths.{path_count};
 ghost use Rattle.panel.specs.Widths.{ref_words, line_floats};
@@ -16,7 +18,7 @@ use stretches::{other_no, stretch};
 // What a recount answers.
 // All lines counted, with the number of their references; or refused, with the refusal's number, the
 // item's (the path's, or the line's own number), and the references made before it.
-#[derive(Drop)]
+#[derive(Clone, Copy)]
 pub enum Recounted {
     Done(u32),
     Refused(u32, u32, u32),

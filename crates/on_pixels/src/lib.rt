@@ -1,5 +1,7 @@
 // What one command does to a tile's areas and colours; and a tile's commands up to its first FILL, on one
 // pixel for all. docs/RULES.md, "Coverage and colour"; fine.rs, lines 128 to 171.
+#![tactic(auto)]
+
 ghost use Rattle.std.specs.Prelude.{◌≡◌, false, ◌-◌, ◌≤◌, length};
 ghost use Rattle.float32.specs.Meaning.{sign_of};
 ghost use Rattle.util.specs.Constants.{zero};
@@ -66,7 +68,7 @@ pub fn carry_out(
 
 // Where the first commands lead: the place of the next, how many came before it, and the area that all
 // pixels have there.
-#[derive(Drop)]
+#[derive(Clone, Copy)]
 pub struct Opening {
     pub at: usize,
     pub count: u32,

@@ -1,5 +1,7 @@
 // One line that isn't counted in a run of short ones, in which way it goes: inside its path's box, or by its walk.
 // docs/RULES.md, counting: 5, then 6, 7 and the skip rules, then its acts.
+#![tactic(auto)]
+
 ghost use Rattle.std.specs.Prelude.{◌≡◌, ◌/◌, length};
 ghost use Rattle.panel.specs.Widths.{ref_words};
 ghost use Rattle.acts.specs.Acts.{st_of};

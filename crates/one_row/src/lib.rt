@@ -1,5 +1,7 @@
 // What a segment does to one row of pixels, and to one pixel of it: fine.rs, lines 59 to 93. The
 // divisions and signs that are the same in every row stand before the rows.
+#![tactic(auto)]
+
 ghost use Rattle.std.specs.Prelude.{◌≡◌, ◌<◌};
 ghost use Rattle.float32.specs.Meaning.{min_of, max_of, clamp_of};
 ghost use Rattle.util.specs.Constants.{zero, one};
@@ -12,7 +14,7 @@ use panel::segments::Segment;
 
 // What every row has of a segment: where it starts, beside the tile's left side and down the screen,
 // how far it goes, 1 over its height, the sign of its width, and its y_edge.
-#[derive(Drop)]
+#[derive(Clone, Copy)]
 pub struct Way {
     pub x: f32,
     pub y: f32,
@@ -25,7 +27,7 @@ pub struct Way {
 
 // A row's share of a segment: how far below the row's top the segment starts, that and its end
 // brought within the row, the height between the two, and what y_edge adds.
-#[derive(Drop)]
+#[derive(Clone, Copy)]
 pub struct Row {
     pub y: f32,
     pub y0: f32,
@@ -35,7 +37,7 @@ pub struct Row {
 }
 
 // How far the part within a row reaches to the left and to the right.
-#[derive(Drop)]
+#[derive(Clone, Copy)]
 pub struct Reach {
     pub left: f32,
     pub right: f32,

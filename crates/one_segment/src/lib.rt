@@ -1,4 +1,6 @@
 // What one segment adds to the areas of a tile's pixels, row by row: fine.rs, lines 59 to 93.
+#![tactic(auto)]
+
 ghost use Rattle.std.specs.Prelude.{◌≡◌, false, ◌+◌, ◌≤◌, ◌<◌, length};
 ghost use Rattle.std.specs.Float.Ieee.{lt};
 ghost use Rattle.lists.specs.Grid.{mapi, within};

@@ -1,6 +1,8 @@
 // A line that lies within one tile, off its edges, as it is counted: most lines of a trace are. Its one step is on that
 // tile and marks nothing, so it needs no walk. Nothing is written here, and nothing refused: where the tile's count or the
 // references are at their limit, and of any other line, it says nothing, and the line is left to `one_line`.
+#![tactic(auto)]
+
 ghost use Rattle.std.specs.Prelude.{◌≡◌, ◌+◌, ◌*◌, ◌<◌, ◌≤◌, length};
 ghost use Rattle.panel.specs.Paths.{paths_answer};
 ghost use Rattle.panel.specs.Widths.{line_floats};
@@ -15,7 +17,7 @@ use panel::widths::{PATH_WORDS, REF_WORDS};
 use spot::{Spot, spot_of};
 
 // The tile of a line that may be counted so; or a line to be walked.
-#[derive(Drop)]
+#[derive(Clone, Copy)]
 pub enum One {
     In(TileNo),
     Other,

@@ -1,5 +1,7 @@
 // Whether lines make closed outlines: each path's lines, in order, come back bit for bit to where they
 // began. The Rust has no such call. docs/RULES.md, "Closed outlines".
+#![tactic(auto)]
+
 ghost use Rattle.std.specs.Prelude.{◌≡◌, cond, not, ◌&&◌, ◌+◌, ◌-◌, ◌*◌, ◌≤◌, ◌<◌, eqb, length, get_or};
 ghost use Rattle.panel.specs.Limits.{most_lines};
 ghost use Rattle.panel.specs.Checks.{first_no};

@@ -2,6 +2,8 @@
 // tile its count, then its backdrop with half of all words added, then for each line how many
 // references are made before it. The references themselves are not kept. A refusal ends it, so acts
 // are checked as they are done: nothing needs to be undone.
+#![tactic(auto)]
+
 mod lines;
 mod steps;
 mod words;
@@ -13,7 +15,7 @@ pub const ZERO_BACK: u32 = 2147483648;
 
 // All lines, with the number of references that they make; or the first refusal's number, and its
 // line's.
-#[derive(Drop)]
+#[derive(Clone, Copy)]
 pub enum Own {
     Done(u32),
     Refused(u32, u32),

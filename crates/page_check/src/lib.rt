@@ -1,6 +1,8 @@
 // What a drawing checks before its frame begins, of the paths, the paints, the tiles, the screen and the
 // pixels: by lengths and sizes alone, so that a refusal changes nothing. docs/RULES.md, "From lines to
 // pixels".
+#![tactic(auto)]
+
 ghost use Rattle.std.specs.Prelude.{◌≡◌};
 ghost use Rattle.panel.specs.Checks.{first_no};
 ghost use Rattle.page_check.specs.Page.{page_checks};

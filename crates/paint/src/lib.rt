@@ -1,5 +1,7 @@
 // The lists and the pixels of a drawing, once its frame is done. docs/RULES.md, "From lines to pixels".
 // It ends at the first that refuses, and what came before it stands.
+#![tactic(auto)]
+
 pub mod kinds;
 
 ghost use Rattle.std.specs.Prelude.{◌≡◌, ◌*◌, ◌≤◌};

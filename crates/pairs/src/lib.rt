@@ -1,5 +1,7 @@
 // What a path puts on a screen tile: a command that covers and a COLOR, or nothing. docs/RULES.md,
 // "Command lists". Added: it is in none of the files ported.
+#![tactic(auto)]
+
 ghost use Rattle.std.specs.Prelude.{◌≡◌, true, ◌+◌, ◌*◌, ◌%◌, ◌≤◌, ◌<◌, pos, length, get_or};
 ghost use Rattle.panel.specs.Limits.{most_tiles};
 ghost use Rattle.panel.specs.Widths.{paint_words};
@@ -13,7 +15,7 @@ use panel::widths::{PAINT_COLOUR, PAINT_RULE, PAINT_WORDS};
 
 // FILL and COLOR: so many segments from the first on, the rule's word, the backdrop's bits and the
 // colour. SOLID and COLOR: the colour.
-#[derive(Drop)]
+#[derive(Clone, Copy)]
 pub enum Pair {
     Fill {
         count: u32,
@@ -25,7 +27,7 @@ pub enum Pair {
     Solid(u32),
 }
 
-#[derive(Drop)]
+#[derive(Clone, Copy)]
 pub enum Put {
     Nothing,
     Puts(Pair),

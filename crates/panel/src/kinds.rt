@@ -5,17 +5,17 @@ ghost use Rattle.panel.specs.Kinds.{stepped_of, number_of, item_of};
 use super::refusals::DONE;
 
 // A line's number, a tile's and a slot's: three kinds that can't be mixed.
-#[derive(Drop)]
+#[derive(Clone, Copy)]
 pub struct LineNo(pub u32);
 
-#[derive(Drop)]
+#[derive(Clone, Copy)]
 pub struct TileNo(pub u32);
 
-#[derive(Drop)]
+#[derive(Clone, Copy)]
 pub struct SlotNo(pub u32);
 
 // A path's box, in tiles, and its first tile. The right and bottom edges are outside.
-#[derive(Drop)]
+#[derive(Clone, Copy)]
 pub struct Path {
     pub x0: u32,
     pub y0: u32,
@@ -25,7 +25,7 @@ pub struct Path {
 }
 
 // Lines so far, and references so far.
-#[derive(Drop)]
+#[derive(Clone, Copy)]
 pub struct Running {
     pub lines: u32,
     pub refs: u32,
@@ -45,7 +45,7 @@ impl Running {
 
 // What a call answers that has nothing to hand back: done, or refused with the number and the
 // item's (the path's, the reference's, the screen tile's).
-#[derive(Drop)]
+#[derive(Clone, Copy)]
 pub enum Answer {
     Done,
     Refused(u32, u32),
@@ -72,7 +72,7 @@ pub fn item(a: Answer) -> u32
 }
 
 // What a check finds: nothing against it, or the number of the refusal.
-#[derive(Drop)]
+#[derive(Clone, Copy)]
 pub enum Verdict {
     Fine,
     Against(u32),

@@ -8,7 +8,7 @@ use super::widths::LINE_FLOATS;
 use util::Vec2;
 
 // A line's points, as it is drawn.
-#[derive(Drop)]
+#[derive(Clone, Copy)]
 pub struct LineEnds {
     pub p0: Vec2,
     pub p1: Vec2,

@@ -5,7 +5,7 @@ ghost use Rattle.panel.specs.Paints.{paint_at, put_paint};
 
 use super::widths::{PAINT_COLOUR, PAINT_RULE, PAINT_WORDS};
 
-#[derive(Drop)]
+#[derive(Clone, Copy)]
 pub struct Paint {
     pub colour: u32,
     pub rule: u32,

@@ -8,7 +8,7 @@ use super::kinds::SlotNo;
 use super::widths::SEGMENT_FLOATS;
 use util::Vec2;
 
-#[derive(Drop)]
+#[derive(Clone, Copy)]
 pub struct Segment {
     pub p0: Vec2,
     pub p1: Vec2,

@@ -2,6 +2,8 @@
 // tiles its first column and its first row lie before the edge limit, then the column and the row past its
 // last. All four only grow, and all are 0 where a path has no line. docs/RULES.md, "Boxes". Added: it is in
 // none of the files ported.
+#![tactic(auto)]
+
 ghost use Rattle.std.specs.Prelude.{◌≡◌, ◌+◌, ◌-◌, ◌*◌, ◌≤◌, ◌<◌, max, length, get_or};
 ghost use Rattle.panel.specs.Limits.{edge_most};
 ghost use Rattle.panel.specs.Widths.{line_floats};

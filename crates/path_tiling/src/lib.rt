@@ -1,5 +1,7 @@
 // A segment for each reference of a range, written at its slot, with its tag beside it: path_tiling.rs.
 // docs/RULES.md, tiling's part of "When the panel says no".
+#![tactic(auto)]
+
 ghost use Rattle.std.specs.Prelude.{◌≡◌, ◌-◌, ◌/◌, ◌≤◌, ◌<◌, length};
 ghost use Rattle.panel.specs.Widths.{ref_words};
 ghost use Rattle.panel.specs.Paths.{paths_answer};

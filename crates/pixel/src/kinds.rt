@@ -3,21 +3,21 @@ ghost use Rattle.std.specs.Prelude.{◌≡◌};
 ghost use Rattle.pixel.specs.Held.{covered_by};
 
 // The pixel's coverage, or the number of the refusal.
-#[derive(Drop)]
+#[derive(Clone, Copy)]
 pub enum Covered {
     Done(f32),
     Refused(u32),
 }
 
 // The pixel, packed, or the number of the refusal.
-#[derive(Drop)]
+#[derive(Clone, Copy)]
 pub enum Coloured {
     Done(u32),
     Refused(u32),
 }
 
 // A pixel between two commands: its area, and its colour of four floats, red first.
-#[derive(Drop)]
+#[derive(Clone, Copy)]
 pub struct Held {
     pub area: f32,
     pub red: f32,

@@ -1,6 +1,8 @@
 // One pixel of a tile, asked for by itself: its coverage by a fill, and its colour under a tile's list
 // of commands. A second engine beside `coverage::fill` and `fine::fine`: no array of pixels, and none of
 // their loops. docs/RULES.md, "One pixel"; fill_path and fine_main of fine.rs.
+#![tactic(auto)]
+
 pub mod kinds;
 pub mod lanes;
 pub mod run;

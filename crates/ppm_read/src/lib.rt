@@ -1,6 +1,8 @@
 // Reads a binary Netpbm P6 file back. docs/RULES.md, "A picture on paper". Which headers are read is
 // specs/Header.antt's header_of, and as a grammar specs/Grammar.antt's IsHeader; what a call answers is
 // specs/Read.antt's readOf.
+#![tactic(auto)]
+
 ghost use Rattle.std.specs.Prelude.{◌≡◌, true, false, ◌+◌, ◌*◌, ◌≤◌, length, drop};
 ghost use Rattle.std.proofs.lemmas.List.Edits.{sets};
 ghost use Rattle.ppm_write.specs.Bytes.{ten, magic};
@@ -21,7 +23,7 @@ const VERTICAL_TAB: u8 = 11;
 const FORM_FEED: u8 = 12;
 
 // What a byte is to a header: it starts a comment, ends a line, is other white space, or a digit.
-#[derive(Drop)]
+#[derive(Clone, Copy)]
 pub enum Kind {
     Hash,
     Line,
@@ -31,7 +33,7 @@ pub enum Kind {
 }
 
 // Where the reading of a number stands: no white space yet, some, or digits that make this number.
-#[derive(Drop)]
+#[derive(Clone, Copy)]
 pub enum Stage {
     Start,
     Gap,
@@ -39,7 +41,7 @@ pub enum Stage {
 }
 
 // Where a byte leads: on, in a comment or not; to the number's end; or nowhere.
-#[derive(Drop)]
+#[derive(Clone, Copy)]
 pub enum Next {
     To(bool, Stage),
     Ends(u32),
@@ -47,21 +49,21 @@ pub enum Next {
 }
 
 // A number that was read and the place of the white space after it, or none.
-#[derive(Drop)]
+#[derive(Clone, Copy)]
 pub enum Number {
     At(u32, usize),
     None,
 }
 
 // A header that was read: width, height and the place of the raster; or none.
-#[derive(Drop)]
+#[derive(Clone, Copy)]
 pub enum Head {
     Size(u32, u32, usize),
     NoHead,
 }
 
 // What a call answers: width and height, or the number of the refusal.
-#[derive(Drop)]
+#[derive(Clone, Copy)]
 pub enum Answer {
     Done(u32, u32),
     Refused(u32),

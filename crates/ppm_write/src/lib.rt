@@ -1,5 +1,7 @@
 // Writes a picture as a binary Netpbm P6 file into bytes lent. docs/RULES.md, "A picture on paper".
 // The file is specs/File.antt's file_of; what a call answers is specs/Write.antt's write_of.
+#![tactic(auto)]
+
 ghost use Rattle.std.specs.Prelude.{◌≡◌, ◌+◌, ◌≤◌, length};
 ghost use Rattle.ppm_write.specs.File.{decimal, field_of, head_of, raster_of};
 ghost use Rattle.ppm_write.specs.Write.{Put, side_ok, WriteMet};
@@ -21,7 +23,7 @@ pub const PIXEL_BYTES: usize = 3;
 const FIXED_BYTES: usize = 9;
 
 // What a call answers: how many bytes it wrote, or the number of the refusal.
-#[derive(Drop)]
+#[derive(Clone, Copy)]
 pub enum Written {
     Done(usize),
     Refused(u32),

@@ -1,5 +1,7 @@
 // The top left part of a padded screen as bytes for a frame buffer: RGBA or BGRA, in rows of a stride.
 // docs/RULES.md, "A picture on a screen".
+#![tactic(auto)]
+
 ghost use Rattle.std.specs.Prelude.{◌≡◌, ◌+◌, ◌*◌, ◌≤◌, length};
 ghost use Rattle.std.proofs.lemmas.List.Edits.{sets};
 ghost use Rattle.present.specs.Pixels.{bytes_each, first_of, third_of, row_bytes, rows_of};

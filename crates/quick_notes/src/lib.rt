@@ -2,6 +2,8 @@
 // outside, or its tile or its mark at a limit, or its z out of the ordinary, it says no. A line inside its box is then
 // walked (`one_line`); the steps of a walk are gone through one by one (`walk_steps`), which says what becomes of
 // them. Nothing is written but notes.
+#![tactic(auto)]
+
 ghost use Rattle.std.specs.Prelude.{◌≡◌, true, ◌-◌, ◌<◌, ◌≤◌, length};
 ghost use Rattle.exact.specs.Reach.{Starts};
 ghost use Rattle.panel.specs.Paths.{end_of};

@@ -1,5 +1,7 @@
 // A range of what is lent, zeroed or copied: of backdrops, and of words. What a range is for, its
 // caller knows.
+#![tactic(auto)]
+
 ghost use Rattle.std.specs.Prelude.{◌≡◌, ◌+◌, ◌≤◌, length, pos};
 ghost use Rattle.ranges.specs.Ranges.{cleared_of, copied_of};
 

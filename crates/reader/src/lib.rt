@@ -2,16 +2,18 @@
 // borrow checker covers no function over such a struct, so `start`, `peek` and `peek_from` are proved
 // by hand; each takes the struct apart or makes it, and the work is in `look_at`, over plain
 // parameters. fine.rs indexes its list and panics past the end.
+#![tactic(auto)]
+
 ghost use Rattle.std.specs.Prelude.{◌≡◌};
 ghost use Rattle.reader.specs.Look.{look_at};
 
-#[derive(Drop)]
+#[derive(Clone, Copy)]
 pub struct Reader<'a> {
     pub words: &'a [u32],
     pub at: usize,
 }
 
-#[derive(Drop)]
+#[derive(Clone, Copy)]
 pub enum Look {
     Word(u32),
     Past,

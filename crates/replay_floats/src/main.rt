@@ -1,11 +1,13 @@
 // Replays the list of the Rust's answers on floats, standard input, through float32, and writes how
 // many entries were compared and how many were equal. An entry is the helper's number, its operands
 // and the answer.
+#![tactic(auto)]
+
 ghost use Rattle.std.specs.Prelude.{◌≤◌};
 
 use hexlist::words::{float, int, is_float, is_int, word};
 
-#[derive(Drop)]
+#[derive(Clone, Copy)]
 struct Tally {
     compared: usize,
     equal: usize,

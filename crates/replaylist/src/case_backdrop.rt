@@ -3,7 +3,7 @@ use super::places::Row;
 use super::rows::Seen;
 use super::{places, rooms, rows};
 
-#[derive(Drop)]
+#[derive(Clone, Copy)]
 struct Parts {
     paths: Row,
     backdrops: Row,

@@ -8,14 +8,14 @@ use panel::refusals::DONE;
 use path_count::Counted;
 
 // The slices that are lent to be changed: as they are lent, and afterwards.
-#[derive(Drop)]
+#[derive(Clone, Copy)]
 struct Changed {
     backdrops: Row,
     counts: Row,
     refs: Row,
 }
 
-#[derive(Drop)]
+#[derive(Clone, Copy)]
 struct Parts {
     path_nos: Row,
     coords: Row,

@@ -5,7 +5,7 @@ use super::{places, rooms, rows};
 use hexlist::words::{float, int, word};
 use panel::kinds::Answer;
 
-#[derive(Drop)]
+#[derive(Clone, Copy)]
 struct Parts {
     segments: Row,
     area: Row,

@@ -5,7 +5,7 @@ use super::{places, rooms, rows};
 use hexlist::words::word;
 use panel::kinds::Answer;
 
-#[derive(Drop)]
+#[derive(Clone, Copy)]
 struct Parts {
     commands: Row,
     segments: Row,

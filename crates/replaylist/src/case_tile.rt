@@ -4,7 +4,7 @@ use super::rows::Seen;
 use super::{places, rooms, rows};
 use hexlist::words::word;
 
-#[derive(Drop)]
+#[derive(Clone, Copy)]
 struct Parts {
     path_nos: Row,
     coords: Row,

@@ -1,6 +1,8 @@
 // What the replay programs share: the lists of the Rust's answers, read case by case (places, rooms,
 // rows, replay), and a module for each stage that lends a case's slices to it and compares. The
 // lists' format is in tests/rust/README.md.
+#![tactic(auto)]
+
 mod case_backdrop;
 mod case_count;
 mod case_fill;

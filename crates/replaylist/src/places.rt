@@ -5,7 +5,7 @@ use hexlist::rows::stored;
 use hexlist::words::word;
 
 // A row: where its words begin, and its length as the list has it.
-#[derive(Drop)]
+#[derive(Clone, Copy)]
 pub struct Row {
     pub base: usize,
     pub code: u32,

@@ -5,7 +5,7 @@ use super::rows::Seen;
 use hexlist::words::word;
 
 // Cases compared, and those found equal.
-#[derive(Drop)]
+#[derive(Clone, Copy)]
 pub struct Tally {
     pub compared: usize,
     pub equal: usize,

@@ -6,7 +6,7 @@ use hexlist::words::word;
 use panel::kinds::{Answer, item, number};
 
 // What a case showed: where the next one begins, and whether all was equal.
-#[derive(Drop)]
+#[derive(Clone, Copy)]
 pub struct Seen {
     pub next: usize,
     pub equal: bool,

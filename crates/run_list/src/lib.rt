@@ -1,5 +1,7 @@
 // A tile's list of commands carried out, on the areas and the colours lent. docs/RULES.md, "Coverage and
 // colour" and refusals 13 to 15; fine.rs, lines 128 to 171.
+#![tactic(auto)]
+
 ghost use Rattle.std.specs.Prelude.{◌≡◌, ◌-◌, ◌≤◌, length};
 ghost use Rattle.panel.specs.Limits.{most_commands};
 ghost use Rattle.sides.specs.Tile.{tile_size};
@@ -28,7 +30,7 @@ pub fn ends_at(words: &[u32], at: usize) -> bool
 
 // How far a tile's commands were carried out: to END, to one that is refused, or to a COLOR of this word that END
 // follows. That COLOR is the caller's to lay.
-#[derive(Drop)]
+#[derive(Clone, Copy)]
 pub enum Stop {
     End,
     Against(u32),

@@ -4,7 +4,7 @@ pub const LINES: usize = 2048;
 
 pub const FLOATS: usize = 4 * LINES;
 
-#[derive(Drop)]
+#[derive(Clone, Copy)]
 pub struct Pen {
     pub lines: usize,
     pub path: u32,

@@ -1,4 +1,6 @@
 // A screen tile's rows, flat or not: how their colours start, and how they are packed into the screen's pixels.
+#![tactic(auto)]
+
 ghost use Rattle.std.specs.Prelude.{◌≡◌, ◌+◌, ◌*◌, ◌≤◌, ◌<◌, length};
 ghost use Rattle.lists.specs.Grid.{mapi, within};
 ghost use Rattle.panel.specs.Limits.{most_tiles};

@@ -1,4 +1,6 @@
 // A screen tile: its commands run on colours of its own, which go to the screen only where none is refused.
+#![tactic(auto)]
+
 ghost use Rattle.std.specs.Prelude.{◌≡◌, ◌+◌, ◌*◌, ◌≤◌, ◌<◌, length};
 ghost use Rattle.panel.specs.Limits.{most_tiles};
 ghost use Rattle.sides.specs.Tile.{tile_width, tile_height, tile_size};

@@ -1,6 +1,8 @@
 // A step's piece of its line, clipped to the step's tile: path_tiling.rs from `tile_xy` to the
 // asserts, in its order and with its nudges. The definitions stand in specs/Clips.antt, and on one
 // page beside the Rust in specs/Page.antt; specs/By.antt has them by the z's and the corner that are at hand.
+#![tactic(auto)]
+
 ghost use Rattle.std.specs.Prelude.{◌≡◌, ◌≤◌, ◌<◌};
 ghost use Rattle.std.specs.Float.{binary32};
 ghost use Rattle.std.specs.Float.Ieee.{add};
@@ -192,7 +194,7 @@ pub fn segment_of(w: Walk, s: Zs, t: Vec2) -> Segment
 }
 
 // A segment, or none where an end lies outside the tile (12).
-#[derive(Drop)]
+#[derive(Clone, Copy)]
 pub enum Piece {
     Kept(Segment),
     Crooked,

@@ -1,6 +1,8 @@
 // A line's set-up, and what becomes of it: refused, skipped, or walked. docs/RULES.md, refusals 6 and 7 and
 // the skip rules, in this order; path_count.rs up to its clipping. Counting and tiling set up each line
 // here, so the tile edges around it are taken once, and what is rare is a branch that nothing waits for.
+#![tactic(auto)]
+
 ghost use Rattle.std.specs.Prelude.{◌≡◌, false, ◌+◌, ◌*◌, ◌<◌, ◌≤◌, length};
 ghost use Rattle.std.specs.Float.{binary32};
 ghost use Rattle.std.specs.Float.Ieee.{sub, lt};

@@ -1,6 +1,8 @@
 // A reference of a line that lies within one tile, off the tile's left edge: most references of a trace are such. The
 // line's walk has one step, so its segment is the line itself as seen from the tile's corner, and none of the walk's
 // numbers is needed. Where anything is odd, nothing is written here: the reference is left to `tile_run`, which alone refuses.
+#![tactic(auto)]
+
 ghost use Rattle.std.specs.Prelude.{◌≡◌, ◌*◌, ◌≤◌, length};
 ghost use Rattle.std.specs.Float.Ieee.{eq};
 ghost use Rattle.float32.specs.Inner.{Within};
@@ -25,14 +27,14 @@ use spot::{Spot, spot_of};
 use util::{TILE_SIDE, Vec2};
 
 // A line's segment in its one tile; or a line to be looked at in another way.
-#[derive(Drop)]
+#[derive(Clone, Copy)]
 pub enum Inside {
     Kept(Segment),
     Odd,
 }
 
 // What a line within one tile comes to: its segment, its tile's word and its tag; or a line to be looked at in another way.
-#[derive(Drop)]
+#[derive(Clone, Copy)]
 pub enum Short {
     In(Segment, u32, u32),
     Other,

@@ -1,6 +1,8 @@
 // A run of lines that each lie within one tile. Nine in ten lines of a smooth trace do, and to count one takes less than
 // to call a function for it: so a run is counted in one loop. Nothing is refused here: the run ends before the first line
 // that doesn't lie so, or has no room, and `one_line` says what becomes of that line.
+#![tactic(auto)]
+
 ghost use Rattle.std.specs.Prelude.{◌≡◌, ◌+◌, ◌-◌, ◌*◌, ◌≤◌, ◌^◌, min, length};
 ghost use Rattle.panel.specs.Limits.{most_lines};
 ghost use Rattle.panel.specs.Paths.{paths_answer};

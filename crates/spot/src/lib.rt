@@ -1,5 +1,7 @@
 // A line that lies within one tile, off its edges: most lines of a trace do. Its walk has one step, on that tile, and is
 // not clipped, whatever its slope, so none of the walk's numbers is needed. Where it says nothing, the line is left to `setup` and `clip`.
+#![tactic(auto)]
+
 ghost use Rattle.std.specs.Prelude.{◌≡◌};
 ghost use Rattle.walk.specs.Step.{Boxed};
 ghost use Rattle.spot.specs.Spot.{SpotMet};
@@ -16,14 +18,14 @@ use whole::ZERO;
 const SHORT: f32 = 9.5367431640625e-7;
 
 // The tile by its number, its column and its row; or a line to be looked at in another way.
-#[derive(Drop)]
+#[derive(Clone, Copy)]
 pub enum Spot {
     In(TileNo, u32, u32),
     Other,
 }
 
 // From the smaller of two numbers to the larger.
-#[derive(Drop)]
+#[derive(Clone, Copy)]
 struct Stretch {
     least: f32,
     most: f32,

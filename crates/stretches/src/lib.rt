@@ -1,5 +1,7 @@
 // The lines lent to a recount, from one of them on: how many are of its path and numbered one after the other; and why the
 // first is refused, where it is of another path.
+#![tactic(auto)]
+
 ghost use Rattle.std.specs.Prelude.{◌≡◌, ◌≤◌, ◌<◌, length};
 ghost use Rattle.panel.specs.Widths.{line_floats};
 ghost use Rattle.panel.specs.Lines.{line_at};

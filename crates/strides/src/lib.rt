@@ -1,6 +1,8 @@
 // A walk's steps in whole numbers, for a line that was checked: z by the bits that a shift leaves, column, row and tile
 // by sums of whole numbers, with no cast and no branch that can't be foretold. It says where a step falls, or nothing:
 // what is out of the ordinary is left to `walk::step`. Where it says a tile, that is the step's.
+#![tactic(auto)]
+
 ghost use Rattle.std.specs.Prelude.{◌≡◌, ◌<◌, true, false, ◌&&◌, if◌then◌else◌};
 ghost use Rattle.std.specs.Float.Ieee.{lt};
 ghost use Rattle.float32.specs.Inner.{limit};
@@ -30,7 +32,7 @@ const FAR: f32 = 3145728.0;
 // z is edge in the last column. The tile is base, the first one of the box's second row, and the rows above in tiles,
 // then up by the column, or down: twice is 2 or 0, and back says from where. Nothing branches on which it is, as x falls
 // as often as it rises.
-#[derive(Drop)]
+#[derive(Clone, Copy)]
 pub struct Strides {
     pub twice: u32,
     pub back: u32,
@@ -43,7 +45,7 @@ pub struct Strides {
 }
 
 // A step's tile, whether it marks the tile right of it, and its z; or a step to be looked at in another way.
-#[derive(Drop)]
+#[derive(Clone, Copy)]
 pub enum Stride {
     At(u32, bool, u32),
     Other,
@@ -51,7 +53,7 @@ pub enum Stride {
 
 // A step's word (`words.rt`), its z, and whether the step is in the box and as told. Where it isn't, word and z say
 // nothing.
-#[derive(Drop)]
+#[derive(Clone, Copy)]
 pub struct Laid {
     pub word: u32,
     pub z: u32,
@@ -59,7 +61,7 @@ pub struct Laid {
 }
 
 // z of the step before, or what stands for it at step 0: equal to that step's z where its top edge is crossed.
-#[derive(Drop)]
+#[derive(Clone, Copy)]
 pub enum Last {
     Z(u32),
     Other,

@@ -1,6 +1,8 @@
 // Lines from the path data of SVG, written where counting reads them. docs/RULES.md, "Outlines from SVG".
 // Which texts are path data is svg_path's specs/Grammar.antt, which lines they draw svg_outline's
 // specs/Outline.antt, and what a call answers specs/Lines.antt.
+#![tactic(auto)]
+
 ghost use Rattle.std.specs.Prelude.{◌≡◌, ◌≤◌, ◌*◌, length, replicate};
 ghost use Rattle.std.proofs.lemmas.List.Edits.{sets};
 ghost use Rattle.panel.specs.Widths.{line_floats};
@@ -16,7 +18,7 @@ use svg_path::{Verdict, check};
 
 // What a call answers: the number of lines; or the number of the refusal, and the text's place where it
 // is the text's fault.
-#[derive(Drop)]
+#[derive(Clone, Copy)]
 pub enum Answer {
     Done(usize),
     Refused(u32, usize),

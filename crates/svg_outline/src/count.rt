@@ -7,7 +7,7 @@ use crate::steps::{Kind, act, many, pass, place, start};
 use svg_tokens::next;
 
 // A number of lines, or more than there is room for.
-#[derive(Drop)]
+#[derive(Clone, Copy)]
 pub enum Sum {
     Lines(usize),
     Over,

@@ -12,7 +12,7 @@ use svg_tokens::Token;
 pub const DEPTH_MOST: u32 = 6;
 
 // What a group of numbers draws; Rest: nothing.
-#[derive(Drop)]
+#[derive(Clone, Copy)]
 pub enum Kind {
     Rest,
     Move,
@@ -24,7 +24,7 @@ pub enum Kind {
 }
 
 // The letter in force, how many numbers its group still needs, and whether the outline has drawn.
-#[derive(Drop)]
+#[derive(Clone, Copy)]
 pub struct Gait {
     pub letter: u8,
     pub need: u8,

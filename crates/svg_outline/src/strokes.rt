@@ -12,7 +12,7 @@ use decimal::thousandths;
 use svg_tokens::Token;
 
 // Where the pen stands, where its outline began, the last four numbers, and the place of the next line.
-#[derive(Drop)]
+#[derive(Clone, Copy)]
 pub struct Hand {
     pub x: f32,
     pub y: f32,

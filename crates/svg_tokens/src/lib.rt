@@ -1,5 +1,7 @@
 // The tokens of path data, one after another: letters, and numbers with their values. Which texts are
 // path data is svg_path's to say; this reads any text, and goes over what is no token.
+#![tactic(auto)]
+
 ghost use Rattle.std.specs.Prelude.{◌≡◌, ◌+◌, ◌-◌, ◌*◌, ◌^◌, ◌≤◌, ◌<◌, length, drop};
 ghost use Rattle.svg_path.specs.Chars.{whole_most, part_most};
 ghost use Rattle.svg_tokens.specs.Run.{run_of};
@@ -15,14 +17,14 @@ const MINUS: u8 = b'-';
 const LETTERS: u8 = b'A';
 
 // The number that digits make, and how many they are.
-#[derive(Drop)]
+#[derive(Clone, Copy)]
 pub struct Run {
     pub n: u32,
     pub taken: usize,
 }
 
 // A number that was read: its sign, its size in thousandths, and how many bytes it takes.
-#[derive(Drop)]
+#[derive(Clone, Copy)]
 pub struct Number {
     pub minus: bool,
     pub n: u32,
@@ -30,7 +32,7 @@ pub struct Number {
 }
 
 // The next token, and the place after it; or the text's end.
-#[derive(Drop)]
+#[derive(Clone, Copy)]
 pub enum Token {
     End(usize),
     Letter(u8, usize),

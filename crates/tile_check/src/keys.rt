@@ -14,7 +14,7 @@ use made::{Made, made_at};
 use panel::refs::{named_at, packed_at, slice_of, step_of};
 
 // The two places; or a reference that our lines don't make, or whose slice number reaches our count.
-#[derive(Drop)]
+#[derive(Clone, Copy)]
 pub enum Key {
     Places(u32, u32),
     Stray,

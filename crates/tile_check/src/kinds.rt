@@ -2,7 +2,7 @@
 
 // Yes; or no, with the first entry at fault of the table named; or refused, with the number and the
 // item's (the path's or the line's).
-#[derive(Drop)]
+#[derive(Clone, Copy)]
 pub enum Checked {
     Yes,
     Reference(u32),

@@ -16,7 +16,7 @@ use meeting::meeting;
 
 // The first reference at fault; how many references were looked at in the search for one that has an
 // earlier one's step, and for one that has its slice; how many words for a flag in each.
-#[derive(Drop)]
+#[derive(Clone, Copy)]
 pub struct FirstRef {
     pub first: usize,
     pub steps: u64,

@@ -15,7 +15,7 @@ use panel::limits::MOST_SLOTS;
 
 // A tile's pairs so far: how many, how many JUMPs between them, the words left in the region, and
 // whether all FILLs' slots fit.
-#[derive(Drop)]
+#[derive(Clone, Copy)]
 pub struct Weight {
     pub pairs: u32,
     pub jumps: u32,

@@ -1,5 +1,7 @@
 // Traces of docs/RULES.md, drawn: one line each through counting, the sums, hand-out and tiling, in a box
 // of two by two tiles. What it must print stands in stdout, and is the Rust's (segments in bits).
+#![tactic(auto)]
+
 use libc::STDOUT_FILENO;
 use panel::kinds::{Running, number};
 use panel::limits::EDGE_MOST;

@@ -1,5 +1,7 @@
 // What the stages use of util.rs: Vec2 with its operators as methods by value, `span`, and the
 // constants of util.rs and of the tile; and the choice of two floats as a call. The definitions stand in specs/.
+#![tactic(auto)]
+
 ghost use Rattle.std.specs.Prelude.{◌≡◌};
 ghost use Rattle.util.specs.Vec.{new_of, add_of, sub_of, scale_of};
 ghost use Rattle.util.specs.Span.{span_of};
@@ -51,7 +53,7 @@ pub fn tile_pixels() -> f32
 }
 
 // A point, or a way from one point to another.
-#[derive(Drop)]
+#[derive(Clone, Copy)]
 pub struct Vec2 {
     pub x: f32,
     pub y: f32,

@@ -4,7 +4,7 @@ use panel::kinds::Path;
 use util::Vec2;
 
 // The ends in the order of y, as they are and in tiles.
-#[derive(Drop)]
+#[derive(Clone, Copy)]
 pub struct Ends {
     pub is_down: bool,
     pub xy0: Vec2,
@@ -13,14 +13,14 @@ pub struct Ends {
     pub s1: Vec2,
 }
 
-#[derive(Drop)]
+#[derive(Clone, Copy)]
 pub struct Counts {
     pub count_x: u32,
     pub count: u32,
 }
 
 // What a and b are made of, and the first tile.
-#[derive(Drop)]
+#[derive(Clone, Copy)]
 pub struct Slope {
     pub dx: f32,
     pub dy: f32,
@@ -35,7 +35,7 @@ pub struct Slope {
 
 // What a step is computed from: all that a loop over steps needs of the walk. on_top says whether
 // the line starts on its first tile's top edge.
-#[derive(Drop)]
+#[derive(Clone, Copy)]
 pub struct Pace {
     pub a: f32,
     pub b: f32,
@@ -45,7 +45,7 @@ pub struct Pace {
     pub on_top: bool,
 }
 
-#[derive(Drop)]
+#[derive(Clone, Copy)]
 pub struct Walk {
     pub e: Ends,
     pub k: Counts,
@@ -54,7 +54,7 @@ pub struct Walk {
 }
 
 // What becomes of a line: refused with its number, skipped, or walked over its path's box.
-#[derive(Drop)]
+#[derive(Clone, Copy)]
 pub enum Walked {
     Refused(u32),
     Skipped,

@@ -11,7 +11,7 @@ use super::kinds::Pace;
 use panel::kinds::{Path, TileNo};
 
 // A step's tile by its number, its column and its row, with its z; or a refusal (10).
-#[derive(Drop)]
+#[derive(Clone, Copy)]
 pub enum Step {
     Tile(TileNo, u32, u32, f32),
     Refused,

@@ -21,14 +21,14 @@ use walk::kinds::Pace;
 use walk::step::{Step, crosses, step_at, z_at};
 
 // A step that passes its check, with its z; or the number of its refusal.
-#[derive(Drop)]
+#[derive(Clone, Copy)]
 pub enum Seen {
     Passed(f32),
     Against(u32),
 }
 
 // The same, with the word that is noted of it.
-#[derive(Drop)]
+#[derive(Clone, Copy)]
 pub enum Noted {
     Passed(f32, u32),
     Against(u32),

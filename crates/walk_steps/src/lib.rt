@@ -1,5 +1,7 @@
 // The steps of a walk that may leave its path's box: checked, the first of them noted, then written. A line's row marks go
 // with them. What is checked writes nothing but notes, so that a refused line changes nothing.
+#![tactic(auto)]
+
 mod checks;
 mod line;
 mod notes;

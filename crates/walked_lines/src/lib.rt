@@ -1,5 +1,7 @@
 // One line by its walk, clipped to its path's box: its check, then its writes. docs/RULES.md, counting: 8 for the largest
 // step number, 9, 11 for row marks, then the steps.
+#![tactic(auto)]
+
 ghost use Rattle.std.specs.Prelude.{◌≡◌, ◌/◌, ◌≤◌, length};
 ghost use Rattle.panel.specs.Widths.{ref_words};
 ghost use Rattle.acts.specs.Acts.{st_of};
@@ -17,7 +19,7 @@ use walk::kinds::Walk;
 use walk_steps::{check_line, write_line};
 
 // A line counted, with the number of its references; or the number of its refusal.
-#[derive(Drop)]
+#[derive(Clone, Copy)]
 pub enum Tallied {
     On(u32),
     Against(u32),

@@ -1,6 +1,8 @@
 // Floats below 2^22 in size as whole numbers, by their bits: no branch, no cast, and no floor as a float. SHIFT added,
 // a float lies from 2^23 to 2^24, where the floats are the whole numbers, and a pattern of bits is one more than that
 // of the whole number before.
+#![tactic(auto)]
+
 ghost use Rattle.std.specs.Prelude.{◌≡◌};
 ghost use Rattle.std.specs.Float.Ieee.{to_signed};
 ghost use Rattle.float32.specs.Inner.{Within};

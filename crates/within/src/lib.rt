@@ -1,5 +1,7 @@
 // A line as it is lent that lies inside its path's box: what counting needs of its walk, which is not clipped and passes no
 // row left of the box. Of any other line it says nothing, and the line is left to `setup` and `clip`.
+#![tactic(auto)]
+
 ghost use Rattle.std.specs.Prelude.{◌≡◌, ◌+◌, ◌*◌, ◌<◌, ◌≤◌, length};
 ghost use Rattle.panel.specs.Widths.{line_floats};
 ghost use Rattle.one_tile.specs.One.{Boxes};
@@ -13,7 +15,7 @@ use panel::widths::PATH_WORDS;
 use walk::kinds::Pace;
 
 // A line's pace, its path, the number of its steps, and whether it goes upward; or a line to be walked.
-#[derive(Drop)]
+#[derive(Clone, Copy)]
 pub enum Within {
     Line(Pace, Path, u32, bool),
     Other,

@@ -1,6 +1,8 @@
 // Writes the command lists: one for each screen tile, from the paths in painting order and the tiles'
 // tables. docs/RULES.md, "Command lists" and refusals 1 to 4, 9 and 15. Added: it is in none of the
 // files ported.
+#![tactic(auto)]
+
 ghost use Rattle.std.specs.Prelude.{◌≡◌, true, ◌+◌, ◌*◌, ◌≤◌, ◌<◌, ◌^◌, length};
 ghost use Rattle.lists.specs.Sums.{from};
 ghost use Rattle.panel.specs.Limits.{most_paths, most_tiles, most_slots};

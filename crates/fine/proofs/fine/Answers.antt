@@ -1,0 +1,51 @@
+-- `fine::fine` meets its contract. Assumes nothing.
+use mathlib.Core.Path.{◌≡◌, sym, ◌∙◌}
+use mathlib.Core.List.{List}
+use Prim.Native.Nat.{ℕ, ◌*◌, ◌≤◌}
+use lib.ListN.{length}
+use lib.Ieee.{Float}
+use borrow.Author.Tests.{leb-true}
+use Rattle.panel.specs.Checks.{first_no}
+use Rattle.panel.specs.Limits.{most_tiles}
+use Rattle.panel.proofs.CheckLaws.{all_ok}
+use Rattle.panel.specs.declared.kinds.Answer.{Answer}
+use Rattle.panel.specs.declared.kinds.Answer.TheVariants.{Refused}
+use Rattle.panel.specs.declared.kinds.Verdict.{Verdict}
+use Rattle.panel.specs.declared.kinds.Verdict.TheVariants.{Fine, Against}
+use Rattle.sides.specs.Tile.{tile_width, tile_height}
+use Rattle.fine.specs.Fine.{fine_checks, shown, shown_of, tiles_of, fine_of}
+use Rattle.fine.proofs.fine.Goals as goal
+
+-- what the checks say, where none fails
+checked : (s w c r from to p : ℕ) → first_no (fine_checks s w c r from to p) ≡ Fine
+    → (from ≤ to) × (to ≤ c * r) × (c * r ≤ most_tiles) × (tile_width * c ≤ w) × (w * (tile_height * r) ≤ p)
+checked s w c r from to p e =
+    let ok = all_ok (fine_checks s w c r from to p) e in
+    (leb-true _ _ ok.1.0, leb-true _ _ ok.1.1.0, leb-true _ _ ok.1.1.1.0, leb-true _ _ ok.1.1.1.1.0, leb-true _ _ ok.1.1.1.1.1.0)
+
+module _ (ws : List ℕ) (segs : List Float) (w c r from to : ℕ) (pixels : List ℕ) (v : Verdict) (e : v ≡ first_no (fine_checks (length segs) w c r from to (length pixels))) where
+  no : (k : ℕ) → v ≡ Against k → shown (Refused k 0) pixels ≡ fine_of ws segs w c r from to pixels
+  unfolding fine_of
+  no k f = rw (sym e ∙ f)
+
+  yes : (a : Answer) (after : List ℕ) → v ≡ Fine → shown a after ≡ shown_of (tiles_of ws segs w c from to pixels) → shown a after ≡ fine_of ws segs w c r from to pixels
+  unfolding fine_of
+  yes a after f g = rw (sym e ∙ f) g
+
+pub returns-in-Against : goal.returns-in-Against
+returns-in-Against c =
+    let a = c.args in
+    no a.words.now a.segments.now a.width a.cols a.rows a.from a.to a.pixels.now _ c.check_screen-v.ensures _ c.in-Against.is
+
+pub tiles-requires : goal.tiles-requires
+tiles-requires c =
+    let a = c.args in
+    checked (length a.segments.now) a.width a.cols a.rows a.from a.to (length a.pixels.now)
+    (sym c.check_screen-v.ensures ∙ c.in_default.is)
+
+pub returns : goal.returns
+returns c =
+    let a = c.args in
+    yes a.words.now a.segments.now a.width a.cols a.rows a.from a.to a.pixels.now _
+    c.check_screen-v.ensures c.tiles.result _
+    c.in_default.is c.tiles.ensures

@@ -1,0 +1,138 @@
+-- `own_count::lines::own_lines` meets its contract. The invariant: the lines so far leave what the room shows, and their starts are noted.
+-- Assumes nothing.
+use mathlib.Core.Path.{◌≡◌, refl, sym, ap, ◌∙◌, subst}
+use Prim.Native.Nat.{ℕ, ◌+◌, ◌-◌, ◌<◌, ◌^◌}
+use native.Mathlib.Nat.{not-suc-le-zero}
+use native.Mathlib.Omega.{arith}
+use lib.ListN.{length, set, length-set}
+use Rattle.lists.specs.Run.{taken, done}
+use Rattle.panel.specs.Limits.{most_slots}
+use Rattle.walked_lines.specs.Line.{line_step}
+use Rattle.walked_lines.specs.declared.Tallied.{Tallied}
+use Rattle.own_count.specs.Own.{own_to}
+use Rattle.own_count.specs.View.{view_of, StepAs, StartsNoted}
+use Rattle.own_count.proofs.LineLaws.{own_none, own_next, own_stops, own_over, own_here, own_fits, starts_more}
+use Rattle.own_count.proofs.lines.own_lines.Goals as goal
+use Rattle.own_count.proofs.lines.own_lines.Goals.{After-own_line-t, Else-l, In-On}
+
+pub overflow_add-starts : goal.overflow_add-starts
+overflow_add-starts c = omega (arith, c.requires.2)
+
+pub loop-l-init : goal.loop-l-init
+loop-l-init c = (
+  (omega arith, omega arith),
+  refl,
+  own_none c.args.path-nos.now c.args.coords.now c.args.paths.now c.args.n ∙ ap done (sym c.requires.3),
+  (λ k h. absurd
+      (not-suc-le-zero h)),
+  omega arith,
+)
+
+-- the line's place in the room
+fits : (c : Else-l invariant-loop decreases-loop) → c.args.n + c.args.n + c.loop-l.l < length c.loop-l.work
+fits c = omega (arith, c.loop-l.invariant.1, c.requires.2, c.loop-l-test.true)
+
+-- the lines before it, once its start is noted
+here : (c : After-own_line-t invariant-loop decreases-loop) → own_to c.args.path-nos.now c.args.coords.now c.args.paths.now c.args.n c.loop-l.l
+    ≡ done (view_of c.args.n (set c.loop-l.work (c.args.n + c.args.n + c.loop-l.l) c.loop-l.made) c.loop-l.made)
+here c = own_here c.args.path-nos.now c.args.coords.now c.args.paths.now c.args.n c.loop-l.l c.loop-l.made c.loop-l.work c.loop-l.work (fits c) c.loop-l.invariant.2
+
+-- the room is as long as before
+long : (c : After-own_line-t invariant-loop decreases-loop) → length c.own_line-t.new.work ≡ length c.args.work.now
+long c = c.own_line-t.auto.work ∙ length-set c.loop-l.work (c.args.n + c.args.n + c.loop-l.l) c.loop-l.made ∙
+    c.loop-l.invariant.1
+
+-- what the line's answer tells
+abbrev Told : (c : After-own_line-t invariant-loop decreases-loop) → Tallied → Type 0
+Told c r = StepAs c.args.n c.own_line-t.new.work c.loop-l.made
+    (line_step c.args.path-nos.now c.args.coords.now c.args.paths.now most_slots c.loop-l.l c.loop-l.l
+    (view_of c.args.n (set c.loop-l.work (c.args.n + c.args.n + c.loop-l.l) c.loop-l.made) c.loop-l.made)) r
+
+pub overflow_cast-result : goal.overflow_cast-result
+overflow_cast-result c = omega (arith, c.loop-l.invariant.0.1)
+
+pub shape_of-work-then-l : goal.shape_of-work-then-l
+shape_of-work-then-l c = c.loop-l.invariant.1
+
+pub returns-then-l : goal.returns-then-l
+returns-then-l c = (
+  _,
+  own_over c.args.path-nos.now c.args.coords.now c.args.paths.now c.args.n c.loop-l.l _ c.loop-l.invariant.2 _ c.loop-l-test.true c.if-l.true,
+)
+
+pub overflow_add-work : goal.overflow_add-work
+overflow_add-work c = omega (arith, c.requires.2, c.loop-l-test.true)
+
+pub offset_bounds-work-starts : goal.offset_bounds-work-starts
+offset_bounds-work-starts c = omega (arith, fits c)
+
+pub bounds-work-starts : goal.bounds-work-starts
+bounds-work-starts c = fits c
+
+pub overflow_cast-l : goal.overflow_cast-l
+overflow_cast-l c = omega (arith, c.if-l.false)
+
+pub own_line-t-requires : goal.own_line-t-requires
+own_line-t-requires c = (
+  c.requires.0,
+  simp length-set (omega (arith, fits (goal.at.own_line-t-requires c).Else-l)),
+  c.loop-l-test.true,
+  omega (arith, c.loop-l-test.true, c.requires.1),
+  c.if-l.false,
+)
+
+pub overflow_cast-result-in-Against : goal.overflow_cast-result-in-Against
+overflow_cast-result-in-Against c = omega (arith, c.if-l.false)
+
+pub shape_of-work-in-Against : goal.shape_of-work-in-Against
+shape_of-work-in-Against c = long (goal.at.shape_of-work-in-Against c).After-own_line-t
+
+pub returns-in-Against : goal.returns-in-Against
+returns-in-Against c = (
+  _,
+  own_stops c.args.path-nos.now c.args.coords.now c.args.paths.now c.args.n c.loop-l.l _ (here (goal.at.returns-in-Against c).After-own_line-t) _ c.loop-l-test.true _ (subst (Told (goal.at.returns-in-Against c).After-own_line-t) c.in-Against.is c.own_line-t.ensures.0),
+)
+
+-- the line is taken
+took : (c : In-On invariant-loop decreases-loop) →
+    line_step c.args.path-nos.now c.args.coords.now c.args.paths.now most_slots c.loop-l.l c.loop-l.l
+    (view_of c.args.n (set c.loop-l.work (c.args.n + c.args.n + c.loop-l.l) c.loop-l.made) c.loop-l.made)
+    ≡ taken (view_of c.args.n c.own_line-t.new.work (c.loop-l.made + c.in-On.k))
+took c = subst (Told c) c.in-On.is c.own_line-t.ensures.0
+
+small : (c : In-On invariant-loop decreases-loop) → c.loop-l.made + c.in-On.k < 2 ^ 32
+small c = own_fits c.args.path-nos.now c.args.coords.now c.args.paths.now c.args.n c.loop-l.l c.loop-l.made c.loop-l.work _ (fits c) c.loop-l.invariant.2 c.loop-l.invariant.4 _ (took c)
+
+pub overflow_add-made : goal.overflow_add-made
+overflow_add-made c = record { fits = small c }
+
+pub overflow_add-l : goal.overflow_add-l
+overflow_add-l c = omega (arith, c.loop-l-test.true)
+
+pub loop-l-smaller : goal.loop-l-smaller
+loop-l-smaller c = omega (arith, c.loop-l-test.true)
+
+pub loop-l-preserved : goal.loop-l-preserved
+loop-l-preserved c = (
+  (
+    omega (arith, c.loop-l-test.true),
+    omega (
+      arith,
+      c.if-l.false,
+    ),
+  ),
+  long (goal.at.loop-l-preserved c).After-own_line-t,
+  own_next c.args.path-nos.now c.args.coords.now c.args.paths.now c.args.n c.loop-l.l _ (here (goal.at.loop-l-preserved c).After-own_line-t) _ (took c),
+  starts_more c.args.path-nos.now c.args.coords.now c.args.paths.now c.args.n c.loop-l.l c.loop-l.made c.loop-l.work _ (fits (goal.at.loop-l-preserved c).Else-l) c.loop-l.invariant.2 c.loop-l.invariant.3 c.own_line-t.ensures.1,
+  small c,
+)
+
+pub shape_of-work : goal.shape_of-work
+shape_of-work c = c.loop-l.invariant.1
+
+pub returns : goal.returns
+returns c =
+    let e : c.loop-l.l ≡ length c.args.path-nos.now = omega (arith, c.loop-l.invariant.0.0, c.loop-l-test.false) in (
+      subst (λ (l : ℕ). own_to c.args.path-nos.now c.args.coords.now c.args.paths.now c.args.n l ≡ done (view_of c.args.n c.loop-l.work c.loop-l.made)) e c.loop-l.invariant.2,
+      subst (StartsNoted c.args.path-nos.now c.args.coords.now c.args.paths.now c.args.n c.loop-l.work (c.args.n + c.args.n)) e c.loop-l.invariant.3,
+    )

@@ -1,0 +1,81 @@
+-- `page_check::check_page` meets its contract. Assumes nothing.
+use Prim.Native.Nat.{ℕ, ◌*◌, ◌/◌, ◌^◌, ◌≤◌, ◌<◌}
+use native.Mathlib.Nat.{mul-le-mul, mul_left_comm}
+use native.Mathlib.Omega.{arith}
+use borrow.Author.Tests.{eq-eqb, ne_eqb, le-leb, lt-leb}
+use Rattle.sides.specs.Tile.{tile_height}
+use borrow.Author.Rules.{rules}
+use Rattle.page_check.proofs.check_page.Goals as goal
+
+product : (a b : ℕ) → a < 2 ^ 32 → b < 2 ^ 32 → a * b < 2 ^ 64
+product a b p q = omega (arith, mul-le-mul {n₁ = a} {m₁ = b} {n₂ = 4294967295} {m₂ = 4294967295} (omega arith) (omega arith))
+
+-- 16 times a product, and the pixels by 16
+enough : (w r p : ℕ) → w * r ≤ p / tile_height → w * (tile_height * r) ≤ p
+enough w r p h = omega (arith, mul_left_comm w tile_height r)
+
+few : (w r p : ℕ) → p / tile_height < w * r → p < w * (tile_height * r)
+few w r p h = omega (arith, mul_left_comm w tile_height r)
+
+pub returns-then-np-ne0 : goal.returns-then-np-ne0
+returns-then-np-ne0 c = rw (ne_eqb _ _ c.if-np-ne0.true)
+
+pub returns-then-na-n : goal.returns-then-na-n
+returns-then-na-n c = rw (eq-eqb _ _ c.if-np-ne0.false, ne_eqb _ _ c.if-na-n.true)
+
+pub returns-then-n : goal.returns-then-n
+returns-then-n c = rw (eq-eqb _ _ c.if-np-ne0.false, eq-eqb _ _ c.if-na-n.false, lt-leb _ _ c.if-n.true)
+
+pub returns-then-nt : goal.returns-then-nt
+returns-then-nt c = rw (eq-eqb _ _ c.if-np-ne0.false, eq-eqb _ _ c.if-na-n.false, le-leb _ _ c.if-n.false, lt-leb _ _ c.if-nt.true)
+
+pub overflow_mul-m : goal.overflow_mul-m
+overflow_mul-m c = record { fits = product _ _ (search rules) (search rules) }
+
+pub returns-then-m : goal.returns-then-m
+returns-then-m c = rw (
+  eq-eqb _ _ c.if-np-ne0.false,
+  eq-eqb _ _ c.if-na-n.false,
+  le-leb _ _ c.if-n.false,
+  le-leb _ _ c.if-nt.false,
+  lt-leb _ _ c.if-m.true,
+)
+
+pub returns-then-cols-width : goal.returns-then-cols-width
+returns-then-cols-width c = rw (
+  eq-eqb _ _ c.if-np-ne0.false,
+  eq-eqb _ _ c.if-na-n.false,
+  le-leb _ _ c.if-n.false,
+  le-leb _ _ c.if-nt.false,
+  le-leb _ _ c.if-m.false,
+  lt-leb _ _ c.if-cols-width.true,
+)
+
+pub overflow_mul-width : goal.overflow_mul-width
+overflow_mul-width c = record { fits = product _ _ (search rules) (search rules) }
+
+pub returns-then-width-rows : goal.returns-then-width-rows
+returns-then-width-rows c =
+    rw (
+      eq-eqb _ _ c.if-np-ne0.false,
+      eq-eqb _ _ c.if-na-n.false,
+      le-leb _ _
+          c.if-n.false,
+      le-leb _ _ c.if-nt.false,
+      le-leb _ _ c.if-m.false,
+      le-leb _ _ c.if-cols-width.false,
+      lt-leb _ _ (few c.args.width c.args.rows c.args.pixels c.if-width-rows.true),
+    )
+
+pub returns : goal.returns
+returns c =
+    rw (
+      eq-eqb _ _ c.if-np-ne0.false,
+      eq-eqb _ _ c.if-na-n.false,
+      le-leb _ _
+          c.if-n.false,
+      le-leb _ _ c.if-nt.false,
+      le-leb _ _ c.if-m.false,
+      le-leb _ _ c.if-cols-width.false,
+      le-leb _ _ (enough c.args.width c.args.rows c.args.pixels c.if-width-rows.false),
+    )

@@ -1,0 +1,48 @@
+-- `path_count::call::check_lent` meets its contract.
+-- Assumes nothing.
+use borrow.Author.Tests.{eq-eqb, ne_eqb, le-leb, lt-leb}
+use Rattle.path_count.proofs.call.check_lent.Goals as goal
+
+pub returns-then-nc-ne0 : goal.returns-then-nc-ne0
+returns-then-nc-ne0 c = rw (ne_eqb _ _ c.if-nc-ne0.true)
+
+pub returns-then-nn-nc : goal.returns-then-nn-nc
+returns-then-nn-nc c = rw (eq-eqb _ _ c.if-nc-ne0.false, ne_eqb _ _ c.if-nn-nc.true)
+
+pub returns-then-nb-nt : goal.returns-then-nb-nt
+returns-then-nb-nt c = rw (eq-eqb _ _ c.if-nc-ne0.false, eq-eqb _ _ c.if-nn-nc.false, ne_eqb _ _ c.if-nb-nt.true)
+
+pub returns-then-nr-ne0 : goal.returns-then-nr-ne0
+returns-then-nr-ne0 c = rw (eq-eqb _ _ c.if-nc-ne0.false, eq-eqb _ _ c.if-nn-nc.false, eq-eqb _ _ c.if-nb-nt.false, ne_eqb _ _ c.if-nr-ne0.true)
+
+pub returns-then-b-a : goal.returns-then-b-a
+returns-then-b-a c = rw (
+  eq-eqb _ _ c.if-nc-ne0.false,
+  eq-eqb _ _ c.if-nn-nc.false,
+  eq-eqb _ _
+      c.if-nb-nt.false,
+  eq-eqb _ _ c.if-nr-ne0.false,
+  lt-leb _ _ c.if-b-a.true,
+)
+
+pub returns-then-nc-b : goal.returns-then-nc-b
+returns-then-nc-b c = rw (
+  eq-eqb _ _ c.if-nc-ne0.false,
+  eq-eqb _ _ c.if-nn-nc.false,
+  eq-eqb _ _
+      c.if-nb-nt.false,
+  eq-eqb _ _ c.if-nr-ne0.false,
+  le-leb _ _ c.if-b-a.false,
+  lt-leb _ _ c.if-nc-b.true,
+)
+
+pub returns : goal.returns
+returns c = rw (
+  eq-eqb _ _ c.if-nc-ne0.false,
+  eq-eqb _ _ c.if-nn-nc.false,
+  eq-eqb _ _
+      c.if-nb-nt.false,
+  eq-eqb _ _ c.if-nr-ne0.false,
+  le-leb _ _ c.if-b-a.false,
+  le-leb _ _ c.if-nc-b.false,
+)

@@ -1,0 +1,53 @@
+-- `walk_steps::checks::check_steps` meets its contract. The invariant: what is left to check says what all says, and the z carried is that of the step before.
+-- Assumes nothing.
+use mathlib.Core.Path.{refl, sym, ◌∙◌}
+use Prim.Native.Nat.{◌<◌, ◌-◌}
+use native.Mathlib.Omega.{arith}
+use Rattle.panel.specs.Widths.{step_range}
+use Rattle.acts.proofs.Laws.{steps_turn, steps_end, check_goes, check_stops, check_ends}
+use Rattle.exact.proofs.Limits.{far}
+use Rattle.walk.proofs.Counts.{in_float_lem}
+use Rattle.walk.proofs.Walks.{last_z}
+use Rattle.walk_steps.proofs.CheckLaws.{seen_passed, seen_against}
+use Rattle.walk_steps.proofs.checks.check_steps.Goals as goal
+use Rattle.walk_steps.proofs.checks.check_steps.Goals.{In-loop-i}
+
+pub returns-then-to-from : goal.returns-then-to-from
+returns-then-to-from c = check_ends _ _ _ _ _ (steps_end _ c.args.from c.args.to c.if-to-from.true) refl
+
+pub int_to_float-from : goal.int_to_float-from
+int_to_float-from c = in_float_lem c.args.from (omega (arith, c.requires.1 c.if-to-from.false, c.if-to-from.false, far.steps))
+
+pub loop-i-init : goal.loop-i-init
+loop-i-init c = (c.z_at-last_z.ensures, refl)
+
+-- all steps are below the limit
+few : (c : In-loop-i invariant-loop decreases-loop) → c.loop-i.i < step_range
+few c = omega (arith, c.requires.1 c.if-to-from.false, c.loop-i-test.true)
+
+pub check_step-seen-requires : goal.check_step-seen-requires
+check_step-seen-requires c = (c.requires.0, few (c), c.loop-i.invariant.0)
+
+pub returns-in-Against : goal.returns-in-Against
+returns-in-Against c =
+    let the_loop = c.loop-i in
+    let v = seen_against _ _ _ (sym c.check_step-seen.ensures ∙ c.in-Against.is) in
+    sym v ∙ check_stops _ _ _ _ (steps_turn _ the_loop.i _ c.loop-i-test.true) _ _ _ _ the_loop.invariant.1 refl _ v
+
+pub overflow_add-i : goal.overflow_add-i
+overflow_add-i c = omega (arith, few (goal.at.overflow_add-i c).In-loop-i)
+
+pub loop-i-smaller : goal.loop-i-smaller
+loop-i-smaller c = omega (arith, c.loop-i-test.true)
+
+pub loop-i-preserved : goal.loop-i-preserved
+loop-i-preserved c =
+    let the_args = c.args in
+    let the_loop = c.loop-i in
+    let v = seen_passed _ _ _ (sym c.check_step-seen.ensures ∙ c.in-Passed.is) in (
+      v.1 ∙ sym (last_z the_args.pace the_loop.i (few (goal.at.loop-i-preserved c).In-loop-i)),
+      check_goes _ _ _ _ (steps_turn _ the_loop.i _ c.loop-i-test.true) _ _ _ _ the_loop.invariant.1 refl v.0,
+    )
+
+pub returns : goal.returns
+returns c = check_ends _ _ _ _ _ (steps_end _ c.loop-i.i _ c.loop-i-test.false) c.loop-i.invariant.1
