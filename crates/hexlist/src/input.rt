@@ -20,11 +20,10 @@ enum Turn {
 
 fn read_some(s: Scan, words: &mut [u32]) -> Turn {
     let mut buffer = io::large_buffer();
-    let got = libc::read(0, &mut buffer);
-    if got <= 0 {
+    let n = io::read_full(0, &mut buffer);
+    if n == 0 {
         return Turn::End;
     }
-    let n = io::count(got, &buffer);
     Turn::More(crate::scan::feed(s, &buffer[..n], words))
 }
 

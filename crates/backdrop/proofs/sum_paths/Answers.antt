@@ -32,7 +32,7 @@ returns-then-not-path_fits c =
     let l = c.loop-k in
     let at : c.path_at-p.result ≡ path_at a.paths.now l.k = c.path_at-p.ensures in
     let f = (checked a.paths.now (length a.backdrops.now) c.requires.1).fits l.k (omega arith) in
-    let none : path_fits (path_at a.paths.now l.k) l.backdrops ≡ false = rw at at (sym c.path_fits.ensures ∙ not-true _ c.if-not-path_fits.true) in
+    let none : path_fits (path_at a.paths.now l.k) l.backdrops ≡ false = rw at at (sym c.path_fits.ensures ∙ c.if-not-path_fits.true) in
     sym (paths_no a.paths.now a.n l.k l.backdrops (omega arith) none) ∙ l.invariant.2
 
 pub sum_path-requires : goal.sum_path-requires
@@ -41,7 +41,7 @@ sum_path-requires c =
     let l = c.loop-k in
     let at : c.path_at-p.result ≡ path_at a.paths.now l.k = c.path_at-p.ensures in
     let f = (checked a.paths.now (length a.backdrops.now) c.requires.1).fits l.k (omega arith) in
-    let fine = sym c.path_fits.ensures ∙ not-false _ c.if-not-path_fits.false in
+    let fine = sym c.path_fits.ensures ∙ c.if-not-path_fits.false in
     (rw at f.across, rw at f.down, rw at (omega (arith, f.within)), fine)
 
 pub loop-k-preserved : goal.loop-k-preserved
@@ -51,7 +51,7 @@ loop-k-preserved c =
     let at : c.path_at-p.result ≡ path_at a.paths.now l.k = c.path_at-p.ensures in
     let f = (checked a.paths.now (length a.backdrops.now) c.requires.1).fits l.k (omega arith) in
     let fine : path_fits (path_at a.paths.now l.k) l.backdrops ≡ true = rw at at
-    (sym c.path_fits.ensures ∙ not-false _ c.if-not-path_fits.false) in
+    (sym c.path_fits.ensures ∙ c.if-not-path_fits.false) in
     let after : c.sum_path.new.backdrops ≡ path_sums (path_at a.paths.now l.k) l.backdrops = rw at at c.sum_path.ensures in
     rw after
     (omega arith, length_path (path_at a.paths.now l.k) l.backdrops ∙ l.invariant.1, sym (paths_turn a.paths.now a.n l.k l.backdrops (omega arith) fine) ∙ l.invariant.2)

@@ -13,7 +13,7 @@ use Rattle.end_tiles.proofs.check_lines.Goals as goal
 
 pub loop-l-init : goal.loop-l-init
 loop-l-init c =
-    let all : length c.args.path-nos.now - 0 ≡ length c.args.path-nos.now = omega arith in
+    let all : length c.args.path_nos.now - 0 ≡ length c.args.path_nos.now = omega arith in
     (omega arith, omega arith, rw all)
 
 pub line_at-e-requires : goal.line_at-e-requires

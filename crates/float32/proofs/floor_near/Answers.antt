@@ -5,12 +5,12 @@ use lib.Ieee.{binary32, sub, neg, of_bits}
 use Rattle.float32.proofs.Tests.{yes}
 use Rattle.float32.proofs.Magic.{near, Least, floor_least}
 use Rattle.float32.proofs.floor_near.Goals as goal
-use Rattle.float32.proofs.floor_near.Goals.{Joined-x-r}
+use Rattle.float32.proofs.floor_near.Goals.{then-x-r, else-x-r, Joined-x-r}
 
 stepped : (c : Joined-x-r) → Least c.args.x (sub binary32 (near c.args.x) c.if-x-r.step)
 unfolding of_bits neg
 stepped c =
-    floor_least c.args.x c.if-x-r.step (yes c.well_formed.0.1) c.requires.below c.requires.above (⊎_elim (λ w. inl (w.0.taken, w.1)) (λ w. inr (w.0.left, w.1)) c.if-x-r.branch)
+    floor_least c.args.x c.if-x-r.step (yes c.well_formed.0.1) c.requires.below c.requires.above (elim c.if-x-r.branch [ then-x-r w ↦ inl (w.if-x-r.true, w.step-is) | else-x-r w ↦ inr (w.if-x-r.false, w.step-is) ])
 
 pub returns-then-below-x : goal.returns-then-below-x
 unfolding of_bits neg

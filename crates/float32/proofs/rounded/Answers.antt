@@ -14,7 +14,7 @@ use Rattle.float32.proofs.Tests.{shifted}
 use Rattle.float32.proofs.Fields.{no_nan_bits}
 use Rattle.float32.proofs.Ints.{bits, lost_few, quotient_lt, units_more, units_same, nearest_is, int_no_nan}
 use Rattle.float32.proofs.rounded.Goals as goal
-use Rattle.float32.proofs.rounded.Goals.{Joined-unit-rest}
+use Rattle.float32.proofs.rounded.Goals.{then-unit-rest, else-unit-rest, Joined-unit-rest}
 
 module _ (n k : ℕ) (large : 2 ^ 24 ≤ n) (is : k ≡ lost_of n) (fit : n < 2 ^ 32) where
   few : k ≤ 8
@@ -42,7 +42,7 @@ module _ (n k : ℕ) (large : 2 ^ 24 ≤ n) (is : k ≡ lost_of n) (fit : n < 2 
 kept_is : (c : Joined-unit-rest) → c.if-unit-rest.kept ≡ closest c.args.n (2 ^ c.args.k)
 kept_is c =
     let u = unit_is c.args.n c.args.k c.requires.0 c.requires.1 (omega arith) in
-    ⊎_elim (λ w. w.1 ∙ units_more _ _ (rw u at w.0.taken)) (λ w. w.1 ∙ units_same _ _ (rw u at w.0.left)) c.if-unit-rest.branch
+    elim c.if-unit-rest.branch [ then-unit-rest w ↦ w.kept-is ∙ units_more _ _ (rw u at w.if-unit-rest.true) | else-unit-rest w ↦ w.kept-is ∙ units_same _ _ (rw u at w.if-unit-rest.false) ]
 
 pub overflow_shl-unit : goal.overflow_shl-unit
 overflow_shl-unit c = omega (arith, few c.args.n c.args.k c.requires.0 c.requires.1 (omega arith))

@@ -4,6 +4,7 @@ use mathlib.Core.Bool.{true, false, ◌&&◌}
 use lib.Dec.{T}
 use lib.Ieee.{Float, binary32, lt, eq, neg, of_bits, in_signed, to_signed}
 use lib.Ieee.Casts.{to_signed_in}
+use mir.Syntax.{w32}
 use mir.Facts.{to_z-of_z}
 use Rattle.float32.proofs.Tests.{first, second}
 use Rattle.float32.specs.Inner.{limit}
@@ -21,4 +22,4 @@ float_to_int-result c = (cast c.args.x c.if-x-r.true).0
 
 pub returns-then-x-r : goal.returns-then-x-r
 unfolding of_bits neg
-returns-then-x-r c = let x = c.args.x in to_z-of_z (record { sfits = to_signed_in 31 (near x) }) ∙ (cast x c.if-x-r.true).1
+returns-then-x-r c = let x = c.args.x in to_z-of_z {w = w32} (record { sfits = to_signed_in 31 (near x) }) ∙ (cast x c.if-x-r.true).1

@@ -17,7 +17,7 @@ use Rattle.float32.proofs.Fields.{pattern}
 use Rattle.float32.proofs.Cut.{exp_of, digits_lt}
 use Rattle.float32.proofs.Casts.{Down, down_lt, shifted_lt, i32_plus, i32_minus, i32_top, i32_bottom}
 use Rattle.float32.proofs.to_i32_far.Goals as goal
-use Rattle.float32.proofs.to_i32_far.Goals.{Joined-e-lt127}
+use Rattle.float32.proofs.to_i32_far.Goals.{then-e-lt127, else-e-lt127, Joined-e-lt127}
 
 at_nan : (x : Float) → x ≡ nan → pos 0 ≡ to_signed 31 x
 unfolding to_signed
@@ -70,7 +70,7 @@ module _ (x : Float) (h : T (fits binary32 x)) (d : ne x x ≡ false) where
 
 -- where the arms meet
 shift : (c : Joined-e-lt127) → Down (exp_of (to_bits binary32 c.args.x)) c.if-e-lt127.k
-shift c = ⊎_elim (λ w. inl (w.0.taken, w.1)) (λ w. inr (w.0.left, w.1)) c.if-e-lt127.branch
+shift c = elim c.if-e-lt127.branch [ then-e-lt127 w ↦ inl (w.if-e-lt127.true, w.k-is) | else-e-lt127 w ↦ inr (w.if-e-lt127.false, w.k-is) ]
 
 pub returns-then-x : goal.returns-then-x
 returns-then-x c = at_nan c.args.x (is_nan_lem c.args.x c.if-x.true)

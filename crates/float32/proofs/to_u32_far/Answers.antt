@@ -10,7 +10,7 @@ use Rattle.float32.proofs.Tests.{yes, is_nan_lem, no_nan}
 use Rattle.float32.proofs.Fields.{pattern}
 use Rattle.float32.proofs.Casts.{Down, down_lt, u32_mid, u32_top, u32_large, u32_below}
 use Rattle.float32.proofs.to_u32_far.Goals as goal
-use Rattle.float32.proofs.to_u32_far.Goals.{Joined-e-lt127}
+use Rattle.float32.proofs.to_u32_far.Goals.{then-e-lt127, else-e-lt127, Joined-e-lt127}
 
 at_nan : (x : Float) → x ≡ nan → 0 ≡ to_unsigned 32 x
 unfolding to_unsigned
@@ -59,7 +59,7 @@ module _ (x : Float) (h : T (fits binary32 x)) (d : ne x x ≡ false) where
 
 -- where the arms meet
 shift : (c : Joined-e-lt127) → Down (to_bits binary32 c.args.x / 8388608) c.if-e-lt127.k
-shift c = ⊎_elim (λ w. inl (w.0.taken, w.1)) (λ w. inr (w.0.left, w.1)) c.if-e-lt127.branch
+shift c = elim c.if-e-lt127.branch [ then-e-lt127 w ↦ inl (w.if-e-lt127.true, w.k-is) | else-e-lt127 w ↦ inr (w.if-e-lt127.false, w.k-is) ]
 
 pub returns-then-x : goal.returns-then-x
 returns-then-x c = at_nan c.args.x (is_nan_lem c.args.x c.if-x.true)

@@ -14,7 +14,7 @@ use Rattle.float32.proofs.Fields.{pattern, pattern_lt, no_nan_bits}
 use Rattle.float32.proofs.Whole.{trunc_no_nan}
 use Rattle.float32.proofs.Cut.{exp_of, cut_low, cut_mid, cut_high}
 use Rattle.float32.proofs.trunc.Goals as goal
-use Rattle.float32.proofs.trunc.Goals.{Joined-e-lt127}
+use Rattle.float32.proofs.trunc.Goals.{then-e-lt127, else-e-lt127, Joined-e-lt127}
 
 at_nan : (x : Float) → x ≡ nan → x ≡ trunc_of x
 unfolding trunc_of
@@ -48,7 +48,7 @@ module _ (x : Float) (h : T (fits binary32 x)) where
 
 -- where the arms meet
 cleared : (c : Joined-e-lt127) → Cleared (exp_of (to_bits binary32 c.args.x)) c.if-e-lt127.k
-cleared c = ⊎_elim (λ w. inl (w.0.taken, w.1)) (λ w. inr (w.0.left, w.1)) c.if-e-lt127.branch
+cleared c = elim c.if-e-lt127.branch [ then-e-lt127 w ↦ inl (w.if-e-lt127.true, w.k-is) | else-e-lt127 w ↦ inr (w.if-e-lt127.false, w.k-is) ]
 
 pub returns-then-x : goal.returns-then-x
 returns-then-x c = at_nan c.args.x (is_nan_lem c.args.x c.if-x.true)

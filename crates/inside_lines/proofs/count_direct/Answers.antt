@@ -24,10 +24,10 @@ returns-in_default c = (refl, refl, refl)
 
 -- the line lies inside its path's box
 lies : (c : In-Line-2) →
-    Unclipped c.args.path-nos.now c.args.coords.now c.args.paths.now c.args.place c.in-Line.pace c.in-Line.path c.in-Line.n
+    Unclipped c.args.path_nos.now c.args.coords.now c.args.paths.now c.args.place c.in-Line.pace c.in-Line.path c.in-Line.n
     c.in-Line.up
 lies c =
-    subst (λ (r : Within). WithinMet c.args.path-nos.now c.args.coords.now c.args.paths.now c.args.place r) c.in-Line.is c.within_at-within.ensures
+    subst (λ (r : Within). WithinMet c.args.path_nos.now c.args.coords.now c.args.paths.now c.args.place r) c.in-Line.is c.within_at-within.ensures
 
 pub returns-then-n-after : goal.returns-then-n-after
 returns-then-n-after c = (refl, refl, refl)
@@ -43,9 +43,9 @@ pub count_few-requires : goal.count_few-requires
 count_few-requires c =
     let u = lies (goal.at.count_few-requires c).In-Line-2 in
     let t = tests (goal.at.count_few-requires c).Else-n-after in (
-      on_box c.args.path-nos.now c.args.coords.now c.args.paths.now c.args.place _ _ _ _ u _ _ c.requires.0,
+      on_box c.args.path_nos.now c.args.coords.now c.args.paths.now c.args.place _ _ _ _ u _ _ c.requires.0,
       c.if-n-le-FEW.true,
-      starting c.args.path-nos.now c.args.coords.now c.args.paths.now c.args.place _ _ _ _ u (length c.args.backs.now) (length c.args.counts.now) c.requires.0,
+      starting c.args.path_nos.now c.args.coords.now c.args.paths.now c.args.place _ _ _ _ u (length c.args.backs.now) (length c.args.counts.now) c.requires.0,
       omega (arith, t.1),
       t.2,
       c.requires.2,
@@ -54,16 +54,16 @@ count_few-requires c =
 pub returns-then-n-le-FEW : goal.returns-then-n-le-FEW
 returns-then-n-le-FEW c =
     let t = tests (goal.at.returns-then-n-le-FEW c).Else-n-after in
-    direct_few c.args.path-nos.now c.args.coords.now c.args.paths.now c.args.place _ _ _ _ (lies (goal.at.returns-then-n-le-FEW c).In-Line-2) c.args.line.0 c.args.made
+    direct_few c.args.path_nos.now c.args.coords.now c.args.paths.now c.args.place _ _ _ _ (lies (goal.at.returns-then-n-le-FEW c).In-Line-2) c.args.line.0 c.args.made
     c.args.backs.now c.args.counts.now c.args.refs.now _ _ _ t.0 t.1 t.2 c.count_few.result c.count_few.ensures
 
 pub quick_steps-requires : goal.quick_steps-requires
 quick_steps-requires c =
     let u = lies (goal.at.quick_steps-requires c).After-within_at-within in
     let t = tests (goal.at.quick_steps-requires c).In-Line-2 in (
-      on_box c.args.path-nos.now c.args.coords.now c.args.paths.now c.args.place _ _ _ _ u _ _ c.requires.0,
+      on_box c.args.path_nos.now c.args.coords.now c.args.paths.now c.args.place _ _ _ _ u _ _ c.requires.0,
       λ h. few _ t.0,
-      starting c.args.path-nos.now c.args.coords.now c.args.paths.now c.args.place _ _ _ _ u (length c.args.backs.now) (length c.args.counts.now) c.requires.0,
+      starting c.args.path_nos.now c.args.coords.now c.args.paths.now c.args.place _ _ _ _ u (length c.args.backs.now) (length c.args.counts.now) c.requires.0,
       omega (arith, t.0, c.requires.2),
       c.requires.2,
     )
@@ -82,7 +82,7 @@ write_notes-requires c =
       q.auto.notes ∙ c.requires.2,
       omega (arith, t.1),
       omega (arith, t.2),
-      direct_fine c.args.path-nos.now c.args.coords.now c.args.paths.now c.args.place _ _ _ _ u _ _ c.requires.0 c.args.line.0
+      direct_fine c.args.path_nos.now c.args.coords.now c.args.paths.now c.args.place _ _ _ _ u _ _ c.requires.0 c.args.line.0
           (st_of c.args.backs.now c.args.counts.now c.args.refs.now c.args.made) q.new.notes (length c.args.backs.now) t.0 f.1 f.0,
     )
 
@@ -92,7 +92,7 @@ returns-then-quick_steps c =
     let t = tests (goal.at.returns-then-quick_steps c).In-Line-1 in
     let q = c.quick_steps in
     let f = q.ensures c.if-quick_steps.true in
-    direct_done c.args.path-nos.now c.args.coords.now c.args.paths.now c.args.place _ _ _ _ u c.args.line.0 c.args.made
+    direct_done c.args.path_nos.now c.args.coords.now c.args.paths.now c.args.place _ _ _ _ u c.args.line.0 c.args.made
     c.args.backs.now c.args.counts.now c.args.refs.now _ _ _ q.new.notes (length c.args.backs.now) t.0 t.1 t.2 f.1
     c.write_notes.ensures
 

@@ -32,7 +32,7 @@ returns-in-Fill c =
     let m = meant c.args.flat.now c.args.rgba.now in
     known c.args.segments.now c.args.area.now m c.args.act _ _ _ _ c.in-Fill.is c.requires.2 (
       by_fill c.args.segments.now c.args.area.now m _ _ _ _ _ c.requires.1
-          (to_z-of_z w32 _ (record { sfits = c.signed-b.type-inv }) ∙ c.signed-b.ensures)
+          (to_z-of_z w32 _ (record { sfits = c.signed-b.type_inv }) ∙ c.signed-b.ensures)
           c.fill_path.ensures,
       fill_paints c.args.segments.now c.args.area.now m _ _ _,
     )

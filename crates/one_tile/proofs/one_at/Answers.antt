@@ -18,17 +18,17 @@ spot_at-requires c =
 
 -- the line lies in the tile named
 spot : (c : In-In-2) →
-    SpotAt c.args.path-nos.now c.args.coords.now c.args.paths.now c.args.place (In c.in-In.tile c.in-In.field-1 c.in-In.field-2)
+    SpotAt c.args.path_nos.now c.args.coords.now c.args.paths.now c.args.place (In c.in-In.tile c.in-In.field-1 c.in-In.field-2)
 spot c =
-    subst (λ (r : Spot). SpotAt c.args.path-nos.now c.args.coords.now c.args.paths.now c.args.place r) c.in-In.is c.spot_at.ensures
+    subst (λ (r : Spot). SpotAt c.args.path_nos.now c.args.coords.now c.args.paths.now c.args.place r) c.in-In.is c.spot_at.ensures
 
 pub bounds-counts-tile : goal.bounds-counts-tile
 bounds-counts-tile c =
-    tile_lent c.args.path-nos.now c.args.coords.now c.args.paths.now c.args.place _ _ _ (spot (goal.at.bounds-counts-tile c).In-In-2) (length c.args.counts.now) c.requires.0
+    tile_lent c.args.path_nos.now c.args.coords.now c.args.paths.now c.args.place _ _ _ (spot (goal.at.bounds-counts-tile c).In-In-2) (length c.args.counts.now) c.requires.0
 
 pub returns : goal.returns
 returns c =
     let t = c.in-In.tile in
     let n = none (length c.args.refs.now / ref_words) c.args.made most_slots c.args.made most_count (get_or c.args.counts.now t.0 0) c.if-made-refs.false in
-    alone c.args.path-nos.now c.args.coords.now c.args.paths.now c.args.place _ _ _ (spot (goal.at.returns c).In-In-2)
+    alone c.args.path_nos.now c.args.coords.now c.args.paths.now c.args.place _ _ _ (spot (goal.at.returns c).In-In-2)
     c.args.made (length c.args.refs.now) c.args.counts.now c.requires.0 n.0 n.1 n.2

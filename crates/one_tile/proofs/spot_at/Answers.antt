@@ -12,9 +12,9 @@ overflow_cast-path_no-2 c = omega (arith, c.shared_slice_known-4-1.given c.args.
 
 pub spot_of-requires : goal.spot_of-requires
 spot_of-requires c =
-    subst Boxed (sym c.path_at.ensures) (c.requires.0 (get_or c.args.path-nos.now c.args.place 0) c.if-path_no-paths.false)
+    subst Boxed (sym c.path_at.ensures) (c.requires.0 (get_or c.args.path_nos.now c.args.place 0) c.if-path_no-paths.false)
 
 pub returns : goal.returns
 returns c =
-    met c.args.path-nos.now c.args.coords.now c.args.paths.now c.args.place c.line_at-line.result c.path_at.result c.spot_of.result
+    met c.args.path_nos.now c.args.coords.now c.args.paths.now c.args.place c.line_at-line.result c.path_at.result c.spot_of.result
     c.line_at-line.ensures c.path_at.ensures c.if-path_no-paths.false c.spot_of.ensures

@@ -29,14 +29,14 @@ bounds-path_nos-i c = omega arith
 pub turn-best-requires : goal.turn-best-requires
 turn-best-requires c =
     let l = c.loop-i in
-    turn_asks c.args.path-nos.now c.args.coords.now c.args.work.now l.work c.requires.0 l.invariant.1 l.i l.invariant.2 (omega arith)
+    turn_asks c.args.path_nos.now c.args.coords.now c.args.work.now l.work c.requires.0 l.invariant.1 l.i l.invariant.2 (omega arith)
 
 pub loop-i-smaller : goal.loop-i-smaller
 loop-i-smaller c = omega arith
 
 pub loop-i-preserved : goal.loop-i-preserved
 loop-i-preserved c =
-    let nos = c.args.path-nos.now in
+    let nos = c.args.path_nos.now in
     let fs = c.args.coords.now in
     let l = c.loop-i in
     let t = c.turn-best in
@@ -51,7 +51,7 @@ loop-i-preserved c =
 
 pub returns : goal.returns
 returns c =
-    let nos = c.args.path-nos.now in
+    let nos = c.args.path_nos.now in
     let l = c.loop-i in
     let all : l.i ≡ length nos = omega arith in
     record { shape_of-work = l.invariant.1; noted = rw (← all) l.invariant.2; least = least_at c.args.coords.now nos l.i l.best all l.invariant.3 }

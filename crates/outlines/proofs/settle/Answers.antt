@@ -18,58 +18,58 @@ bounds-path_nos-l c = omega (arith, c.requires.2.most)
 pub overflow_cast-at-in-loop-l : goal.overflow_cast-at-in-loop-l
 overflow_cast-at-in-loop-l c =
     let l = c.loop-l in
-    let h : l.l < length c.args.path-nos.now = omega (arith, c.requires.2.most) in
-    omega (arith, has_words c.args.path-nos.now c.args.coords.now c.args.work.now c.args.work.now c.requires.0 refl l.l h)
+    let h : l.l < length c.args.path_nos.now = omega (arith, c.requires.2.most) in
+    omega (arith, has_words c.args.path_nos.now c.args.coords.now c.args.work.now c.args.work.now c.requires.0 refl l.l h)
 
 pub overflow_mul-at : goal.overflow_mul-at
 overflow_mul-at c =
     let l = c.loop-l in
-    let h : l.l < length c.args.path-nos.now = omega (arith, c.requires.2.most) in
-    omega (arith, has_words c.args.path-nos.now c.args.coords.now c.args.work.now c.args.work.now c.requires.0 refl l.l h)
+    let h : l.l < length c.args.path_nos.now = omega (arith, c.requires.2.most) in
+    omega (arith, has_words c.args.path_nos.now c.args.coords.now c.args.work.now c.args.work.now c.requires.0 refl l.l h)
 
 pub overflow_add-at : goal.overflow_add-at
 overflow_add-at c =
     let l = c.loop-l in
-    let h : l.l < length c.args.path-nos.now = omega (arith, c.requires.2.most) in
-    omega (arith, has_words c.args.path-nos.now c.args.coords.now c.args.work.now c.args.work.now c.requires.0 refl l.l h)
+    let h : l.l < length c.args.path_nos.now = omega (arith, c.requires.2.most) in
+    omega (arith, has_words c.args.path_nos.now c.args.coords.now c.args.work.now c.args.work.now c.requires.0 refl l.l h)
 
 pub offset_bounds-work-at : goal.offset_bounds-work-at
 offset_bounds-work-at c =
     let l = c.loop-l in
-    let h : l.l < length c.args.path-nos.now = omega (arith, c.requires.2.most) in
-    omega (arith, has_words c.args.path-nos.now c.args.coords.now c.args.work.now c.args.work.now c.requires.0 refl l.l h)
+    let h : l.l < length c.args.path_nos.now = omega (arith, c.requires.2.most) in
+    omega (arith, has_words c.args.path_nos.now c.args.coords.now c.args.work.now c.args.work.now c.requires.0 refl l.l h)
 
 pub bounds-work-at : goal.bounds-work-at
 bounds-work-at c =
     let l = c.loop-l in
-    let h : l.l < length c.args.path-nos.now = omega (arith, c.requires.2.most) in
-    omega (arith, has_words c.args.path-nos.now c.args.coords.now c.args.work.now c.args.work.now c.requires.0 refl l.l h)
+    let h : l.l < length c.args.path_nos.now = omega (arith, c.requires.2.most) in
+    omega (arith, has_words c.args.path_nos.now c.args.coords.now c.args.work.now c.args.work.now c.requires.0 refl l.l h)
 
 pub offset_bounds-work-at-in-loop-l : goal.offset_bounds-work-at-in-loop-l
 offset_bounds-work-at-in-loop-l c =
     let l = c.loop-l in
-    let h : l.l < length c.args.path-nos.now = omega (arith, c.requires.2.most) in
-    omega (arith, has_words c.args.path-nos.now c.args.coords.now c.args.work.now c.args.work.now c.requires.0 refl l.l h)
+    let h : l.l < length c.args.path_nos.now = omega (arith, c.requires.2.most) in
+    omega (arith, has_words c.args.path_nos.now c.args.coords.now c.args.work.now c.args.work.now c.requires.0 refl l.l h)
 
 pub bounds-work-at-in-loop-l : goal.bounds-work-at-in-loop-l
 bounds-work-at-in-loop-l c =
     let l = c.loop-l in
-    let h : l.l < length c.args.path-nos.now = omega (arith, c.requires.2.most) in
-    omega (arith, has_words c.args.path-nos.now c.args.coords.now c.args.work.now c.args.work.now c.requires.0 refl l.l h)
+    let h : l.l < length c.args.path_nos.now = omega (arith, c.requires.2.most) in
+    omega (arith, has_words c.args.path_nos.now c.args.coords.now c.args.work.now c.args.work.now c.requires.0 refl l.l h)
 
 pub ends_open-requires : goal.ends_open-requires
 ends_open-requires c =
     let l = c.loop-l in
-    let h : l.l < length c.args.path-nos.now = omega (arith, c.requires.2.most) in
-    ends_asks c.args.path-nos.now c.args.coords.now c.args.work.now c.args.work.now c.requires.0 refl c.requires.1 l.l h
+    let h : l.l < length c.args.path_nos.now = omega (arith, c.requires.2.most) in
+    ends_asks c.args.path_nos.now c.args.coords.now c.args.work.now c.args.work.now c.requires.0 refl c.requires.1 l.l h
 
 pub returns-then-ends_open : goal.returns-then-ends_open
 returns-then-ends_open c =
     let l = c.loop-l in
-    let h : l.l < length c.args.path-nos.now = omega (arith, c.requires.2.most) in
+    let h : l.l < length c.args.path_nos.now = omega (arith, c.requires.2.most) in
     let found = sym c.ends_open.ensures ∙ c.if-ends_open.true in
-    let is = settle_found c.args.path-nos.now c.args.coords.now c.args.work.now c.args.work.now c.requires.0 refl c.requires.1 l.l h found in
-    open_first c.args.path-nos.now c.args.coords.now l.l (omega arith) (λ g. is) l.invariant.1
+    let is = settle_found c.args.path_nos.now c.args.coords.now c.args.work.now c.args.work.now c.requires.0 refl c.requires.1 l.l h found in
+    open_first c.args.path_nos.now c.args.coords.now l.l (omega arith) (λ g. is) l.invariant.1
 
 pub loop-l-smaller : goal.loop-l-smaller
 loop-l-smaller c = omega arith
@@ -77,7 +77,7 @@ loop-l-smaller c = omega arith
 pub loop-l-preserved : goal.loop-l-preserved
 loop-l-preserved c =
     let l = c.loop-l in
-    let nos = c.args.path-nos.now in
+    let nos = c.args.path_nos.now in
     let fs = c.args.coords.now in
     let h : l.l < length nos = omega (arith, c.requires.2.most) in
     let not_so = sym c.ends_open.ensures ∙ c.if-ends_open.false in
@@ -88,4 +88,4 @@ pub returns : goal.returns
 returns c =
     let l = c.loop-l in
     let all : l.l ≡ c.args.best = omega arith in
-    settle_end c.args.path-nos.now c.args.coords.now c.args.best c.requires.2 (λ k h. l.invariant.1 k (omega arith))
+    settle_end c.args.path_nos.now c.args.coords.now c.args.best c.requires.2 (λ k h. l.invariant.1 k (omega arith))

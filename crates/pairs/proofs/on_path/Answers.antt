@@ -22,14 +22,14 @@ returns-then-not-in_box c =
     let a = c.args in
     let s = tables a.paths.now a.paints.now a.backdrops.now a.stored.now a.tally.now in
     let at : c.path_at-b.result ≡ path_at s.paths a.p = c.path_at-b.ensures in
-    path_outside s a.x a.y a.p (ap (λ (b : Path). in_box b a.x a.y) (sym at) ∙ sym c.in_box.ensures ∙ not-true c.in_box.result c.if-not-in_box.true)
+    path_outside s a.x a.y a.p (ap (λ (b : Path). in_box b a.x a.y) (sym at) ∙ sym c.in_box.ensures ∙ c.if-not-in_box.true)
 
 pub tile_in-t-requires : goal.tile_in-t-requires
 tile_in-t-requires c =
     let a = c.args in
     let s = tables a.paths.now a.paints.now a.backdrops.now a.stored.now a.tally.now in
     let at : c.path_at-b.result ≡ path_at s.paths a.p = c.path_at-b.ensures in (
-      sym c.in_box.ensures ∙ not-false c.in_box.result c.if-not-in_box.false,
+      sym c.in_box.ensures ∙ c.if-not-in_box.false,
       rw at
           (tiles_few s c.requires.0 a.p
           c.requires.1),
@@ -41,7 +41,7 @@ by_path-requires c =
     let s = tables a.paths.now a.paints.now a.backdrops.now a.stored.now a.tally.now in
     let at : c.path_at-b.result ≡ path_at s.paths a.p = c.path_at-b.ensures in
     let inside : in_box (path_at s.paths a.p) a.x a.y ≡ true = ap (λ (b : Path). in_box b a.x a.y) (sym at) ∙ sym
-    c.in_box.ensures ∙ not-false c.in_box.result c.if-not-in_box.false in
+    c.in_box.ensures ∙ c.if-not-in_box.false in
     let e : c.tile_in-t.result ≡ tile_of (path_at s.paths a.p) a.x a.y = c.tile_in-t.ensures ∙ ap (λ (b : Path). tile_of b a.x a.y) at in
     let h : tile_of (path_at s.paths a.p) a.x a.y < length s.backdrops = tile_there s
     c.requires.0 a.p
@@ -55,6 +55,6 @@ returns c =
     let s = tables a.paths.now a.paints.now a.backdrops.now a.stored.now a.tally.now in
     let at : c.path_at-b.result ≡ path_at s.paths a.p = c.path_at-b.ensures in
     let inside : in_box (path_at s.paths a.p) a.x a.y ≡ true = ap (λ (b : Path). in_box b a.x a.y) (sym at) ∙ sym
-    c.in_box.ensures ∙ not-false c.in_box.result c.if-not-in_box.false in
+    c.in_box.ensures ∙ c.if-not-in_box.false in
     let e : c.tile_in-t.result ≡ tile_of (path_at s.paths a.p) a.x a.y = c.tile_in-t.ensures ∙ ap (λ (b : Path). tile_of b a.x a.y) at in
     c.by_path.ensures ∙ ap (λ (t : ℕ). by_path s a.p t) e ∙ path_inside s a.x a.y a.p inside

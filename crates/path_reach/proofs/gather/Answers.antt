@@ -11,7 +11,7 @@ use Rattle.path_reach.proofs.gather.Goals as goal
 
 pub loop-l-init : goal.loop-l-init
 loop-l-init c =
-    let all : length c.args.path-nos.now - 0 ≡ length c.args.path-nos.now = omega arith in
+    let all : length c.args.path_nos.now - 0 ≡ length c.args.path_nos.now = omega arith in
     (omega arith, omega arith, refl, rw all)
 
 pub reach_line-requires : goal.reach_line-requires

@@ -5,11 +5,11 @@ use Rattle.path_tiling.proofs.CallLaws.{not_whole_lem, bad_paths}
 use Rattle.path_tiling.proofs.tile.Goals as goal
 
 pub returns-then-not-whole : goal.returns-then-not-whole
-returns-then-not-whole c = not_whole_lem _ _ _ _ (sym c.whole.ensures ∙ not-true _ c.if-not-whole.true)
+returns-then-not-whole c = not_whole_lem _ _ _ _ (sym c.whole.ensures ∙ c.if-not-whole.true)
 
 pub returns-in-Refused : goal.returns-in-Refused
 returns-in-Refused c =
-    bad_paths _ _ _ _ _ _ (sym c.whole.ensures ∙ not-false _ c.if-not-whole.false)
+    bad_paths _ _ _ _ _ _ (sym c.whole.ensures ∙ c.if-not-whole.false)
     (sym c.check_paths-checked.ensures ∙ c.in-Refused.is)
 
 pub tile_checked-requires : goal.tile_checked-requires

@@ -6,14 +6,14 @@ use Rattle.path_tiling.proofs.CallLaws.{not_whole_lem, ready, called}
 use Rattle.path_tiling.proofs.tile_checked.Goals as goal
 
 pub returns-then-not-whole : goal.returns-then-not-whole
-returns-then-not-whole c = not_whole_lem _ _ _ _ (sym c.whole.ensures ∙ not-true _ c.if-not-whole.true)
+returns-then-not-whole c = not_whole_lem _ _ _ _ (sym c.whole.ensures ∙ c.if-not-whole.true)
 
 pub tile_range-requires : goal.tile_range-requires
 tile_range-requires c =
-    ready _ _ _ (pieces c.args.segments.now c.args.tags.now) (sym c.whole.ensures ∙ not-false _ c.if-not-whole.false) c.requires
+    ready _ _ _ (pieces c.args.segments.now c.args.tags.now) (sym c.whole.ensures ∙ c.if-not-whole.false) c.requires
 
 pub returns : goal.returns
 returns c = c.tile_range.ensures ∙ called _ _ _ _
     (sym c.whole.ensures
-    ∙ not-false _ c.if-not-whole.false)
+    ∙ c.if-not-whole.false)
     c.requires

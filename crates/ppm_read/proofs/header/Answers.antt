@@ -8,7 +8,7 @@ use Rattle.ppm_read.proofs.Headers.{from_width, alike_width, alike_height, alike
 use Rattle.ppm_read.proofs.header.Goals as goal
 
 pub returns-then-not-is_magic : goal.returns-then-not-is_magic
-returns-then-not-is_magic c = (ap held_header (header_none c.args.file.now (sym c.is_magic.ensures ∙ not-true _ c.if-not-is_magic.true)), tt)
+returns-then-not-is_magic c = (ap held_header (header_none c.args.file.now (sym c.is_magic.ensures ∙ c.if-not-is_magic.true)), tt)
 
 pub returns-in_default : goal.returns-in_default
 returns-in_default c = (
@@ -35,7 +35,7 @@ returns-in_default-read_number-2 c = (
       c.in-At-read_number.is (number_then c.args.file.now _ from_width _ _ _ alike_width
       c.read_number.ensures.0
       c.in-At.is
-      (ap held_header (header_some c.args.file.now (sym c.is_magic.ensures ∙ not-false _ c.if-not-is_magic.false)))))),
+      (ap held_header (header_some c.args.file.now (sym c.is_magic.ensures ∙ c.if-not-is_magic.false)))))),
   tt,
 )
 
@@ -68,7 +68,7 @@ returns c = (
       (number_then c.args.file.now _ _ _ _ _ (alike_height _) c.read_number-2.ensures.0
       c.in-At-read_number.is
       (number_then c.args.file.now _ from_width _ _ _ alike_width c.read_number.ensures.0 c.in-At.is
-      (ap held_header (header_some c.args.file.now (sym c.is_magic.ensures ∙ not-false _ c.if-not-is_magic.false)))))),
+      (ap held_header (header_some c.args.file.now (sym c.is_magic.ensures ∙ c.if-not-is_magic.false)))))),
   omega (
     arith,
     at_within c.args.file.now _ _ _ c.read_number-3.ensures.1 c.in-At-read_number-2.is,

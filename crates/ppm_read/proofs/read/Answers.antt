@@ -14,14 +14,14 @@ pub returns-then-not-side_ok : goal.returns-then-not-side_ok
 returns-then-not-side_ok c =
     size_read c.args.file.now c.args.out.now _ c.header.ensures.0 c.in-Size.width
     c.in-Size.height c.in-Size.from c.in-Size.is
-    (sides_of c.side_ok.ensures c.side_ok-2.ensures (not-true _ c.if-not-side_ok.true))
+    (sides_of c.side_ok.ensures c.side_ok-2.ensures c.if-not-side_ok.true)
 
 pub overflow_mul-size : goal.overflow_mul-size
 overflow_mul-size c =
     omega (
       arith,
       area_most c.in-Size.width c.in-Size.height
-          (sides_of c.side_ok.ensures c.side_ok-2.ensures (not-false _ c.if-not-side_ok.false)),
+          (sides_of c.side_ok.ensures c.side_ok-2.ensures c.if-not-side_ok.false),
     )
 
 pub overflow_mul-size-2 : goal.overflow_mul-size-2
@@ -29,7 +29,7 @@ overflow_mul-size-2 c =
     omega (
       arith,
       area_most c.in-Size.width c.in-Size.height
-          (sides_of c.side_ok.ensures c.side_ok-2.ensures (not-false _ c.if-not-side_ok.false)),
+          (sides_of c.side_ok.ensures c.side_ok-2.ensures c.if-not-side_ok.false),
     )
 
 pub overflow_sub-file : goal.overflow_sub-file
@@ -41,14 +41,14 @@ pub returns-then-file-from : goal.returns-then-file-from
 returns-then-file-from c =
     raster_read c.args.file.now c.args.out.now _ c.header.ensures.0
     c.in-Size.width c.in-Size.height c.in-Size.from c.in-Size.is
-    (sides_of c.side_ok.ensures c.side_ok-2.ensures (not-false _ c.if-not-side_ok.false)) c.if-file-from.true
+    (sides_of c.side_ok.ensures c.side_ok-2.ensures c.if-not-side_ok.false) c.if-file-from.true
 
 pub returns-then-out-size : goal.returns-then-out-size
 returns-then-out-size c =
     room_read c.args.file.now c.args.out.now _ c.header.ensures.0
     c.in-Size.width c.in-Size.height c.in-Size.from c.in-Size.is
     (sides_of c.side_ok.ensures c.side_ok-2.ensures
-    (not-false _ c.if-not-side_ok.false)) c.if-file-from.false c.if-out-size.true
+    c.if-not-side_ok.false) c.if-file-from.false c.if-out-size.true
 
 pub copy-requires : goal.copy-requires
 copy-requires c =
@@ -62,5 +62,5 @@ returns c =
     done_read c.args.file.now c.args.out.now _ c.header.ensures.0 c.in-Size.width c.in-Size.height c.in-Size.from c.in-Size.is
     (sides_of c.side_ok.ensures
     c.side_ok-2.ensures
-    (not-false _ c.if-not-side_ok.false)) c.if-file-from.false
+    c.if-not-side_ok.false) c.if-file-from.false
     c.if-out-size.false _ c.copy.ensures

@@ -9,18 +9,18 @@ use Rattle.ppm_write.proofs.write.Goals as goal
 
 pub returns-then-not-side_ok : goal.returns-then-not-side_ok
 returns-then-not-side_ok c =
-    size_refused _ _ _ _ (sides_of c.side_ok.ensures c.side_ok-2.ensures (not-true _ c.if-not-side_ok.true))
+    size_refused _ _ _ _ (sides_of c.side_ok.ensures c.side_ok-2.ensures c.if-not-side_ok.true)
 
 pub overflow_mul-width : goal.overflow_mul-width
 overflow_mul-width c =
     omega (
       arith,
       area_most c.args.width c.args.height
-          (sides_of c.side_ok.ensures c.side_ok-2.ensures (not-false _ c.if-not-side_ok.false)),
+          (sides_of c.side_ok.ensures c.side_ok-2.ensures c.if-not-side_ok.false),
     )
 
 pub returns-then-pixels-width : goal.returns-then-pixels-width
-returns-then-pixels-width c = number_refused _ _ _ _ (sides_of c.side_ok.ensures c.side_ok-2.ensures (not-false _ c.if-not-side_ok.false)) c.if-pixels-width.true
+returns-then-pixels-width c = number_refused _ _ _ _ (sides_of c.side_ok.ensures c.side_ok-2.ensures c.if-not-side_ok.false) c.if-pixels-width.true
 
 pub overflow_add-size : goal.overflow_add-size
 overflow_add-size c = omega (arith, c.digits.ensures, decimal_short c.args.width)
@@ -47,14 +47,14 @@ overflow_add-size-3 c =
       decimal_short a.height,
       c.if-pixels-width.false,
       area_most a.width a.height (sides_of c.side_ok.ensures
-          c.side_ok-2.ensures (not-false _ c.if-not-side_ok.false)),
+          c.side_ok-2.ensures c.if-not-side_ok.false),
     )
 
 pub returns-then-out-size : goal.returns-then-out-size
 returns-then-out-size c =
     let a = c.args in
     room_refused _ _ _ _ (sides_of c.side_ok.ensures
-    c.side_ok-2.ensures (not-false _ c.if-not-side_ok.false))
+    c.side_ok-2.ensures c.if-not-side_ok.false)
     c.if-pixels-width.false
     (omega (
       arith,
@@ -94,7 +94,7 @@ pub returns : goal.returns
 returns c =
     let a = c.args in
     written _ _ _ _ (sides_of c.side_ok.ensures c.side_ok-2.ensures
-    (not-false _ c.if-not-side_ok.false))
+    c.if-not-side_ok.false)
     c.if-pixels-width.false
     (omega (
       arith,

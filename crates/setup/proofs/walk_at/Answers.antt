@@ -5,15 +5,15 @@ use Rattle.setup.proofs.walk_at.Goals as goal
 
 pub returns-then-not-reached : goal.returns-then-not-reached
 returns-then-not-reached c =
-    far_off c.args.path-nos.now c.args.coords.now c.args.paths.now c.args.line-no c.line_at-line.result c.line_at-line.ensures
+    far_off c.args.path_nos.now c.args.coords.now c.args.paths.now c.args.line_no c.line_at-line.result c.line_at-line.ensures
     (cc (turned_on c.reached.result c.if-not-reached.true))
 
 pub overflow_cast-path_no-2 : goal.overflow_cast-path_no-2
-overflow_cast-path_no-2 c = omega (arith, c.shared_slice_known-4-1.given c.args.line-no)
+overflow_cast-path_no-2 c = omega (arith, c.shared_slice_known-4-1.given c.args.line_no)
 
 pub returns-then-path_no-paths : goal.returns-then-path_no-paths
 returns-then-path_no-paths c =
-    no_path c.args.path-nos.now c.args.coords.now c.args.paths.now c.args.line-no c.line_at-line.result c.line_at-line.ensures
+    no_path c.args.path_nos.now c.args.coords.now c.args.paths.now c.args.line_no c.line_at-line.result c.line_at-line.ensures
     (cc (turned_off c.reached.result c.if-not-reached.false))
     c.if-path_no-paths.true
 
@@ -22,7 +22,7 @@ walk_on-requires c = cc (turned_off c.reached.result c.if-not-reached.false)
 
 pub returns : goal.returns
 returns c =
-    goes c.args.path-nos.now c.args.coords.now c.args.paths.now c.args.line-no c.line_at-line.result c.line_at-line.ensures
+    goes c.args.path_nos.now c.args.coords.now c.args.paths.now c.args.line_no c.line_at-line.result c.line_at-line.ensures
     c.walk_on.result
     (cc (turned_off c.reached.result c.if-not-reached.false))
     c.if-path_no-paths.false

@@ -9,7 +9,7 @@ use Rattle.spot.proofs.spot_of.Goals.{Else-not-held}
 -- the tests have passed
 passed : (c : Else-not-held) → held_of c.shifted-tx.result c.shifted-ty.result
     c.stretch_of.result c.stretch_of-2.result ≡ true
-passed c = sym c.held.ensures ∙ not-false _ c.if-not-held.false
+passed c = sym c.held.ensures ∙ c.if-not-held.false
 
 pub tile_by-requires : goal.tile_by-requires
 tile_by-requires c =

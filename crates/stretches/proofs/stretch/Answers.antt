@@ -15,7 +15,7 @@ pub overflow_cast-first : goal.overflow_cast-first
 overflow_cast-first c = omega (arith, c.shared_slice_known-1.given c.args.k)
 
 pub loop-n-init : goal.loop-n-init
-loop-n-init c = (omega (arith, c.requires.0), in_order_none c.args.path c.args.line-nos.now c.args.path-nos.now c.args.k, omega (arith, c.shared_slice_known-1.given c.args.k))
+loop-n-init c = (omega (arith, c.requires.0), in_order_none c.args.path c.args.line_nos.now c.args.path_nos.now c.args.k, omega (arith, c.shared_slice_known-1.given c.args.k))
 
 pub overflow_add-at : goal.overflow_add-at
 overflow_add-at c = omega (arith, c.loop-n.invariant.0, c.well_formed)

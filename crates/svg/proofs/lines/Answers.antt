@@ -12,13 +12,13 @@ pub returns-then-not-paired : goal.returns-then-not-paired
 returns-then-not-paired c =
     let a = c.args in
     not_paired a.text.now a.depth a.path a.paths.now a.coords.now c.if-depth-gt-DEPTH_MOST.false c.paired.result c.paired.ensures
-    (not-true _ c.if-not-paired.true)
+    c.if-not-paired.true
 
 pub drawn-requires : goal.drawn-requires
 drawn-requires c = (
   c.if-depth-gt-DEPTH_MOST.false,
   paired_is _ _ _ c.paired.ensures
-      (not-false _ c.if-not-paired.false),
+      c.if-not-paired.false,
 )
 
 pub returns-in-Refused : goal.returns-in-Refused
@@ -26,7 +26,7 @@ returns-in-Refused c =
     let a = c.args in
     outside a.text.now a.depth a.path a.paths.now a.coords.now c.if-depth-gt-DEPTH_MOST.false
     c.paired.result
-    c.paired.ensures (not-false _ c.if-not-paired.false) c.check.result
+    c.paired.ensures c.if-not-paired.false c.check.result
     c.check.ensures _ c.in-Refused.is
 
 pub returns-in-Fine : goal.returns-in-Fine
@@ -36,7 +36,7 @@ returns-in-Fine c =
     c.if-depth-gt-DEPTH_MOST.false
     c.paired.result
     c.paired.ensures
-    (not-false _ c.if-not-paired.false)
+    c.if-not-paired.false
     c.check.result
     c.check.ensures _ c.in-Fine.is
     c.drawn.ensures

@@ -15,12 +15,12 @@ overflow_cast-path_no-2 c = omega (arith, c.shared_slice_known-4-1.given c.args.
 
 pub inside_at-requires : goal.inside_at-requires
 inside_at-requires c =
-    (subst Boxed (sym c.path_at-path.ensures) (c.requires.0 (get_or c.args.path-nos.now c.args.place 0) c.if-path_no-paths.false), c.requires.2)
+    (subst Boxed (sym c.path_at-path.ensures) (c.requires.0 (get_or c.args.path_nos.now c.args.place 0) c.if-path_no-paths.false), c.requires.2)
 
 pub returns : goal.returns
 returns c =
     let b = c.path_at-path in
     let i = c.pace-1 in
-    unclipped c.args.path-nos.now c.args.coords.now c.args.paths.now c.args.place c.line_at-line.result b.result i.given.0.0 i.given.0.1.0 _
+    unclipped c.args.path_nos.now c.args.coords.now c.args.paths.now c.args.place c.line_at-line.result b.result i.given.0.0 i.given.0.1.0 _
     c.line_at-line.ensures b.ensures c.if-path_no-paths.false
     (subst (λ (r : Inside). InsideMet (line_at c.args.coords.now c.args.place) b.result r) i.given.1 c.inside_at.ensures) refl

@@ -6,7 +6,7 @@ pub returns-then-need-lent : goal.returns-then-need-lent
 returns-then-need-lent c = rw (lt-leb _ _ c.if-need-lent.true)
 
 pub returns-then-not-slots : goal.returns-then-not-slots
-returns-then-not-slots c = rw (le-leb _ _ c.if-need-lent.false, not-true c.args.slots c.if-not-slots.true)
+returns-then-not-slots c = rw (le-leb _ _ c.if-need-lent.false, c.if-not-slots.true)
 
 pub returns : goal.returns
-returns c = rw (le-leb _ _ c.if-need-lent.false, not-false c.args.slots c.if-not-slots.false)
+returns c = rw (le-leb _ _ c.if-need-lent.false, c.if-not-slots.false)

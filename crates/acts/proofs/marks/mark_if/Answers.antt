@@ -54,9 +54,9 @@ next_if-q-requires c = below c.args.marks c.args.t (length c.args.backs.now) (2 
 pub overflow_add-v : goal.overflow_add-v
 overflow_add-v c =
     fits c.args.backs.now c.args.t c.next_if-q.result c.args.marks c.args.up c.delta_if-d.result
-    c.next_if-q.ensures c.delta_if-d.ensures c.b-1.given c.requires.1 (record { sfits = c.delta_if-d.type-inv })
+    c.next_if-q.ensures c.delta_if-d.ensures c.b-1.given c.requires.1 (record { sfits = c.delta_if-d.type_inv })
 
 pub returns : goal.returns
 returns c =
     stored c.args.backs.now c.args.t c.next_if-q.result c.args.marks c.args.up c.delta_if-d.result
-    c.next_if-q.ensures c.delta_if-d.ensures c.b-1.given c.requires.1 (record { sfits = c.delta_if-d.type-inv })
+    c.next_if-q.ensures c.delta_if-d.ensures c.b-1.given c.requires.1 (record { sfits = c.delta_if-d.type_inv })

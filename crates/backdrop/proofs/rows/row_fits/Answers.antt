@@ -42,7 +42,7 @@ returns-then-not-in_i32 c =
     let b = backdrop_at bs l.i in
     let s = to_z w64 l.sum in
     let g : SFits w32 b = record { sfits = c.sum-1.given } in
-    let out : in_i32 (s +ℤ b) ≡ false = ap in_i32 (sym (added s b l.invariant.1 g)) ∙ sym c.in_i32.ensures ∙ not-true _ c.if-not-in_i32.true in
+    let out : in_i32 (s +ℤ b) ≡ false = ap in_i32 (sym (added s b l.invariant.1 g)) ∙ sym c.in_i32.ensures ∙ c.if-not-in_i32.true in
     sym (rw out at (fits_turn bs c.args.end l.i s c.loop-i-test.true)) ∙ l.invariant.2
 
 pub loop-i-preserved : goal.loop-i-preserved
@@ -52,7 +52,7 @@ loop-i-preserved c =
     let b = backdrop_at bs l.i in
     let s = to_z w64 l.sum in
     let g : SFits w32 b = record { sfits = c.sum-1.given } in
-    let in_it : in_i32 (s +ℤ b) ≡ true = ap in_i32 (sym (added s b l.invariant.1 g)) ∙ sym c.in_i32.ensures ∙ not-false _ c.if-not-in_i32.false in
+    let in_it : in_i32 (s +ℤ b) ≡ true = ap in_i32 (sym (added s b l.invariant.1 g)) ∙ sym c.in_i32.ensures ∙ c.if-not-in_i32.false in
     let turn = rw in_it at (fits_turn bs c.args.end l.i s c.loop-i-test.true) in
     rw (added s b l.invariant.1 g) (omega arith, in_fits (s +ℤ b) in_it, sym turn ∙ l.invariant.2)
 

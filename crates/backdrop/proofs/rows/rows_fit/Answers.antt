@@ -38,7 +38,7 @@ returns-then-not-row_fits c =
     let left = rows_left bs a.width a.height l.y l.at (omega arith) in
     let wide : l.at + a.width - l.at ≡ a.width = omega arith in
     let row : c.row_fits.result ≡ row_fits a.width l.at (pos 0) bs = c.row_fits.ensures ∙ rw wide in
-    let none = sym row ∙ not-true _ c.if-not-row_fits.true in
+    let none = sym row ∙ c.if-not-row_fits.true in
     sym (rw none at (rows_fit_turn bs a.width a.height l.y l.at (omega arith))) ∙ l.invariant.2
 
 pub loop-y-preserved : goal.loop-y-preserved
@@ -49,7 +49,7 @@ loop-y-preserved c =
     let left = rows_left bs a.width a.height l.y l.at (omega arith) in
     let wide : l.at + a.width - l.at ≡ a.width = omega arith in
     let row : c.row_fits.result ≡ row_fits a.width l.at (pos 0) bs = c.row_fits.ensures ∙ rw wide in
-    let fine = sym row ∙ not-false _ c.if-not-row_fits.false in
+    let fine = sym row ∙ c.if-not-row_fits.false in
     (omega arith, omega (arith, left), sym (rw fine at (rows_fit_turn bs a.width a.height l.y l.at (omega arith))) ∙ l.invariant.2)
 
 pub returns : goal.returns

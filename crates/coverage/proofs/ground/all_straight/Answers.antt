@@ -17,14 +17,14 @@ pub returns-then-not-ok : goal.returns-then-not-ok
 returns-then-not-ok c =
     let l = c.loop-j in
     let a = c.args in
-    let crooked = sym (ap straight_of c.segment_at.ensures) ∙ sym c.straight-ok.ensures ∙ not-true _ c.if-not-ok.true in
+    let crooked = sym (ap straight_of c.segment_at.ensures) ∙ sym c.straight-ok.ensures ∙ c.if-not-ok.true in
     sym (crooked_at a.segments.now a.first a.n l.j c.loop-j-test.true crooked)
 
 pub loop-j-preserved : goal.loop-j-preserved
 loop-j-preserved c =
     let l = c.loop-j in
     let a = c.args in
-    (search rules, one_more a.segments.now a.first l.j _ _ c.segment_at.ensures c.straight-ok.ensures (not-false _ c.if-not-ok.false) l.invariant.1)
+    (search rules, one_more a.segments.now a.first l.j _ _ c.segment_at.ensures c.straight-ok.ensures c.if-not-ok.false l.invariant.1)
 
 pub returns : goal.returns
 returns c =

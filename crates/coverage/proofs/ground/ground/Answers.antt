@@ -21,7 +21,7 @@ all_straight-ok-requires c =
     room (length a.segments.now) (a.first + a.number) (within _ _ c.if-first-number.false)
 
 pub returns-then-not-ok : goal.returns-then-not-ok
-returns-then-not-ok c = rw (le-leb _ _ (within _ _ c.if-first-number.false), sym c.all_straight-ok.ensures ∙ not-true _ c.if-not-ok.true)
+returns-then-not-ok c = rw (le-leb _ _ (within _ _ c.if-first-number.false), sym c.all_straight-ok.ensures ∙ c.if-not-ok.true)
 
 pub returns : goal.returns
-returns c = rw (le-leb _ _ (within _ _ c.if-first-number.false), sym c.all_straight-ok.ensures ∙ not-false _ c.if-not-ok.false)
+returns c = rw (le-leb _ _ (within _ _ c.if-first-number.false), sym c.all_straight-ok.ensures ∙ c.if-not-ok.false)

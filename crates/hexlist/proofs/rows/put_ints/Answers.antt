@@ -31,7 +31,7 @@ loop-i-preserved c =
     let l = c.loop-i in (
       search rules,
       put_turn (ints_as a.words.now a.base a.code) (pos 0) a.out.now l.out l.i _ l.invariant.1
-          (to_z-of_z (record { sfits = c.int.type-inv }) ∙ c.int.ensures ∙ ap int_of c.element.ensures),
+          (to_z-of_z (record { sfits = c.int.type_inv }) ∙ c.int.ensures ∙ ap int_of c.element.ensures),
     )
 
 pub shape_of-out : goal.shape_of-out

@@ -1,18 +1,18 @@
 -- `hexlist::rows::same_floats` meets its contract: what is left, from element i on, says what the whole says. Assumes nothing.
 use borrow.Author.Rules.{rules}
 use mathlib.Core.Path.{◌≡◌, refl, sym, ap, ◌∙◌}
-use mathlib.Core.Bool.{Bool, not}
+use mathlib.Core.Bool.{Bool}
 use Prim.Native.Nat.{ℕ, ◌-◌}
 use lib.ListN.{get_or}
 use lib.Ieee.{Float, nan}
 use Rattle.hexlist.specs.Rows.{word_of}
 use Rattle.hexlist.specs.Values.{is_float}
-use Rattle.hexlist.proofs.Loops.{turned, row_more, row_less, row_done}
+use Rattle.hexlist.proofs.Loops.{row_more, row_less, row_done}
 use Rattle.hexlist.proofs.rows.same_floats.Goals as goal
 
 -- what the test told of the element and its word
-told : (x : Float) (r t : Bool) (v w : ℕ) → r ≡ is_float x v → v ≡ w → not r ≡ t → is_float x w ≡ not t
-told x r t v w e h g = sym (e ∙ ap (is_float x) h) ∙ turned r t g
+told : (x : Float) (r t : Bool) (v w : ℕ) → r ≡ is_float x v → v ≡ w → r ≡ t → is_float x w ≡ t
+told x r t v w e h g = sym (e ∙ ap (is_float x) h) ∙ g
 
 pub loop-i-init : goal.loop-i-init
 loop-i-init c = (search rules, refl)

@@ -1,7 +1,7 @@
 -- `hexlist::rows::same_ints` meets its contract: what is left, from element i on, says what the whole says. Assumes nothing.
 use borrow.Author.Rules.{rules}
 use mathlib.Core.Path.{◌≡◌, refl, sym, ap, ◌∙◌}
-use mathlib.Core.Bool.{Bool, not}
+use mathlib.Core.Bool.{Bool}
 use Prim.Native.Nat.{ℕ, ◌<◌, ◌-◌}
 use lib.ListN.{get_or}
 use lib.IntN.{ℤ, pos}
@@ -11,12 +11,12 @@ use mir.Val.{to_z, of_z}
 use mir.Facts.{to_z-of_z}
 use Rattle.hexlist.specs.Rows.{word_of}
 use Rattle.hexlist.specs.Values.{is_int}
-use Rattle.hexlist.proofs.Loops.{turned, row_more, row_less, row_done}
+use Rattle.hexlist.proofs.Loops.{row_more, row_less, row_done}
 use Rattle.hexlist.proofs.rows.same_ints.Goals as goal
 
 -- what the test told of the element and its word
-told : (x : ℤ) (r t : Bool) (v w : ℕ) → mag x < 2147483648 → r ≡ is_int (to_z w32 (of_z w32 x)) v → v ≡ w → not r ≡ t → is_int x w ≡ not t
-told x r t v w f e h g = sym (e ∙ ap (λ (y : ℤ). is_int y v) (to_z-of_z {w = w32} {z = x} (record { sfits = f })) ∙ ap (is_int x) h) ∙ turned r t g
+told : (x : ℤ) (r t : Bool) (v w : ℕ) → mag x < 2147483648 → r ≡ is_int (to_z w32 (of_z w32 x)) v → v ≡ w → r ≡ t → is_int x w ≡ t
+told x r t v w f e h g = sym (e ∙ ap (λ (y : ℤ). is_int y v) (to_z-of_z {w = w32} {z = x} (record { sfits = f })) ∙ ap (is_int x) h) ∙ g
 
 pub loop-i-init : goal.loop-i-init
 loop-i-init c = (search rules, refl)

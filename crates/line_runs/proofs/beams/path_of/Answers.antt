@@ -3,4 +3,4 @@ use Rattle.line_runs.proofs.BeamLaws.{no_line}
 use Rattle.line_runs.proofs.beams.path_of.Goals as goal
 
 pub returns : goal.returns
-returns c = no_line c.args.path-nos.now _ c.if-line-path_nos.false
+returns c = no_line c.args.path_nos.now _ c.if-line-path_nos.false

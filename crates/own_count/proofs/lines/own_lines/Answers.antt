@@ -22,7 +22,7 @@ pub loop-l-init : goal.loop-l-init
 loop-l-init c = (
   (omega arith, omega arith),
   refl,
-  own_none c.args.path-nos.now c.args.coords.now c.args.paths.now c.args.n ∙ ap done (sym c.requires.3),
+  own_none c.args.path_nos.now c.args.coords.now c.args.paths.now c.args.n ∙ ap done (sym c.requires.3),
   (λ k h. absurd
       (not-suc-le-zero h)),
   omega arith,
@@ -33,9 +33,9 @@ fits : (c : Else-l invariant-loop decreases-loop) → c.args.n + c.args.n + c.lo
 fits c = omega (arith, c.loop-l.invariant.1, c.requires.2, c.loop-l-test.true)
 
 -- the lines before it, once its start is noted
-here : (c : After-own_line-t invariant-loop decreases-loop) → own_to c.args.path-nos.now c.args.coords.now c.args.paths.now c.args.n c.loop-l.l
+here : (c : After-own_line-t invariant-loop decreases-loop) → own_to c.args.path_nos.now c.args.coords.now c.args.paths.now c.args.n c.loop-l.l
     ≡ done (view_of c.args.n (set c.loop-l.work (c.args.n + c.args.n + c.loop-l.l) c.loop-l.made) c.loop-l.made)
-here c = own_here c.args.path-nos.now c.args.coords.now c.args.paths.now c.args.n c.loop-l.l c.loop-l.made c.loop-l.work c.loop-l.work (fits c) c.loop-l.invariant.2
+here c = own_here c.args.path_nos.now c.args.coords.now c.args.paths.now c.args.n c.loop-l.l c.loop-l.made c.loop-l.work c.loop-l.work (fits c) c.loop-l.invariant.2
 
 -- the room is as long as before
 long : (c : After-own_line-t invariant-loop decreases-loop) → length c.own_line-t.new.work ≡ length c.args.work.now
@@ -45,7 +45,7 @@ long c = c.own_line-t.auto.work ∙ length-set c.loop-l.work (c.args.n + c.args.
 -- what the line's answer tells
 abbrev Told : (c : After-own_line-t invariant-loop decreases-loop) → Tallied → Type 0
 Told c r = StepAs c.args.n c.own_line-t.new.work c.loop-l.made
-    (line_step c.args.path-nos.now c.args.coords.now c.args.paths.now most_slots c.loop-l.l c.loop-l.l
+    (line_step c.args.path_nos.now c.args.coords.now c.args.paths.now most_slots c.loop-l.l c.loop-l.l
     (view_of c.args.n (set c.loop-l.work (c.args.n + c.args.n + c.loop-l.l) c.loop-l.made) c.loop-l.made)) r
 
 pub overflow_cast-result : goal.overflow_cast-result
@@ -57,7 +57,7 @@ shape_of-work-then-l c = c.loop-l.invariant.1
 pub returns-then-l : goal.returns-then-l
 returns-then-l c = (
   _,
-  own_over c.args.path-nos.now c.args.coords.now c.args.paths.now c.args.n c.loop-l.l _ c.loop-l.invariant.2 _ c.loop-l-test.true c.if-l.true,
+  own_over c.args.path_nos.now c.args.coords.now c.args.paths.now c.args.n c.loop-l.l _ c.loop-l.invariant.2 _ c.loop-l-test.true c.if-l.true,
 )
 
 pub overflow_add-work : goal.overflow_add-work
@@ -90,18 +90,18 @@ shape_of-work-in-Against c = long (goal.at.shape_of-work-in-Against c).After-own
 pub returns-in-Against : goal.returns-in-Against
 returns-in-Against c = (
   _,
-  own_stops c.args.path-nos.now c.args.coords.now c.args.paths.now c.args.n c.loop-l.l _ (here (goal.at.returns-in-Against c).After-own_line-t) _ c.loop-l-test.true _ (subst (Told (goal.at.returns-in-Against c).After-own_line-t) c.in-Against.is c.own_line-t.ensures.0),
+  own_stops c.args.path_nos.now c.args.coords.now c.args.paths.now c.args.n c.loop-l.l _ (here (goal.at.returns-in-Against c).After-own_line-t) _ c.loop-l-test.true _ (subst (Told (goal.at.returns-in-Against c).After-own_line-t) c.in-Against.is c.own_line-t.ensures.0),
 )
 
 -- the line is taken
 took : (c : In-On invariant-loop decreases-loop) →
-    line_step c.args.path-nos.now c.args.coords.now c.args.paths.now most_slots c.loop-l.l c.loop-l.l
+    line_step c.args.path_nos.now c.args.coords.now c.args.paths.now most_slots c.loop-l.l c.loop-l.l
     (view_of c.args.n (set c.loop-l.work (c.args.n + c.args.n + c.loop-l.l) c.loop-l.made) c.loop-l.made)
     ≡ taken (view_of c.args.n c.own_line-t.new.work (c.loop-l.made + c.in-On.k))
 took c = subst (Told c) c.in-On.is c.own_line-t.ensures.0
 
 small : (c : In-On invariant-loop decreases-loop) → c.loop-l.made + c.in-On.k < 2 ^ 32
-small c = own_fits c.args.path-nos.now c.args.coords.now c.args.paths.now c.args.n c.loop-l.l c.loop-l.made c.loop-l.work _ (fits c) c.loop-l.invariant.2 c.loop-l.invariant.4 _ (took c)
+small c = own_fits c.args.path_nos.now c.args.coords.now c.args.paths.now c.args.n c.loop-l.l c.loop-l.made c.loop-l.work _ (fits c) c.loop-l.invariant.2 c.loop-l.invariant.4 _ (took c)
 
 pub overflow_add-made : goal.overflow_add-made
 overflow_add-made c = record { fits = small c }
@@ -122,8 +122,8 @@ loop-l-preserved c = (
     ),
   ),
   long (goal.at.loop-l-preserved c).After-own_line-t,
-  own_next c.args.path-nos.now c.args.coords.now c.args.paths.now c.args.n c.loop-l.l _ (here (goal.at.loop-l-preserved c).After-own_line-t) _ (took c),
-  starts_more c.args.path-nos.now c.args.coords.now c.args.paths.now c.args.n c.loop-l.l c.loop-l.made c.loop-l.work _ (fits (goal.at.loop-l-preserved c).Else-l) c.loop-l.invariant.2 c.loop-l.invariant.3 c.own_line-t.ensures.1,
+  own_next c.args.path_nos.now c.args.coords.now c.args.paths.now c.args.n c.loop-l.l _ (here (goal.at.loop-l-preserved c).After-own_line-t) _ (took c),
+  starts_more c.args.path_nos.now c.args.coords.now c.args.paths.now c.args.n c.loop-l.l c.loop-l.made c.loop-l.work _ (fits (goal.at.loop-l-preserved c).Else-l) c.loop-l.invariant.2 c.loop-l.invariant.3 c.own_line-t.ensures.1,
   small c,
 )
 
@@ -132,7 +132,7 @@ shape_of-work c = c.loop-l.invariant.1
 
 pub returns : goal.returns
 returns c =
-    let e : c.loop-l.l ≡ length c.args.path-nos.now = omega (arith, c.loop-l.invariant.0.0, c.loop-l-test.false) in (
-      subst (λ (l : ℕ). own_to c.args.path-nos.now c.args.coords.now c.args.paths.now c.args.n l ≡ done (view_of c.args.n c.loop-l.work c.loop-l.made)) e c.loop-l.invariant.2,
-      subst (StartsNoted c.args.path-nos.now c.args.coords.now c.args.paths.now c.args.n c.loop-l.work (c.args.n + c.args.n)) e c.loop-l.invariant.3,
+    let e : c.loop-l.l ≡ length c.args.path_nos.now = omega (arith, c.loop-l.invariant.0.0, c.loop-l-test.false) in (
+      subst (λ (l : ℕ). own_to c.args.path_nos.now c.args.coords.now c.args.paths.now c.args.n l ≡ done (view_of c.args.n c.loop-l.work c.loop-l.made)) e c.loop-l.invariant.2,
+      subst (StartsNoted c.args.path_nos.now c.args.coords.now c.args.paths.now c.args.n c.loop-l.work (c.args.n + c.args.n)) e c.loop-l.invariant.3,
     )

@@ -4,4 +4,4 @@ use Rattle.panel.proofs.lines.end_at.Goals as goal
 
 pub returns : goal.returns
 returns c =
-    rw c.far_if.ensures.0 (end_is c.args.coords.now c.args.line-no c.args.t)
+    rw c.far_if.ensures.0 (end_is c.args.coords.now c.args.line_no c.args.t)

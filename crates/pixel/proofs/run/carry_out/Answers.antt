@@ -47,7 +47,7 @@ pub returns-in-Fill : goal.returns-in-Fill
 returns-in-Fill c =
     by_fill c.args.act c.args.segments.now _
     c.args.p _ _ _ _ _ _ c.in-Fill.is
-    (to_z-of_z w32 _ (record { sfits = c.signed-b.type-inv }) ∙ c.signed-b.ensures) c.coverage_of.ensures c.covered.ensures
+    (to_z-of_z w32 _ (record { sfits = c.signed-b.type_inv }) ∙ c.signed-b.ensures) c.coverage_of.ensures c.covered.ensures
 
 pub returns-in-Solid : goal.returns-in-Solid
 returns-in-Solid c = by_solid c.args.act c.args.segments.now _ c.args.p _

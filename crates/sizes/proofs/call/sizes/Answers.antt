@@ -14,7 +14,7 @@ returns-in-Refused c =
     c.in-Refused.is
 
 -- the checks are passed
-fine : (c : In_default) → Passed (length c.args.path-nos.now) (length
+fine : (c : In_default) → Passed (length c.args.path_nos.now) (length
     c.args.coords.now) c.args.paths.now
     c.args.cols c.args.rows
 fine c =

@@ -42,7 +42,7 @@ returns-in-Against c =
 
 -- the line is taken
 took : (c : In-On-2 invariant-loop decreases-loop)
-    → line_size c.args.path-nos.now
+    → line_size c.args.path_nos.now
     c.args.coords.now
     c.args.paths.now c.loop-l.l
     c.loop-l.made ≡ taken (c.loop-l.made + c.in-On.k)

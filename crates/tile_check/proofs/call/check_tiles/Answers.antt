@@ -13,10 +13,10 @@ use Rattle.tile_check.proofs.call.check_tiles.Goals as goal
 use Rattle.tile_check.proofs.call.check_tiles.Goals.{After-looked-r, In_default}
 
 pub returns-in-Refused : goal.returns-in-Refused
-returns-in-Refused c = check_asked c.args.path-nos.now c.args.coords.now c.args.paths.now c.args.refs.now c.args.counts.now c.args.backs.now c.args.stored.now c.args.room c.args.work.now c.asked-a.result c.asked-a.ensures _ _ c.in-Refused.is
+returns-in-Refused c = check_asked c.args.path_nos.now c.args.coords.now c.args.paths.now c.args.refs.now c.args.counts.now c.args.backs.now c.args.stored.now c.args.room c.args.work.now c.asked-a.result c.asked-a.ensures _ _ c.in-Refused.is
 
 -- what the checks told
-told : (c : In_default) → AskedTold c.args.paths.now (length c.args.path-nos.now) (length c.args.coords.now) (length c.args.refs.now)
+told : (c : In_default) → AskedTold c.args.paths.now (length c.args.path_nos.now) (length c.args.coords.now) (length c.args.refs.now)
     (length c.args.counts.now) (length c.args.backs.now) (length c.args.stored.now) (length
     c.args.work.now)
 told c = asked_told c.args.paths.now _ _ _ _ _ _ _ (sym c.asked-a.ensures ∙ c.in_default.is)
@@ -29,7 +29,7 @@ slice_bounds-looked-end c = (told c).room
 
 pub slice_bounds-looked-end-2 : goal.slice_bounds-looked-end-2
 slice_bounds-looked-end-2 c = sym (length-take-le (work_words (length c.args.counts.now)
-    (length c.args.path-nos.now) (length c.args.refs.now / ref_words)) c.args.work.now (told (goal.at.slice_bounds-looked-end-2 c).In_default).room)
+    (length c.args.path_nos.now) (length c.args.refs.now / ref_words)) c.args.work.now (told (goal.at.slice_bounds-looked-end-2 c).In_default).room)
 
 pub looked-r-requires : goal.looked-r-requires
 looked-r-requires c = (
@@ -37,16 +37,16 @@ looked-r-requires c = (
   (told (goal.at.looked-r-requires c).In_default).lines,
   (told (goal.at.looked-r-requires c).In_default).backs,
   (told (goal.at.looked-r-requires c).In_default).stored,
-  length-take-le (work_words (length c.args.counts.now) (length c.args.path-nos.now) (length c.args.refs.now / ref_words)) c.args.work.now (told (goal.at.looked-r-requires c).In_default).room,
+  length-take-le (work_words (length c.args.counts.now) (length c.args.path_nos.now) (length c.args.refs.now / ref_words)) c.args.work.now (told (goal.at.looked-r-requires c).In_default).room,
 )
 
 -- the part comes back as long as it was lent
 part : (c : After-looked-r) → length c.looked-r.new.work
-    ≡ work_words (length c.args.counts.now) (length c.args.path-nos.now) (length c.args.refs.now / ref_words)
+    ≡ work_words (length c.args.counts.now) (length c.args.path_nos.now) (length c.args.refs.now / ref_words)
 part c = c.looked-r.auto.work ∙ length-take-le _ c.args.work.now (told c).room
 
 whole : (c : After-looked-r) → length (c.looked-r.new.work
-    ++ drop (work_words (length c.args.counts.now) (length c.args.path-nos.now) (length c.args.refs.now / ref_words)) c.args.work.now)
+    ++ drop (work_words (length c.args.counts.now) (length c.args.path_nos.now) (length c.args.refs.now / ref_words)) c.args.work.now)
     ≡ length c.args.work.now
 whole c =
     length-append c.looked-r.new.work _
@@ -54,7 +54,7 @@ whole c =
       arith,
       part c,
       (told c).room,
-      length-drop (work_words (length c.args.counts.now) (length c.args.path-nos.now)
+      length-drop (work_words (length c.args.counts.now) (length c.args.path_nos.now)
           (length c.args.refs.now / ref_words)) c.args.work.now,
     )
 
@@ -63,7 +63,7 @@ clear_words-requires c = omega (arith, whole (goal.at.clear_words-requires c).Af
 
 pub returns : goal.returns
 returns c =
-    check_looked c.args.path-nos.now c.args.coords.now
+    check_looked c.args.path_nos.now c.args.coords.now
     c.args.paths.now c.args.refs.now c.args.counts.now c.args.backs.now c.args.stored.now c.args.room c.args.work.now c.asked-a.result c.asked-a.ensures
     c.looked-r.result c.clear_words.new.words c.in_default.is c.looked-r.ensures
-    (c.clear_words.ensures ∙ cleared_is (work_words (length c.args.counts.now) (length c.args.path-nos.now) (length c.args.refs.now / ref_words)) c.looked-r.new.work c.args.work.now (told (goal.at.returns c).In_default).room (part (goal.at.returns c).After-looked-r))
+    (c.clear_words.ensures ∙ cleared_is (work_words (length c.args.counts.now) (length c.args.path_nos.now) (length c.args.refs.now / ref_words)) c.looked-r.new.work c.args.work.now (told (goal.at.returns c).In_default).room (part (goal.at.returns c).After-looked-r))

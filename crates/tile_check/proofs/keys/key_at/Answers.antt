@@ -24,5 +24,5 @@ place_in-requires c = (
   c.requires.1,
   c.requires.4,
   c.made_at-found.ensures
-      ∙ ap₂ (made_of c.args.path-nos.now c.args.coords.now c.args.paths.now) c.named_at.ensures (c.step_of-step.ensures ∙ ap step_no c.packed_at.ensures),
+      ∙ ap₂ (made_of c.args.path_nos.now c.args.coords.now c.args.paths.now) c.named_at.ensures (c.step_of-step.ensures ∙ ap step_no c.packed_at.ensures),
 )

@@ -32,15 +32,15 @@ pub loop-j-init : goal.loop-j-init
 loop-j-init c = (omega arith, kept_all _ _, noted_none _ _ _ _ _ _ _, λ i h. absurd (not-suc-le-zero h))
 
 -- the room is as long as before
-long : (c : At-loop-j invariant-loop decreases-loop) → (own_end c.args.tiles (length c.args.path-nos.now)) + c.args.n + c.args.n ≤ length c.loop-j.work
+long : (c : At-loop-j invariant-loop decreases-loop) → (own_end c.args.tiles (length c.args.path_nos.now)) + c.args.n + c.args.n ≤ length c.loop-j.work
 long c = omega (arith, c.loop-j.invariant.1.same_length, c.requires.1)
 
 -- what the reference's places are, beside the room as it was
-met : (c : After-key_at-key invariant-loop decreases-loop) → KeyMet (made_of c.args.path-nos.now c.args.coords.now c.args.paths.now)
-    (start_of c.args.path-nos.now c.args.coords.now c.args.paths.now c.args.tiles) (take c.args.tiles c.args.work.now) c.args.refs.now c.loop-j.j c.key_at-key.result
+met : (c : After-key_at-key invariant-loop decreases-loop) → KeyMet (made_of c.args.path_nos.now c.args.coords.now c.args.paths.now)
+    (start_of c.args.path_nos.now c.args.coords.now c.args.paths.now c.args.tiles) (take c.args.tiles c.args.work.now) c.args.refs.now c.loop-j.j c.key_at-key.result
 met c =
-    subst (λ (ours : List ℕ). KeyMet (made_of c.args.path-nos.now c.args.coords.now c.args.paths.now)
-    (start_of c.args.path-nos.now c.args.coords.now c.args.paths.now c.args.tiles) ours c.args.refs.now c.loop-j.j c.key_at-key.result)
+    subst (λ (ours : List ℕ). KeyMet (made_of c.args.path_nos.now c.args.coords.now c.args.paths.now)
+    (start_of c.args.path_nos.now c.args.coords.now c.args.paths.now c.args.tiles) ours c.args.refs.now c.loop-j.j c.key_at-key.result)
     (counts_same c.args.tiles c.args.work.now c.loop-j.work 0 c.loop-j.invariant.1.same_length (λ k h. c.loop-j.invariant.1.kept k
     (omega arith)))
     c.key_at-key.ensures
@@ -50,7 +50,7 @@ overflow_cast-j c = omega (arith, c.loop-j-test.true, c.requires.5)
 
 pub key_at-key-requires : goal.key_at-key-requires
 key_at-key-requires c = (
-  room_kept c.args.path-nos.now c.args.coords.now c.args.paths.now c.args.tiles c.args.made c.args.work.now c.loop-j.work c.loop-j.invariant.1 c.requires.0,
+  room_kept c.args.path_nos.now c.args.coords.now c.args.paths.now c.args.tiles c.args.made c.args.work.now c.loop-j.work c.loop-j.invariant.1 c.requires.0,
   omega (arith, c.loop-j.invariant.1.same_length, c.requires.1),
   c.requires.2,
   c.requires.3,
@@ -62,8 +62,8 @@ shape_of-work-in_default c = c.loop-j.invariant.1.same_length
 
 pub returns-in_default : goal.returns-in_default
 returns-in_default c =
-    noted_to_lem (made_of c.args.path-nos.now c.args.coords.now c.args.paths.now) (start_of c.args.path-nos.now c.args.coords.now c.args.paths.now c.args.tiles) (take c.args.tiles c.args.work.now) c.args.refs.now c.args.work.now c.loop-j.work (own_end c.args.tiles (length c.args.path-nos.now)) c.args.n c.loop-j.j c.loop-j.invariant.0
-    (λ h. subst (KeyMet (made_of c.args.path-nos.now c.args.coords.now c.args.paths.now) (start_of c.args.path-nos.now c.args.coords.now c.args.paths.now c.args.tiles) (take c.args.tiles c.args.work.now)
+    noted_to_lem (made_of c.args.path_nos.now c.args.coords.now c.args.paths.now) (start_of c.args.path_nos.now c.args.coords.now c.args.paths.now c.args.tiles) (take c.args.tiles c.args.work.now) c.args.refs.now c.args.work.now c.loop-j.work (own_end c.args.tiles (length c.args.path_nos.now)) c.args.n c.loop-j.j c.loop-j.invariant.0
+    (λ h. subst (KeyMet (made_of c.args.path_nos.now c.args.coords.now c.args.paths.now) (start_of c.args.path_nos.now c.args.coords.now c.args.paths.now c.args.tiles) (take c.args.tiles c.args.work.now)
     c.args.refs.now c.loop-j.j) c.in_default.is (met (goal.at.returns-in_default c).After-key_at-key)) c.loop-j.invariant.3 c.loop-j.invariant.1 c.loop-j.invariant.2
 
 pub overflow_add-work : goal.overflow_add-work
@@ -120,14 +120,14 @@ loop-j-smaller c = omega (arith, c.loop-j-test.true)
 
 pub loop-j-preserved : goal.loop-j-preserved
 loop-j-preserved c =
-    let m = subst (KeyMet (made_of c.args.path-nos.now c.args.coords.now c.args.paths.now) (start_of c.args.path-nos.now c.args.coords.now c.args.paths.now c.args.tiles) (take c.args.tiles c.args.work.now) c.args.refs.now c.loop-j.j) c.in-Places.is (met (goal.at.loop-j-preserved c).After-key_at-key)
+    let m = subst (KeyMet (made_of c.args.path_nos.now c.args.coords.now c.args.paths.now) (start_of c.args.path_nos.now c.args.coords.now c.args.paths.now c.args.tiles) (take c.args.tiles c.args.work.now) c.args.refs.now c.loop-j.j) c.in-Places.is (met (goal.at.loop-j-preserved c).After-key_at-key)
     in (
       omega (arith, c.loop-j-test.true),
-      noted_kept (made_of c.args.path-nos.now c.args.coords.now c.args.paths.now) (start_of c.args.path-nos.now c.args.coords.now c.args.paths.now c.args.tiles) (take c.args.tiles c.args.work.now) c.args.refs.now c.args.work.now c.loop-j.work (own_end c.args.tiles
-          (length c.args.path-nos.now)) c.args.n c.loop-j.j _ _ c.loop-j-test.true (long (goal.at.loop-j-preserved c).After-slice_known-1) c.loop-j.invariant.1,
-      noted_more (made_of c.args.path-nos.now c.args.coords.now c.args.paths.now) (start_of c.args.path-nos.now c.args.coords.now c.args.paths.now c.args.tiles) (take c.args.tiles c.args.work.now) c.args.refs.now c.args.work.now c.loop-j.work (own_end c.args.tiles
-          (length c.args.path-nos.now)) c.args.n c.loop-j.j _ _ c.loop-j-test.true (long (goal.at.loop-j-preserved c).After-slice_known-1) c.loop-j.invariant.2 m.1 m.2,
-      fine_more (stray_ref (made_of c.args.path-nos.now c.args.coords.now c.args.paths.now) (take c.args.tiles
+      noted_kept (made_of c.args.path_nos.now c.args.coords.now c.args.paths.now) (start_of c.args.path_nos.now c.args.coords.now c.args.paths.now c.args.tiles) (take c.args.tiles c.args.work.now) c.args.refs.now c.args.work.now c.loop-j.work (own_end c.args.tiles
+          (length c.args.path_nos.now)) c.args.n c.loop-j.j _ _ c.loop-j-test.true (long (goal.at.loop-j-preserved c).After-slice_known-1) c.loop-j.invariant.1,
+      noted_more (made_of c.args.path_nos.now c.args.coords.now c.args.paths.now) (start_of c.args.path_nos.now c.args.coords.now c.args.paths.now c.args.tiles) (take c.args.tiles c.args.work.now) c.args.refs.now c.args.work.now c.loop-j.work (own_end c.args.tiles
+          (length c.args.path_nos.now)) c.args.n c.loop-j.j _ _ c.loop-j-test.true (long (goal.at.loop-j-preserved c).After-slice_known-1) c.loop-j.invariant.2 m.1 m.2,
+      fine_more (stray_ref (made_of c.args.path_nos.now c.args.coords.now c.args.paths.now) (take c.args.tiles
           c.args.work.now) c.args.refs.now) c.loop-j.j c.loop-j.invariant.3 m.0,
     )
 
@@ -136,6 +136,6 @@ shape_of-work c = c.loop-j.invariant.1.same_length
 
 pub returns : goal.returns
 returns c =
-    noted_to_lem (made_of c.args.path-nos.now c.args.coords.now
-    c.args.paths.now) (start_of c.args.path-nos.now c.args.coords.now c.args.paths.now c.args.tiles) (take c.args.tiles c.args.work.now) c.args.refs.now c.args.work.now c.loop-j.work (own_end c.args.tiles (length c.args.path-nos.now)) c.args.n c.loop-j.j c.loop-j.invariant.0
+    noted_to_lem (made_of c.args.path_nos.now c.args.coords.now
+    c.args.paths.now) (start_of c.args.path_nos.now c.args.coords.now c.args.paths.now c.args.tiles) (take c.args.tiles c.args.work.now) c.args.refs.now c.args.work.now c.loop-j.work (own_end c.args.tiles (length c.args.path_nos.now)) c.args.n c.loop-j.j c.loop-j.invariant.0
     (λ h. absurd (omega (arith, c.loop-j-test.false))) c.loop-j.invariant.3 c.loop-j.invariant.1 c.loop-j.invariant.2

@@ -23,7 +23,7 @@ sum_up-requires c = (
   omega (arith, c.requires.6),
   omega (
     arith,
-    counted_most c.args.path-nos.now c.args.coords.now c.args.paths.now (length c.args.counts.now) c.args.made c.args.work.now c.requires.0,
+    counted_most c.args.path_nos.now c.args.coords.now c.args.paths.now (length c.args.counts.now) c.args.made c.args.work.now c.requires.0,
   ),
 )
 
@@ -32,7 +32,7 @@ first_ref-found-requires c =
     let q = looked_most (length c.args.refs.now / ref_words) c.args.made in
     let e = c.refs_in-n.ensures in
     let l = c.sum_up.ensures.0.same_length in (
-      room_made c.args.path-nos.now c.args.coords.now c.args.paths.now (length c.args.counts.now) c.args.made c.args.work.now c.sum_up.new.work c.requires.0 c.requires.1 c.sum_up.ensures.0 c.sum_up.ensures.1,
+      room_made c.args.path_nos.now c.args.coords.now c.args.paths.now (length c.args.counts.now) c.args.made c.args.work.now c.sum_up.new.work c.requires.0 c.requires.1 c.sum_up.ensures.0 c.sum_up.ensures.1,
       omega (arith, q.0, e, l, c.requires.6),
       c.requires.2,
       c.requires.3,
@@ -41,14 +41,14 @@ first_ref-found-requires c =
     )
 
 -- the first reference at fault of those looked at, beside the room as it was
-found : (c : After-first_ref-found) → c.first_ref-found.result.first ≡ first_of (ref_fault (made_of c.args.path-nos.now c.args.coords.now c.args.paths.now)
+found : (c : After-first_ref-found) → c.first_ref-found.result.first ≡ first_of (ref_fault (made_of c.args.path_nos.now c.args.coords.now c.args.paths.now)
     (take (length c.args.counts.now) c.args.work.now) c.args.refs.now) (looked_at (length c.args.refs.now / ref_words) c.args.made)
 found c =
     c.first_ref-found.ensures.0
-    ∙ ap (λ (ours : List ℕ). first_of (ref_fault (made_of c.args.path-nos.now c.args.coords.now c.args.paths.now) ours c.args.refs.now) c.refs_in-n.result)
+    ∙ ap (λ (ours : List ℕ). first_of (ref_fault (made_of c.args.path_nos.now c.args.coords.now c.args.paths.now) ours c.args.refs.now) c.refs_in-n.result)
     (counts_same (length c.args.counts.now) c.args.work.now c.sum_up.new.work 0 c.sum_up.ensures.0.same_length (λ k h. c.sum_up.ensures.0.kept k (omega
     arith)))
-    ∙ ap (first_of (ref_fault (made_of c.args.path-nos.now c.args.coords.now c.args.paths.now) (take (length c.args.counts.now) c.args.work.now) c.args.refs.now)) c.refs_in-n.ensures
+    ∙ ap (first_of (ref_fault (made_of c.args.path_nos.now c.args.coords.now c.args.paths.now) (take (length c.args.counts.now) c.args.work.now) c.args.refs.now)) c.refs_in-n.ensures
 
 pub overflow_cast-result : goal.overflow_cast-result
 overflow_cast-result c = let q = looked_most (length c.args.refs.now / ref_words) c.args.made in omega (arith, q.1, c.refs_in-n.ensures, c.if-f-n.true)
@@ -57,9 +57,9 @@ pub returns-then-f-n : goal.returns-then-f-n
 returns-then-f-n c =
     let f = found (goal.at.returns-then-f-n c).After-first_ref-found in
     let q = looked_most (length c.args.refs.now / ref_words) c.args.made in
-    tables_ref (made_of c.args.path-nos.now c.args.coords.now c.args.paths.now) (length c.args.counts.now) c.args.work.now c.args.made c.args.refs.now
+    tables_ref (made_of c.args.path_nos.now c.args.coords.now c.args.paths.now) (length c.args.counts.now) c.args.work.now c.args.made c.args.refs.now
     c.args.counts.now c.args.backs.now c.args.stored.now c.args.room c.first_ref-found.result.first
-    (found_first c.args.path-nos.now c.args.coords.now c.args.paths.now (length c.args.counts.now) c.args.made c.args.work.now c.requires.0 c.args.refs.now (length c.args.refs.now / ref_words) c.first_ref-found.result.first f (omega (
+    (found_first c.args.path_nos.now c.args.coords.now c.args.paths.now (length c.args.counts.now) c.args.made c.args.work.now c.requires.0 c.args.refs.now (length c.args.refs.now / ref_words) c.first_ref-found.result.first f (omega (
       arith,
       c.refs_in-n.ensures,
       c.if-f-n.true,
@@ -91,7 +91,7 @@ returns c =
     ∙ ap (λ (s : St). rest_of s (length c.args.refs.now / ref_words) c.args.counts.now c.args.backs.now c.args.stored.now c.args.room)
     (view_same (length c.args.counts.now) c.args.work.now c.first_ref-found.new.work c.args.made (c.first_ref-found.ensures.1.same_length ∙ c.sum_up.ensures.0.same_length)
     (λ k g. c.first_ref-found.ensures.1.kept k (omega arith) ∙ c.sum_up.ensures.0.kept k (omega arith)))
-    ∙ tables_rest (made_of c.args.path-nos.now c.args.coords.now c.args.paths.now) (length c.args.counts.now) c.args.work.now c.args.made c.args.refs.now
+    ∙ tables_rest (made_of c.args.path_nos.now c.args.coords.now c.args.paths.now) (length c.args.counts.now) c.args.work.now c.args.made c.args.refs.now
     c.args.counts.now c.args.backs.now c.args.stored.now c.args.room c.first_ref-found.result.first
-    (none_found c.args.path-nos.now c.args.coords.now c.args.paths.now (length c.args.counts.now) c.args.made c.args.work.now c.requires.0 c.args.refs.now
-    (length c.args.refs.now / ref_words) c.first_ref-found.result.first f h) (none_past c.args.path-nos.now c.args.coords.now c.args.paths.now (length c.args.counts.now) c.args.made c.args.work.now c.requires.0 c.args.refs.now (length c.args.refs.now / ref_words) c.first_ref-found.result.first f h)
+    (none_found c.args.path_nos.now c.args.coords.now c.args.paths.now (length c.args.counts.now) c.args.made c.args.work.now c.requires.0 c.args.refs.now
+    (length c.args.refs.now / ref_words) c.first_ref-found.result.first f h) (none_past c.args.path_nos.now c.args.coords.now c.args.paths.now (length c.args.counts.now) c.args.made c.args.work.now c.requires.0 c.args.refs.now (length c.args.refs.now / ref_words) c.first_ref-found.result.first f h)

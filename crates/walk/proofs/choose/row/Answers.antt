@@ -6,4 +6,4 @@ use Rattle.walk.proofs.choose.row.Goals as goal
 
 pub returns : goal.returns
 unfolding row_of
-returns c = cc (to_z-of_z {w = w32} {z = c.to_i32.result} (record { sfits = c.to_i32.type-inv }))
+returns c = cc (to_z-of_z {w = w32} {z = c.to_i32.result} (record { sfits = c.to_i32.type_inv }))

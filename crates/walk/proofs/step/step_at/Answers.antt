@@ -14,6 +14,6 @@ pub returns : goal.returns
 unfolding step_of
 returns c =
     cc (
-      to_z-of_z {w = w32} {z = c.to_i32-x.result} (record { sfits = c.to_i32-x.type-inv }),
-      to_z-of_z {w = w32} {z = c.to_i32-y.result} (record { sfits = c.to_i32-y.type-inv }),
+      to_z-of_z {w = w32} {z = c.to_i32-x.result} (record { sfits = c.to_i32-x.type_inv }),
+      to_z-of_z {w = w32} {z = c.to_i32-y.result} (record { sfits = c.to_i32-y.type_inv }),
     )
