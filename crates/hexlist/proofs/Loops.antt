@@ -1,7 +1,7 @@
 -- The loops over a row, for every kind of element: one that puts it into a slice, and one that compares. Assumes nothing.
 use borrow.Author.Tests.{le-leb, lt-ltb}
-use mathlib.Core.Path.{◌≡◌, refl, sym, ap, ◌∙◌}
-use mathlib.Core.Bool.{Bool, true, false, not, ◌&&◌}
+use mathlib.Core.Path.{◌≡◌, sym, ap, ◌∙◌}
+use mathlib.Core.Bool.{Bool, true, false, ◌&&◌}
 use mathlib.Core.List.{List}
 use Prim.Native.Nat.{ℕ, suc, ◌+◌, ◌≤◌, ◌<◌, zero-le}
 use native.Mathlib.Nat.{lt_of_lt_of_le}
@@ -28,10 +28,6 @@ module _ {A : Type 0} (f : ℕ → A → A) (d : A) (l : List A) where
   put_all out i e h =
       e ∙ mapi_is f l (mapi (within 0 i f) l) d d (length_mapi (within 0 i f) l)
       (λ k lt. get_d_mapi (within 0 i f) l k d d lt ∙ simp (le-leb 0 k zero-le, lt-ltb k i (lt_of_lt_of_le lt (rw (put_length out i e) at h))))
-
-pub turned : (r t : Bool) → not r ≡ t → r ≡ not t
-turned true t e = ap not e
-turned false t e = ap not e
 
 -- ---- a row compared with a slice, from element i on
 module _ {A : Type 0} (is : A → ℕ → Bool) (word : ℕ → ℕ) (d : A) (xs : List A) (i : ℕ) where

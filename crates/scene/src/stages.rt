@@ -3,10 +3,12 @@
 use super::paths::{COLS, PAINTS, PATHS, ROWS};
 use super::pen::LINES;
 use super::{drawing, rooms};
-use libc::STDOUT_FILENO;
 use panel::kinds::{Running, number};
 use path_count::Counted;
 use ppm_write::Written;
+
+// Standard output, as io takes it.
+const STDOUT_FILENO: i32 = 1;
 
 // Slots that the room of segments has.
 const SLOTS: u32 = 8192;

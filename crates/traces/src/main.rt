@@ -2,10 +2,12 @@
 // of two by two tiles. What it must print stands in stdout, and is the Rust's (segments in bits).
 #![tactic(auto)]
 
-use libc::STDOUT_FILENO;
 use panel::kinds::{Running, number};
 use panel::limits::EDGE_MOST;
 use path_count::Counted;
+
+// Standard output, as io takes it.
+const STDOUT_FILENO: i32 = 1;
 
 fn space() {
     io::write_all(STDOUT_FILENO, b" ");

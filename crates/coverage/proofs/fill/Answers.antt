@@ -47,7 +47,7 @@ fill_path-requires c = checked c.args.segments.now _ _ _
 pub returns : goal.returns
 returns c =
     let a = c.args in
-    yes a.segments.now a.first a.number a.even_odd a.backdrop a.x-tile a.y-tile a.area.now _
+    yes a.segments.now a.first a.number a.even_odd a.backdrop a.x_tile a.y_tile a.area.now _
     c.check_fill-v.ensures _ c.in_default.is
-    (c.fill_path.ensures ∙ ap (λ (z : ℤ). coverage_of a.segments.now a.first a.number a.even_odd z a.x-tile a.y-tile)
+    (c.fill_path.ensures ∙ ap (λ (z : ℤ). coverage_of a.segments.now a.first a.number a.even_odd z a.x_tile a.y_tile)
     (to_z-of_z w32 a.backdrop c.ranges.backdrop))

@@ -24,7 +24,7 @@ returns-in-Refused c =
     let s = c.args in
     let l = c.loop-l in
     let e : c.line_at-e.result ≡ line_at s.coords.now l.l = c.line_at-e.ensures in
-    sym (lines_no s.path-nos.now s.coords.now s.n (length s.path-nos.now) l.l _ _ (omega arith)
+    sym (lines_no s.path_nos.now s.coords.now s.n (length s.path_nos.now) l.l _ _ (omega arith)
     (rw e at (sym c.check_line-a.ensures ∙ c.in-Refused.is))) ∙ l.invariant.2
 
 pub overflow_add-l : goal.overflow_add-l
@@ -32,7 +32,7 @@ overflow_add-l c =
     let s = c.args in
     let l = c.loop-l in
     let e : c.line_at-e.result ≡ line_at s.coords.now l.l = c.line_at-e.ensures in
-    let ok = line_ok (line_at s.coords.now l.l) (get_or s.path-nos.now l.l 0) s.n l.l (rw e at (sym c.check_line-a.ensures ∙ c.in_default.is)) in
+    let ok = line_ok (line_at s.coords.now l.l) (get_or s.path_nos.now l.l 0) s.n l.l (rw e at (sym c.check_line-a.ensures ∙ c.in_default.is)) in
     omega (arith, ok.numbered, small.lines)
 
 pub loop-l-preserved : goal.loop-l-preserved
@@ -40,16 +40,16 @@ loop-l-preserved c =
     let s = c.args in
     let l = c.loop-l in
     let e : c.line_at-e.result ≡ line_at s.coords.now l.l = c.line_at-e.ensures in
-    let q : line_answer (line_at s.coords.now l.l) (get_or s.path-nos.now l.l 0) s.n l.l ≡ Done =
+    let q : line_answer (line_at s.coords.now l.l) (get_or s.path_nos.now l.l 0) s.n l.l ≡ Done =
     rw e at (sym c.check_line-a.ensures ∙ c.in_default.is) in
-    let ok = line_ok (line_at s.coords.now l.l) (get_or s.path-nos.now l.l 0) s.n l.l q in (
+    let ok = line_ok (line_at s.coords.now l.l) (get_or s.path_nos.now l.l 0) s.n l.l q in (
       omega arith,
       omega (arith, ok.numbered),
-      sym (lines_turn s.path-nos.now s.coords.now s.n (length s.path-nos.now) l.l (omega arith) q) ∙ l.invariant.2,
+      sym (lines_turn s.path_nos.now s.coords.now s.n (length s.path_nos.now) l.l (omega arith) q) ∙ l.invariant.2,
     )
 
 pub returns : goal.returns
 returns c =
     let s = c.args in
     let l = c.loop-l in
-    sym (lines_end s.path-nos.now s.coords.now s.n (length s.path-nos.now) l.l (omega arith)) ∙ l.invariant.2
+    sym (lines_end s.path_nos.now s.coords.now s.n (length s.path_nos.now) l.l (omega arith)) ∙ l.invariant.2

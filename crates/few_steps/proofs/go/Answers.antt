@@ -60,7 +60,7 @@ pub shape_of-refs-in_default-step : goal.shape_of-refs-in_default-step
 shape_of-refs-in_default-step c = c.take_step-step.auto.refs ∙ c.loop-i.invariant.3.3
 
 -- what is said of a step
-said : (c : After-take_step-step invariant-loop decreases-loop) (r : Last) → c.take_step-step.result ≡ r →
+said : (c : After-take_step-step) (r : Last) → c.take_step-step.result ≡ r →
     let o = c.loop-i in
     let k = c.take_step-step in
     TakenMet c.args.pace c.args.path c.args.up c.args.line.0 o.i o.k o.notes o.backs o.counts o.refs

@@ -15,7 +15,7 @@ pub loop-i-init : goal.loop-i-init
 loop-i-init c = (le_refl _, refl, refl, refl, λ s h. h)
 
 -- its notes are in the room lent
-in_room : (c : In-loop-i invariant-loop decreases-loop) → step_notes * (c.loop-i.i - 1) + 2 < length c.args.notes.now
+in_room : (c : In-loop-i) → step_notes * (c.loop-i.i - 1) + 2 < length c.args.notes.now
 in_room c = omega (arith, c.loop-i-test.true, c.loop-i.invariant.0, c.requires.0, c.requires.2)
 
 pub overflow_mul-k : goal.overflow_mul-k

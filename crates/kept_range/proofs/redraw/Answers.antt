@@ -141,8 +141,8 @@ shape_of-kept_counts-in-Refused c = c.kept_counts-1.given
 pub returns-in-Refused : goal.returns-in-Refused
 returns-in-Refused c =
     let a = c.args in
-    redrawn_refused a.path a.line-nos.now a.path-nos.now a.coords.now a.paths.now a.backdrops.now a.counts.now a.refs.now a.kept-backdrops.now
-    a.kept-counts.now _ _
+    redrawn_refused a.path a.line_nos.now a.path_nos.now a.coords.now a.paths.now a.backdrops.now a.counts.now a.refs.now a.kept_backdrops.now
+    a.kept_counts.now _ _
     (first_is (goal.at.returns-in-Refused c).After-slice_known-2-1)
     (tiles_is (goal.at.returns-in-Refused c).After-slice_known-2-1)
     _ c.copy_backdrops.ensures _
@@ -170,8 +170,8 @@ shape_of-kept_counts c = c.kept_counts-1.given
 pub returns : goal.returns
 returns c =
     let a = c.args in
-    redrawn_done a.path a.line-nos.now a.path-nos.now a.coords.now a.paths.now a.backdrops.now a.counts.now a.refs.now a.kept-backdrops.now
-    a.kept-counts.now _ _
+    redrawn_done a.path a.line_nos.now a.path_nos.now a.coords.now a.paths.now a.backdrops.now a.counts.now a.refs.now a.kept_backdrops.now
+    a.kept_counts.now _ _
     (first_is (goal.at.returns c).After-path_at-b)
     (tiles_is (goal.at.returns c).After-path_at-b)
     _ c.copy_backdrops.ensures _

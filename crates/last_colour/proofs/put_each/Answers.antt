@@ -1,4 +1,5 @@
 -- `last_colour::put_each` meets its contract. The invariant: the row's pixels left of x are written. Assumes nothing.
+use mathlib.Core.List.{[]}
 use mathlib.Core.Path.{ap, ◌∙◌}
 use Prim.Native.Nat.{◌-◌}
 use lib.ListN.{get_or}

@@ -14,4 +14,4 @@ returns c =
     let a = c.args in
     let g = c.tag_of-tag in
     let q = c.path_of-path in
-    rw (c.found_at-found.ensures, tagged a.path-nos.now a.paths.now a.line.0 q.result g.result q.ensures g.ensures) at c.tile_run.ensures
+    rw (c.found_at-found.ensures, tagged a.path_nos.now a.paths.now a.line.0 q.result g.result q.ensures g.ensures) at c.tile_run.ensures

@@ -1,5 +1,6 @@
 -- `new_lines::count_lines` meets its contract. The invariant: to count the lines left from here tells what all tell.
 -- Assumes nothing.
+use mathlib.Core.List.{[]}
 use mathlib.Core.Path.{◌≡◌, refl, sym, ap, ◌∙◌, subst₂}
 use mathlib.Core.List.{◌∷◌}
 use Prim.Native.Nat.{ℕ, ◌+◌, ◌-◌, ◌*◌, ◌/◌}
@@ -23,12 +24,12 @@ use Rattle.new_lines.proofs.count_lines.Goals.{After-count_batch-t}
 pub loop-k-init : goal.loop-k-init
 loop-k-init c =
     let a = c.args in
-    let none : length a.path-nos.now - 0 ≡ length a.path-nos.now = omega arith in (
+    let none : length a.path_nos.now - 0 ≡ length a.path_nos.now = omega arith in (
       omega arith,
       refl,
       refl,
       refl,
-      ap (λ (n : ℕ). lines_told a.line-nos.now (batch_of (λ j. own_step a.path a.path-nos.now a.coords.now a.paths.now (length a.refs.now / ref_words) (get_or a.line-nos.now j 0) j) 0 n (st_of a.backs.now a.counts.now a.refs.now 0))) none,
+      ap (λ (n : ℕ). lines_told a.line_nos.now (batch_of (λ j. own_step a.path a.path_nos.now a.coords.now a.paths.now (length a.refs.now / ref_words) (get_or a.line_nos.now j 0) j) 0 n (st_of a.backs.now a.counts.now a.refs.now 0))) none,
       refl,
     )
 
@@ -61,11 +62,11 @@ pub returns-then-n-eq0 : goal.returns-then-n-eq0
 returns-then-n-eq0 c =
     let a = c.args in
     let s = c.loop-k in
-    ap (λ (n : ℕ). told_of (n ∷ get_or a.line-nos.now s.k 0 ∷ s.made ∷ []) (st_of s.backs s.counts s.refs s.made))
-    (c.other_no.ensures ∙ other_part a.coords.now (get_or a.line-nos.now s.k 0) s.k _ (part_to_end a.coords.now (s.k * line_floats)))
-    ∙ ap (lines_told a.line-nos.now)
-    (batch_stops (λ j. own_step a.path a.path-nos.now a.coords.now a.paths.now (length a.refs.now / ref_words) (get_or a.line-nos.now j 0) j) s.k (length a.path-nos.now) (st_of s.backs s.counts s.refs s.made) c.loop-k-test.true _ refl _
-    (own_other a.path a.path-nos.now a.coords.now a.paths.now (length a.refs.now / ref_words) (get_or a.line-nos.now s.k 0) s.k (st_of s.backs s.counts s.refs s.made)
+    ap (λ (n : ℕ). told_of (n ∷ get_or a.line_nos.now s.k 0 ∷ s.made ∷ []) (st_of s.backs s.counts s.refs s.made))
+    (c.other_no.ensures ∙ other_part a.coords.now (get_or a.line_nos.now s.k 0) s.k _ (part_to_end a.coords.now (s.k * line_floats)))
+    ∙ ap (lines_told a.line_nos.now)
+    (batch_stops (λ j. own_step a.path a.path_nos.now a.coords.now a.paths.now (length a.refs.now / ref_words) (get_or a.line_nos.now j 0) j) s.k (length a.path_nos.now) (st_of s.backs s.counts s.refs s.made) c.loop-k-test.true _ refl _
+    (own_other a.path a.path_nos.now a.coords.now a.paths.now (length a.refs.now / ref_words) (get_or a.line_nos.now s.k 0) s.k (st_of s.backs s.counts s.refs s.made)
     (c.stretch-n.ensures.other c.if-n-eq0.true)))
     ∙ s.invariant.4
 
@@ -78,7 +79,7 @@ count_batch-t-requires c =
     let s = c.loop-k in
     let p = c.requires in
     let h = c.stretch-n.ensures in
-    let nos = ap length (part_to_end a.path-nos.now s.k) ∙ length-drop s.k a.path-nos.now in
+    let nos = ap length (part_to_end a.path_nos.now s.k) ∙ length-drop s.k a.path_nos.now in
     let fs = ap length (part_to_end a.coords.now (s.k * line_floats)) ∙ length-drop (s.k * line_floats) a.coords.now in (
       subst₂ (Lent a.paths.now) (sym s.invariant.1) (sym s.invariant.2) p.0,
       omega arith,
@@ -89,19 +90,19 @@ count_batch-t-requires c =
     )
 
 -- what counting's answer for the stretch says, with the room as it was at the start
-said : (c : After-count_batch-t invariant-loop decreases-loop) →
+said : (c : After-count_batch-t) →
     let a = c.args in
     let s = c.loop-k in
     let t = c.count_batch-t in
     told_of (paper_of t.result) (st_of t.new.backs t.new.counts t.new.refs (made_of t.result))
-    ≡ from_told (get_or a.line-nos.now s.k 0) c.stretch-n.result
-    (batch_from (get_or a.line-nos.now s.k 0) (drop s.k a.path-nos.now) (drop (s.k * line_floats) a.coords.now) a.paths.now (length a.refs.now / ref_words) 0 c.stretch-n.result (st_of s.backs s.counts s.refs s.made))
+    ≡ from_told (get_or a.line_nos.now s.k 0) c.stretch-n.result
+    (batch_from (get_or a.line_nos.now s.k 0) (drop s.k a.path_nos.now) (drop (s.k * line_floats) a.coords.now) a.paths.now (length a.refs.now / ref_words) 0 c.stretch-n.result (st_of s.backs s.counts s.refs s.made))
 said c =
     let a = c.args in
     let s = c.loop-k in
     c.count_batch-t.ensures
-    ∙ (λ i. from_told (get_or a.line-nos.now s.k 0) c.stretch-n.result
-    (batch_from (get_or a.line-nos.now s.k 0) (part_to_end a.path-nos.now s.k i) (part_to_end a.coords.now (s.k * line_floats) i) a.paths.now
+    ∙ (λ i. from_told (get_or a.line_nos.now s.k 0) c.stretch-n.result
+    (batch_from (get_or a.line_nos.now s.k 0) (part_to_end a.path_nos.now s.k i) (part_to_end a.coords.now (s.k * line_floats) i) a.paths.now
     (s.invariant.3 i / ref_words) 0 c.stretch-n.result (st_of s.backs s.counts s.refs s.made)))
 
 pub shape_of-backs-in-Refused : goal.shape_of-backs-in-Refused
@@ -119,9 +120,9 @@ returns-in-Refused c =
     let s = c.loop-k in
     let t = c.count_batch-t in
     let g = c.t-1.given in
-    told_refused a.line-nos.now (get_or a.line-nos.now s.k 0) c.stretch-n.result t.new.backs t.new.counts t.new.refs g.0.1.1.0.refs (batch_of (λ j. own_step a.path a.path-nos.now a.coords.now a.paths.now (length a.refs.now / ref_words) (get_or a.line-nos.now j 0) j) (s.k + c.stretch-n.result) (length a.path-nos.now - (s.k + c.stretch-n.result))) g.0.0 g.0.1.0 g.0.1.1.0.lines (batch_from (get_or a.line-nos.now s.k 0) (drop s.k a.path-nos.now) (drop (s.k * line_floats) a.coords.now) a.paths.now (length a.refs.now / ref_words) 0 c.stretch-n.result (st_of s.backs s.counts s.refs s.made))
+    told_refused a.line_nos.now (get_or a.line_nos.now s.k 0) c.stretch-n.result t.new.backs t.new.counts t.new.refs g.0.1.1.0.refs (batch_of (λ j. own_step a.path a.path_nos.now a.coords.now a.paths.now (length a.refs.now / ref_words) (get_or a.line_nos.now j 0) j) (s.k + c.stretch-n.result) (length a.path_nos.now - (s.k + c.stretch-n.result))) g.0.0 g.0.1.0 g.0.1.1.0.lines (batch_from (get_or a.line_nos.now s.k 0) (drop s.k a.path_nos.now) (drop (s.k * line_floats) a.coords.now) a.paths.now (length a.refs.now / ref_words) 0 c.stretch-n.result (st_of s.backs s.counts s.refs s.made))
     (sym (ap (λ (x : Counted). told_of (paper_of x) (st_of t.new.backs t.new.counts t.new.refs (made_of x))) g.1) ∙ said (goal.at.returns-in-Refused c).After-count_batch-t)
-    ∙ sym (stretch_first a.path a.line-nos.now a.path-nos.now a.coords.now a.paths.now (length a.refs.now / ref_words) s.k c.stretch-n.result c.requires.1 c.stretch-n.ensures.order _ _ refl refl (st_of s.backs s.counts s.refs s.made) c.stretch-n.ensures.lent)
+    ∙ sym (stretch_first a.path a.line_nos.now a.path_nos.now a.coords.now a.paths.now (length a.refs.now / ref_words) s.k c.stretch-n.result c.requires.1 c.stretch-n.ensures.order _ _ refl refl (st_of s.backs s.counts s.refs s.made) c.stretch-n.ensures.lent)
     ∙ s.invariant.4
 
 pub overflow_add-k : goal.overflow_add-k
@@ -140,9 +141,9 @@ loop-k-preserved c =
       t.auto.backs ∙ s.invariant.1,
       t.auto.counts ∙ s.invariant.2,
       t.auto.refs ∙ s.invariant.3,
-      told_done a.line-nos.now (get_or a.line-nos.now s.k 0) c.stretch-n.result t.new.backs t.new.counts t.new.refs g.0.0.refs (batch_of (λ j. own_step a.path a.path-nos.now a.coords.now a.paths.now (length a.refs.now / ref_words) (get_or a.line-nos.now j 0) j) (s.k + c.stretch-n.result) (length a.path-nos.now - (s.k + c.stretch-n.result))) g.0.0.lines (batch_from (get_or a.line-nos.now s.k 0) (drop s.k a.path-nos.now) (drop (s.k * line_floats) a.coords.now) a.paths.now (length a.refs.now / ref_words) 0 c.stretch-n.result (st_of s.backs s.counts s.refs s.made))
+      told_done a.line_nos.now (get_or a.line_nos.now s.k 0) c.stretch-n.result t.new.backs t.new.counts t.new.refs g.0.0.refs (batch_of (λ j. own_step a.path a.path_nos.now a.coords.now a.paths.now (length a.refs.now / ref_words) (get_or a.line_nos.now j 0) j) (s.k + c.stretch-n.result) (length a.path_nos.now - (s.k + c.stretch-n.result))) g.0.0.lines (batch_from (get_or a.line_nos.now s.k 0) (drop s.k a.path_nos.now) (drop (s.k * line_floats) a.coords.now) a.paths.now (length a.refs.now / ref_words) 0 c.stretch-n.result (st_of s.backs s.counts s.refs s.made))
           (sym (ap (λ (x : Counted). told_of (paper_of x) (st_of t.new.backs t.new.counts t.new.refs (made_of x))) g.1) ∙ said (goal.at.loop-k-preserved c).After-count_batch-t)
-          ∙ sym (stretch_first a.path a.line-nos.now a.path-nos.now a.coords.now a.paths.now (length a.refs.now / ref_words) s.k c.stretch-n.result c.requires.1 c.stretch-n.ensures.order _ _ refl refl (st_of s.backs s.counts s.refs s.made) c.stretch-n.ensures.lent)
+          ∙ sym (stretch_first a.path a.line_nos.now a.path_nos.now a.coords.now a.paths.now (length a.refs.now / ref_words) s.k c.stretch-n.result c.requires.1 c.stretch-n.ensures.order _ _ refl refl (st_of s.backs s.counts s.refs s.made) c.stretch-n.ensures.lent)
           ∙ s.invariant.4,
       t.auto.notes ∙ s.invariant.5,
     )
@@ -160,5 +161,5 @@ pub returns : goal.returns
 returns c =
     let a = c.args in
     let s = c.loop-k in
-    ap (lines_told a.line-nos.now) (batch_ends (λ j. own_step a.path a.path-nos.now a.coords.now a.paths.now (length a.refs.now / ref_words) (get_or a.line-nos.now j 0) j) s.k (length a.path-nos.now) (st_of s.backs s.counts s.refs s.made) _ c.loop-k-test.false refl)
+    ap (lines_told a.line_nos.now) (batch_ends (λ j. own_step a.path a.path_nos.now a.coords.now a.paths.now (length a.refs.now / ref_words) (get_or a.line_nos.now j 0) j) s.k (length a.path_nos.now) (st_of s.backs s.counts s.refs s.made) _ c.loop-k-test.false refl)
     ∙ s.invariant.4

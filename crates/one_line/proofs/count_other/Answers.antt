@@ -1,5 +1,6 @@
 -- `one_line::count_other` meets its contract.
 -- Assumes nothing.
+use mathlib.Core.List.{[]}
 use mathlib.Core.Path.{◌≡◌, refl, sym, ap, ◌∙◌, subst, subst₂}
 use mathlib.Core.Logic.{⊎_elim}
 use mathlib.Core.List.{◌∷◌}
@@ -27,7 +28,7 @@ use Rattle.one_line.proofs.count_other.Goals.{In-Line-2, In_default}
 pub returns-then-line-ge-MOST_LINES : goal.returns-then-line-ge-MOST_LINES
 returns-then-line-ge-MOST_LINES c =
     let a = c.args in
-    line_over a.path-nos.now a.coords.now a.paths.now (length a.refs.now / ref_words) a.line.0 a.place _ c.if-line-ge-MOST_LINES.true
+    line_over a.path_nos.now a.coords.now a.paths.now (length a.refs.now / ref_words) a.line.0 a.place _ c.if-line-ge-MOST_LINES.true
 
 pub count_direct-direct-requires : goal.count_direct-direct-requires
 count_direct-direct-requires c = let p = c.requires in (p.0, p.1, p.2)
@@ -37,11 +38,11 @@ returns-in-On c =
     let a = c.args in
     let d = c.count_direct-direct in
     let t = st_of a.backs.now a.counts.now a.refs.now a.made in
-    subst (λ (r : Direct). DirectMet (walk_at a.path-nos.now a.coords.now a.paths.now a.place) (length a.refs.now / ref_words)
+    subst (λ (r : Direct). DirectMet (walk_at a.path_nos.now a.coords.now a.paths.now a.place) (length a.refs.now / ref_words)
     a.line.0 a.made a.backs.now a.counts.now a.refs.now d.new.backs d.new.counts
     d.new.refs r) c.in-On.is d.ensures
     ∙ ap (λ (o : Step St ℕ). line_ran o t)
-    (sym (line_walked a.path-nos.now a.coords.now a.paths.now (length a.refs.now / ref_words) a.line.0 a.place t _ c.if-line-ge-MOST_LINES.false refl))
+    (sym (line_walked a.path_nos.now a.coords.now a.paths.now (length a.refs.now / ref_words) a.line.0 a.place t _ c.if-line-ge-MOST_LINES.false refl))
 
 -- what is lent is as it was
 same : (c : In_default) →
@@ -51,7 +52,7 @@ same : (c : In_default) →
 same c =
     let a = c.args in
     let d = c.count_direct-direct in
-    subst (λ (r : Direct). DirectMet (walk_at a.path-nos.now a.coords.now a.paths.now a.place) (length a.refs.now / ref_words)
+    subst (λ (r : Direct). DirectMet (walk_at a.path_nos.now a.coords.now a.paths.now a.place) (length a.refs.now / ref_words)
     a.line.0 a.made a.backs.now a.counts.now a.refs.now d.new.backs d.new.counts
     d.new.refs r) c.in_default.is d.ensures
 
@@ -69,12 +70,12 @@ returns-in_default-walked c =
     let a = c.args in
     let w = c.walk_at-walked in
     same_tally _ _ _ _ _ _ (same (goal.at.returns-in_default-walked c).In_default) c.unwalked.result a.made _
-    (line_unwalked a.path-nos.now a.coords.now a.paths.now (length a.refs.now / ref_words) a.line.0 a.place a.backs.now a.counts.now a.refs.now a.made
+    (line_unwalked a.path_nos.now a.coords.now a.paths.now (length a.refs.now / ref_words) a.line.0 a.place a.backs.now a.counts.now a.refs.now a.made
     w.result c.unwalked.result c.if-line-ge-MOST_LINES.false (sym w.ensures) (no_walk w.result c.in_default-walked.keys2) c.unwalked.ensures)
 
 -- the line has a walk
 line : (c : In-Line-2) →
-    let a = c.args in walk_at a.path-nos.now a.coords.now a.paths.now a.place ≡ Line c.in-Line.walk c.in-Line.path
+    let a = c.args in walk_at a.path_nos.now a.coords.now a.paths.now a.place ≡ Line c.in-Line.walk c.in-Line.path
 line c = sym c.walk_at-walked.ensures ∙ c.in-Line.is
 
 pub count_walk-requires : goal.count_walk-requires
@@ -83,8 +84,8 @@ count_walk-requires c =
     let p = c.requires in
     let e = same (goal.at.count_walk-requires c).In_default in (
       subst₂ (OnTiles c.in-Line.path) (sym (ap length e.0)) (sym (ap length e.1))
-          (on_tiles a.path-nos.now a.coords.now a.paths.now a.place _ _ (line (goal.at.count_walk-requires c).In-Line-2) _ _ p.0),
-      walkable a.path-nos.now a.coords.now a.paths.now a.place _ _ (line (goal.at.count_walk-requires c).In-Line-2) _ _ p.0,
+          (on_tiles a.path_nos.now a.coords.now a.paths.now a.place _ _ (line (goal.at.count_walk-requires c).In-Line-2) _ _ p.0),
+      walkable a.path_nos.now a.coords.now a.paths.now a.place _ _ (line (goal.at.count_walk-requires c).In-Line-2) _ _ p.0,
       c.count_direct-direct.auto.notes ∙ p.2,
     )
 
@@ -106,4 +107,4 @@ returns c =
     let t = st_of a.backs.now a.counts.now a.refs.now a.made in
     same_walk _ _ _ _ _ _ (same (goal.at.returns c).In_default) a.line.0 a.made c.in-Line.walk c.in-Line.path _ c.count_walk.ensures
     ∙ ap (λ (o : Step St ℕ). line_ran o t)
-    (sym (line_walked a.path-nos.now a.coords.now a.paths.now (length a.refs.now / ref_words) a.line.0 a.place t _ c.if-line-ge-MOST_LINES.false (line (goal.at.returns c).In-Line-2)))
+    (sym (line_walked a.path_nos.now a.coords.now a.paths.now (length a.refs.now / ref_words) a.line.0 a.place t _ c.if-line-ge-MOST_LINES.false (line (goal.at.returns c).In-Line-2)))

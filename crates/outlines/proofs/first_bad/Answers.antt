@@ -16,7 +16,7 @@ unfolding first_bad
 returns-then-l-paths c =
     let a = c.args in
     let l = c.loop-l in
-    first_is (bad_line a.path-nos.now a.paths) (length a.path-nos.now) l.l l.invariant.0 (λ h. c.if-l-paths.true) l.invariant.1
+    first_is (bad_line a.path_nos.now a.paths) (length a.path_nos.now) l.l l.invariant.0 (λ h. c.if-l-paths.true) l.invariant.1
 
 pub overflow_add-l : goal.overflow_add-l
 overflow_add-l c = omega arith
@@ -28,11 +28,11 @@ pub loop-l-preserved : goal.loop-l-preserved
 loop-l-preserved c =
     let a = c.args in
     let l = c.loop-l in
-    (omega arith, below_next (bad_line a.path-nos.now a.paths) l.l l.invariant.1 c.if-l-paths.false)
+    (omega arith, below_next (bad_line a.path_nos.now a.paths) l.l l.invariant.1 c.if-l-paths.false)
 
 pub returns : goal.returns
 unfolding first_bad
 returns c =
     let a = c.args in
     let l = c.loop-l in
-    first_is (bad_line a.path-nos.now a.paths) (length a.path-nos.now) l.l l.invariant.0 (λ h. absurd (omega arith)) l.invariant.1
+    first_is (bad_line a.path_nos.now a.paths) (length a.path_nos.now) l.l l.invariant.0 (λ h. absurd (omega arith)) l.invariant.1

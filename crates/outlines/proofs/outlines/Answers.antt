@@ -12,12 +12,12 @@ pub returns-in-Against : goal.returns-in-Against
 returns-in-Against c =
     let s = c.args in
     let v = c.check_lent-v in
-    met_refused s.path-nos.now s.coords.now s.paths s.work.now v.result v.ensures _ c.in-Against.is
+    met_refused s.path_nos.now s.coords.now s.paths s.work.now v.result v.ensures _ c.in-Against.is
 
 pub bad_answer-requires : goal.bad_answer-requires
 bad_answer-requires c =
     let s = c.args in
-    omega (arith, c.first_bad-bad.ensures, bad_most s.path-nos.now s.paths)
+    omega (arith, c.first_bad-bad.ensures, bad_most s.path_nos.now s.paths)
 
 pub returns-then-bad-path_nos : goal.returns-then-bad-path_nos
 returns-then-bad-path_nos c =
@@ -25,28 +25,28 @@ returns-then-bad-path_nos c =
     let v = c.check_lent-v in
     let fine = c.in_default.is in
     let b = c.first_bad-bad.ensures in
-    rw (c.bad_answer.ensures, b) (met_bad s.path-nos.now s.coords.now s.paths s.work.now v.result v.ensures fine (omega (arith, b, c.if-bad-path_nos.true)))
+    rw (c.bad_answer.ensures, b) (met_bad s.path_nos.now s.coords.now s.paths s.work.now v.result v.ensures fine (omega (arith, b, c.if-bad-path_nos.true)))
 
 pub slice_bounds-first_open-end : goal.slice_bounds-first_open-end
 slice_bounds-first_open-end c =
     let s = c.args in
     let v = c.check_lent-v in
     let fine = c.in_default.is in
-    has_room s.path-nos.now s.paths s.coords.now s.work.now (sym v.ensures ∙ fine)
+    has_room s.path_nos.now s.paths s.coords.now s.work.now (sym v.ensures ∙ fine)
 
 pub slice_bounds-first_open-end-2 : goal.slice_bounds-first_open-end-2
 slice_bounds-first_open-end-2 c =
     let s = c.args in
     let v = c.check_lent-v in
     let fine = c.in_default.is in
-    sym (length-take-le (s.paths * room_words) s.work.now (has_room s.path-nos.now s.paths s.coords.now s.work.now (sym v.ensures ∙ fine)))
+    sym (length-take-le (s.paths * room_words) s.work.now (has_room s.path_nos.now s.paths s.coords.now s.work.now (sym v.ensures ∙ fine)))
 
 pub first_open-l-requires : goal.first_open-l-requires
 first_open-l-requires c =
     let s = c.args in
     let v = c.check_lent-v in
     let fine = c.in_default.is in
-    ready s.path-nos.now s.paths s.coords.now s.work.now (sym v.ensures ∙ fine) (omega (arith, c.first_bad-bad.ensures, c.if-bad-path_nos.false))
+    ready s.path_nos.now s.paths s.coords.now s.work.now (sym v.ensures ∙ fine) (omega (arith, c.first_bad-bad.ensures, c.if-bad-path_nos.false))
 
 pub clear_words-requires : goal.clear_words-requires
 clear_words-requires c =
@@ -54,7 +54,7 @@ clear_words-requires c =
     let v = c.check_lent-v in
     let fine = c.in_default.is in
     let o = c.first_open-l in
-    let room = has_room s.path-nos.now s.paths s.coords.now s.work.now (sym v.ensures ∙ fine) in
+    let room = has_room s.path_nos.now s.paths s.coords.now s.work.now (sym v.ensures ∙ fine) in
     omega (
       arith,
       room,
@@ -70,9 +70,9 @@ returns c =
     let v = c.check_lent-v in
     let fine = c.in_default.is in
     let b = c.first_bad-bad.ensures in
-    let all : length s.path-nos.now ≤ first_bad s.path-nos.now s.paths = omega (arith, b, c.if-bad-path_nos.false) in
+    let all : length s.path_nos.now ≤ first_bad s.path_nos.now s.paths = omega (arith, b, c.if-bad-path_nos.false) in
     let o = c.first_open-l in
-    let room = has_room s.path-nos.now s.paths s.coords.now s.work.now (sym v.ensures ∙ fine) in
+    let room = has_room s.path_nos.now s.paths s.coords.now s.work.now (sym v.ensures ∙ fine) in
     let part : length o.new.work ≡ s.paths * room_words = o.auto.work ∙ length-take-le (s.paths * room_words) s.work.now room in
     rw (c.open_answer.ensures, o.ensures, c.clear_words.ensures, cleared_is (s.paths * room_words) o.new.work s.work.now room part)
-    (met_open s.path-nos.now s.coords.now s.paths s.work.now v.result v.ensures fine all)
+    (met_open s.path_nos.now s.coords.now s.paths s.work.now v.result v.ensures fine all)

@@ -20,7 +20,7 @@ overflow_cast-n c = omega (arith, c.requires.0.few)
 pub loop-i-init : goal.loop-i-init
 loop-i-init c =
     let a = c.args in
-    let nos = a.path-nos.now in
+    let nos = a.path_nos.now in
     (omega arith, refl, noted_none nos a.coords.now a.work.now c.requires.1, least_none nos a.coords.now (length nos))
 
 pub bounds-path_nos-i : goal.bounds-path_nos-i

@@ -21,25 +21,25 @@ reach_line-requires c =
       omega arith,
       omega (arith, c.requires.0),
       omega (arith, c.requires.1, l.invariant.2),
-      each_line s.path-nos.now s.coords.now s.n (length s.path-nos.now) 0 c.requires.2 l.l (omega arith) (omega arith),
+      each_line s.path_nos.now s.coords.now s.n (length s.path_nos.now) 0 c.requires.2 l.l (omega arith) (omega arith),
     )
 
 pub overflow_add-l : goal.overflow_add-l
 overflow_add-l c =
     let s = c.args in
     let l = c.loop-l in
-    let ok = each_line s.path-nos.now s.coords.now s.n (length s.path-nos.now) 0 c.requires.2 l.l (omega arith) (omega arith) in
+    let ok = each_line s.path_nos.now s.coords.now s.n (length s.path_nos.now) 0 c.requires.2 l.l (omega arith) (omega arith) in
     omega (arith, ok.numbered, small.lines)
 
 pub loop-l-preserved : goal.loop-l-preserved
 loop-l-preserved c =
     let s = c.args in
     let l = c.loop-l in
-    let ok = each_line s.path-nos.now s.coords.now s.n (length s.path-nos.now) 0 c.requires.2 l.l (omega arith) (omega arith) in (
+    let ok = each_line s.path_nos.now s.coords.now s.n (length s.path_nos.now) 0 c.requires.2 l.l (omega arith) (omega arith) in (
       omega arith,
       omega (arith, ok.numbered),
       c.reach_line.auto.work ∙ l.invariant.2,
-      rw c.reach_line.ensures (sym (gather_turn s.path-nos.now s.coords.now (length s.path-nos.now) l.l l.work (omega arith)) ∙ l.invariant.3),
+      rw c.reach_line.ensures (sym (gather_turn s.path_nos.now s.coords.now (length s.path_nos.now) l.l l.work (omega arith)) ∙ l.invariant.3),
     )
 
 pub shape_of-work : goal.shape_of-work
@@ -49,4 +49,4 @@ pub returns : goal.returns
 returns c =
     let s = c.args in
     let l = c.loop-l in
-    sym (gather_end s.path-nos.now s.coords.now (length s.path-nos.now) l.l l.work (omega arith)) ∙ l.invariant.3
+    sym (gather_end s.path_nos.now s.coords.now (length s.path_nos.now) l.l l.work (omega arith)) ∙ l.invariant.3

@@ -11,9 +11,9 @@ returns-then-put_tried c =
     let a = c.args in
     let w = c.put_tried in
     let p' = pieces w.new.segments w.new.tags in
-    took_next a.to (lent a.path-nos.now a.coords.now a.paths.now a.stored.now a.refs.now) a.slots
+    took_next a.to (lent a.path_nos.now a.coords.now a.paths.now a.stored.now a.refs.now) a.slots
     (pieces a.segments.now a.tags.now) a.from _ _ w.result p' c.requires.some c.named_at.ensures
-    (took_tried a.path-nos.now a.coords.now a.paths.now a.stored.now _ a.slots _ c.try_short-short.result
+    (took_tried a.path_nos.now a.coords.now a.paths.now a.stored.now _ a.slots _ c.try_short-short.result
     (pieces a.segments.now a.tags.now) w.result p' c.try_short-short.ensures w.ensures)
     c.packed_at-packed.ensures c.if-put_tried.true
 
@@ -34,8 +34,8 @@ returns c =
     let a = c.args in
     let w = c.put_tried in
     let p' = pieces w.new.segments w.new.tags in
-    ran_next a.to (lent a.path-nos.now a.coords.now a.paths.now a.stored.now a.refs.now) a.slots
+    ran_next a.to (lent a.path_nos.now a.coords.now a.paths.now a.stored.now a.refs.now) a.slots
     (pieces a.segments.now a.tags.now) a.from _ _ w.result p' c.requires.some c.named_at.ensures
-    (took_tried a.path-nos.now a.coords.now a.paths.now a.stored.now _ a.slots _ c.try_short-short.result
+    (took_tried a.path_nos.now a.coords.now a.paths.now a.stored.now _ a.slots _ c.try_short-short.result
     (pieces a.segments.now a.tags.now) w.result p' c.try_short-short.ensures w.ensures)
     c.if-put_tried.false _ c.tile_line.ensures

@@ -62,8 +62,8 @@ coverage_of-area-requires c = checked c.args.segments.now _ _ _ _
 pub returns : goal.returns
 returns c =
     let a = c.args in
-    yes a.segments.now a.first a.number a.even_odd a.backdrop a.x-tile a.y-tile a.column a.row _
+    yes a.segments.now a.first a.number a.even_odd a.backdrop a.x_tile a.y_tile a.column a.row _
     c.check_place-p.ensures c.in_default.is _ c.check_fill-v.ensures _
     c.in_default-v.is
-    (c.coverage_of-area.ensures ∙ ap (λ (z : ℤ). pixel_of a.segments.now a.first a.number a.even_odd z a.x-tile a.y-tile (place_at a.column a.row))
+    (c.coverage_of-area.ensures ∙ ap (λ (z : ℤ). pixel_of a.segments.now a.first a.number a.even_odd z a.x_tile a.y_tile (place_at a.column a.row))
     (to_z-of_z w32 a.backdrop c.ranges.backdrop))

@@ -25,7 +25,7 @@ pub overflow_sub-notes : goal.overflow_sub-notes
 overflow_sub-notes c = c.loop-i.invariant.0.0
 
 -- the word is in the room lent
-in_room : (c : After-struct_known-1 invariant-loop decreases-loop) → let o = c.loop-i in o.i - c.args.from < length o.notes
+in_room : (c : After-struct_known-1) → let o = c.loop-i in o.i - c.args.from < length o.notes
 in_room c =
     let o = c.loop-i in
     omega (arith, c.loop-i-test.true, o.invariant.0.0, o.invariant.1, c.requires.7)

@@ -20,7 +20,7 @@ pub overflow_sub-word : goal.overflow_sub-word
 overflow_sub-word c = c.loop-i.invariant.0.0
 
 -- the word is among those noted
-in_notes : (c : In-loop-i invariant-loop decreases-loop) → c.loop-i.i - c.args.from < c.args.to - c.args.from
+in_notes : (c : In-loop-i) → c.loop-i.i - c.args.from < c.args.to - c.args.from
 in_notes c = omega (arith, c.loop-i-test.true, c.loop-i.invariant.0.0)
 
 pub offset_bounds-notes-i : goal.offset_bounds-notes-i

@@ -1,4 +1,5 @@
 -- `screen_rows::put_row` meets its contract. The invariant: the row's pixels left of x are written. Assumes nothing.
+use mathlib.Core.List.{[]}
 use mathlib.Core.Path.{◌≡◌, sym, ap, ◌∙◌}
 use mathlib.Core.List.{List}
 use Prim.Native.Nat.{ℕ, ◌*◌, ◌-◌, ◌+◌, ◌≤◌, ◌<◌}

@@ -25,7 +25,7 @@ bounds-stored-tile c =
 pub returns : goal.returns
 returns c =
     let a = c.args in
-    short_comes a.path-nos.now a.coords.now a.paths.now a.stored.now a.line.0 c.line_at-ends.result c.path_at.result _ _ _ _ _
+    short_comes a.path_nos.now a.coords.now a.paths.now a.stored.now a.line.0 c.line_at-ends.result c.path_at.result _ _ _ _ _
     c.line_at-ends.ensures c.path_at.ensures c.if-line-path_nos.false c.if-path-paths.false
     (spot_in c.in-In.is c.spot_of-spot.ensures)
     (piece_kept _ _ _ _ c.in-Kept.is c.piece_in-piece.ensures)

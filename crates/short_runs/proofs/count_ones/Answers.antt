@@ -42,14 +42,14 @@ pub returns-in_default : goal.returns-in_default
 returns-in_default c = let i = c.loop-n.invariant in (i.0, i.1, i.4)
 
 -- the line lies within the tile named, which may be counted
-alone : (c : In-In-2 invariant-loop decreases-loop) →
+alone : (c : In-In-2) →
     let a = c.args in
     let s = c.loop-n in
-    Alone a.path-nos.now a.coords.now a.paths.now (a.place + s.n) (a.made + s.n) s.counts (length s.refs) c.in-In.tile
+    Alone a.path_nos.now a.coords.now a.paths.now (a.place + s.n) (a.made + s.n) s.counts (length s.refs) c.in-In.tile
 alone c =
     let a = c.args in
     let s = c.loop-n in
-    subst (λ (r : One). OneMet a.path-nos.now a.coords.now a.paths.now (a.place + s.n) (a.made + s.n) s.counts (length s.refs) r) c.in-In.is c.one_at-one.ensures
+    subst (λ (r : One). OneMet a.path_nos.now a.coords.now a.paths.now (a.place + s.n) (a.made + s.n) s.counts (length s.refs) r) c.in-In.is c.one_at-one.ensures
 
 pub overflow_add-line : goal.overflow_add-line
 overflow_add-line c = omega (arith, c.loop-n-test.true, c.numbered-most.ensures)
@@ -77,7 +77,7 @@ loop-n-preserved c =
       omega (arith, t.few),
       v.auto.counts ∙ s.invariant.2,
       v.auto.refs ∙ s.invariant.3,
-      λ bs. run_one a.path-nos.now a.coords.now a.paths.now a.line.0 a.place s.n a.made a.counts.now a.refs.now s.counts s.refs _ _ _
+      λ bs. run_one a.path_nos.now a.coords.now a.paths.now a.line.0 a.place s.n a.made a.counts.now a.refs.now s.counts s.refs _ _ _
           s.invariant.3 (omega (arith, c.loop-n-test.true, c.numbered-most.ensures)) t v.ensures.0 v.ensures.1 bs (s.invariant.4 bs),
     )
 

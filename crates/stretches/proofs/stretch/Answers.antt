@@ -36,7 +36,7 @@ returns-then-path_nos-at c =
       lent = i.0;
       order = i.1;
       fits = i.2;
-      other = λ z e. c.if-path_nos-at.true (ap (λ (m : ℕ). get_or a.path-nos.now (a.k + m) 0) z ∙ ap (λ (m : ℕ). get_or a.path-nos.now m 0) (add-zero a.k) ∙ e);
+      other = λ z e. c.if-path_nos-at.true (ap (λ (m : ℕ). get_or a.path_nos.now (a.k + m) 0) z ∙ ap (λ (m : ℕ). get_or a.path_nos.now m 0) (add-zero a.k) ∙ e);
     }
 
 pub bounds-line_nos-at : goal.bounds-line_nos-at
@@ -53,8 +53,8 @@ returns-then-line_nos-at c =
       lent = i.0;
       order = i.1;
       fits = i.2;
-      other = λ z e. c.if-line_nos-at.true (ap (λ (m : ℕ). get_or a.line-nos.now (a.k + m) 0) z ∙ ap (λ (m : ℕ). get_or a.line-nos.now m 0) (add-zero a.k)
-          ∙ sym (ap (λ (m : ℕ). get_or a.line-nos.now a.k 0 + m) z ∙ add-zero (get_or a.line-nos.now a.k 0)));
+      other = λ z e. c.if-line_nos-at.true (ap (λ (m : ℕ). get_or a.line_nos.now (a.k + m) 0) z ∙ ap (λ (m : ℕ). get_or a.line_nos.now m 0) (add-zero a.k)
+          ∙ sym (ap (λ (m : ℕ). get_or a.line_nos.now a.k 0 + m) z ∙ add-zero (get_or a.line_nos.now a.k 0)));
     }
 
 pub loop-n-smaller : goal.loop-n-smaller
@@ -65,7 +65,7 @@ loop-n-preserved c =
     let a = c.args in
     let i = c.loop-n.invariant in (
       omega (arith, c.if-at-path_nos.false),
-      in_order_more a.path a.line-nos.now a.path-nos.now a.k c.loop-n.n i.1 c.if-path_nos-at.false c.if-line_nos-at.false,
+      in_order_more a.path a.line_nos.now a.path_nos.now a.k c.loop-n.n i.1 c.if-path_nos-at.false c.if-line_nos-at.false,
       omega (arith, c.if-line_nos-at.false, c.shared_slice_known-in-loop-n-2-1.given (a.k + c.loop-n.n)),
     )
 

@@ -92,15 +92,15 @@ write_line-requires c =
       rows (goal.at.write_line-requires c).After-clip_to-clip,
       (kept (goal.at.write_line-requires c).After-clip_to-clip).onward,
       (kept (goal.at.write_line-requires c).After-clip_to-clip).last,
-      c.check-line.auto.1.1.1.1.1.1.1.1.0 ∙ c.requires.2,
-      c.check-line.ensures.1 fine,
+      c.check_line.auto.1.1.1.1.1.1.1.1.0 ∙ c.requires.2,
+      c.check_line.ensures.1 fine,
       omega (arith, room),
       omega (arith, room),
       subst (λ (xs : List Act). is_done (run_acts (delta_of (not c.args.walk.e.is_down)) c.args.line.0 xs (st_of c.args.backs.now c.args.counts.now c.args.refs.now c.args.made)) ≡ true)
           (sym (acts (goal.at.write_line-requires c).After-clip_to-clip))
           (walk_fine (length c.args.refs.now / ref_words) c.args.line.0 c.args.walk c.args.path k.result k.ensures
           (st_of c.args.backs.now c.args.counts.now c.args.refs.now c.args.made)
-          c.if-imin-imax.false c.if-after-refs.false _ _ c.requires.0 c.requires.1 c.check-line.result (checked (goal.at.write_line-requires c).After-check_line-arg-1) fine),
+          c.if-imin-imax.false c.if-after-refs.false _ _ c.requires.0 c.requires.1 c.check_line.result (checked (goal.at.write_line-requires c).After-check_line-arg-1) fine),
     )
 
 pub returns : goal.returns

@@ -19,7 +19,7 @@ pub loop-y-init : goal.loop-y-init
 loop-y-init c = (le_refl _, refl)
 
 -- the row's tile is lent
-below : (c : In-loop-y invariant-loop decreases-loop) → c.args.rows.first +
+below : (c : In-loop-y) → c.args.rows.first +
     (c.loop-y.y - c.args.rows.top) * c.args.rows.width < length
     c.args.backs.now
 below c =
@@ -44,7 +44,7 @@ pub bounds-backs-t : goal.bounds-backs-t
 bounds-backs-t c = below c
 
 -- what `leaves` says of the backdrop itself
-said : (c : After-leaves invariant-loop decreases-loop) → c.leaves.result ≡ not
+said : (c : After-leaves) → c.leaves.result ≡ not
     (in_i32 (get_or c.args.backs.now
     (c.args.rows.first +
     (c.loop-y.y - c.args.rows.top) * c.args.rows.width) (pos 0) +ℤ delta_of c.args.up))

@@ -17,12 +17,12 @@ pub loop-y-init : goal.loop-y-init
 loop-y-init c = (le_refl _, refl, refl)
 
 -- the row's tile is lent
-below : (c : In-loop-y invariant-loop decreases-loop) → c.args.rows.first +
+below : (c : In-loop-y) → c.args.rows.first +
     (c.loop-y.y - c.args.rows.top) * c.args.rows.width < length c.args.backs.now
 below c = row_below c.args.rows (length c.args.backs.now) c.loop-y.y c.requires.0 c.loop-y.invariant.0 c.loop-y-test.true
 
 -- the mark stays within i32, since all goes through
-fine : (c : In-loop-y invariant-loop decreases-loop) → in_i32 (get_or c.loop-y.backs
+fine : (c : In-loop-y) → in_i32 (get_or c.loop-y.backs
     (c.args.rows.first + (c.loop-y.y - c.args.rows.top) * c.args.rows.width)
     (pos 0) +ℤ delta_of c.args.up) ≡ true
 fine c = mark_ok _ _ _ _ _ _ _ (run_first _ _ _ _ (rows_turn _ _ _ c.loop-y.y _ c.loop-y-test.true) _ _ (ap is_done c.loop-y.invariant.2 ∙ c.requires.1))

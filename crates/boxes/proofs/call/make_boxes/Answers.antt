@@ -19,41 +19,41 @@ use Rattle.boxes.proofs.call.make_boxes.Goals as goal
 pub returns-in-Against : goal.returns-in-Against
 returns-in-Against c =
     let s = c.args in
-    boxes_lent s.path-nos.now s.coords.now s.beams.now s.margin s.paths.now s.work.now _ (sym c.check_lent-v.ensures ∙ c.in-Against.is)
+    boxes_lent s.path_nos.now s.coords.now s.beams.now s.margin s.paths.now s.work.now _ (sym c.check_lent-v.ensures ∙ c.in-Against.is)
 
 pub overflow_cast-n : goal.overflow_cast-n
 overflow_cast-n c =
     let s = c.args in
     let fine = sym c.check_lent-v.ensures ∙ c.in_default.is in
-    let k = lent_told (length s.path-nos.now) (length s.coords.now) (length s.paths.now) (length s.beams.now) (length s.work.now) fine in
+    let k = lent_told (length s.path_nos.now) (length s.coords.now) (length s.paths.now) (length s.beams.now) (length s.work.now) fine in
     record { fits = omega (arith, k.few, small.paths) }
 
 pub check_lines-a-requires : goal.check_lines-a-requires
 check_lines-a-requires c =
     let s = c.args in
     let fine = sym c.check_lent-v.ensures ∙ c.in_default.is in
-    let k = lent_told (length s.path-nos.now) (length s.coords.now) (length s.paths.now) (length s.beams.now) (length s.work.now) fine in
+    let k = lent_told (length s.path_nos.now) (length s.coords.now) (length s.paths.now) (length s.beams.now) (length s.work.now) fine in
     k.lines
 
 pub returns-in-Refused : goal.returns-in-Refused
 returns-in-Refused c =
     let s = c.args in
     let fine = sym c.check_lent-v.ensures ∙ c.in_default.is in
-    let k = lent_told (length s.path-nos.now) (length s.coords.now) (length s.paths.now) (length s.beams.now) (length s.work.now) fine in
-    boxes_line s.path-nos.now s.coords.now s.beams.now s.margin s.paths.now s.work.now fine _ _ (sym c.check_lines-a.ensures ∙ c.in-Refused.is)
+    let k = lent_told (length s.path_nos.now) (length s.coords.now) (length s.paths.now) (length s.beams.now) (length s.work.now) fine in
+    boxes_line s.path_nos.now s.coords.now s.beams.now s.margin s.paths.now s.work.now fine _ _ (sym c.check_lines-a.ensures ∙ c.in-Refused.is)
 
 pub clear_words-requires : goal.clear_words-requires
 clear_words-requires c =
     let s = c.args in
     let fine = sym c.check_lent-v.ensures ∙ c.in_default.is in
-    let k = lent_told (length s.path-nos.now) (length s.coords.now) (length s.paths.now) (length s.beams.now) (length s.work.now) fine in
+    let k = lent_told (length s.path_nos.now) (length s.coords.now) (length s.paths.now) (length s.beams.now) (length s.work.now) fine in
     omega (arith, k.room)
 
 pub gather-requires : goal.gather-requires
 gather-requires c =
     let s = c.args in
     let fine = sym c.check_lent-v.ensures ∙ c.in_default.is in
-    let k = lent_told (length s.path-nos.now) (length s.coords.now) (length s.paths.now) (length s.beams.now) (length s.work.now) fine in (
+    let k = lent_told (length s.path_nos.now) (length s.coords.now) (length s.paths.now) (length s.beams.now) (length s.work.now) fine in (
       k.lines,
       omega (arith, k.room, c.clear_words.auto.words),
       sym c.check_lines-a.ensures ∙ c.in_default-a.is,
@@ -63,14 +63,14 @@ pub total-tiles-requires : goal.total-tiles-requires
 total-tiles-requires c =
     let s = c.args in
     let fine = sym c.check_lent-v.ensures ∙ c.in_default.is in
-    let k = lent_told (length s.path-nos.now) (length s.coords.now) (length s.paths.now) (length s.beams.now) (length s.work.now) fine in
+    let k = lent_told (length s.path_nos.now) (length s.coords.now) (length s.paths.now) (length s.beams.now) (length s.work.now) fine in
     (omega (arith, k.room, c.clear_words.auto.words, c.gather.auto.work), k.few)
 
 pub clear_words-requires-then-tiles : goal.clear_words-requires-then-tiles
 clear_words-requires-then-tiles c =
     let s = c.args in
     let fine = sym c.check_lent-v.ensures ∙ c.in_default.is in
-    let k = lent_told (length s.path-nos.now) (length s.coords.now) (length s.paths.now) (length s.beams.now) (length s.work.now) fine in
+    let k = lent_told (length s.path_nos.now) (length s.coords.now) (length s.paths.now) (length s.beams.now) (length s.work.now) fine in
     omega (
       arith,
       k.room,
@@ -82,19 +82,19 @@ pub returns-then-tiles : goal.returns-then-tiles
 returns-then-tiles c =
     let s = c.args in
     let fine = sym c.check_lent-v.ensures ∙ c.in_default.is in
-    let k = lent_told (length s.path-nos.now) (length s.coords.now) (length s.paths.now) (length s.beams.now) (length s.work.now) fine in
-    let w : c.gather.new.work ≡ full_of s.path-nos.now s.coords.now (length s.beams.now) s.work.now =
-    c.gather.ensures ∙ ap (gather_from s.path-nos.now s.coords.now (length s.path-nos.now) 0)
+    let k = lent_told (length s.path_nos.now) (length s.coords.now) (length s.paths.now) (length s.beams.now) (length s.work.now) fine in
+    let w : c.gather.new.work ≡ full_of s.path_nos.now s.coords.now (length s.beams.now) s.work.now =
+    c.gather.ensures ∙ ap (gather_from s.path_nos.now s.coords.now (length s.path_nos.now) 0)
     c.clear_words.ensures in
     let t = c.total-tiles.ensures ∙ ap (λ (ws : List ℕ). sum (map (λ k. area_of_word (box_in ws s.margin k 0)) (from 0 (length s.beams.now)))) w in
-    boxes_many s.path-nos.now s.coords.now s.beams.now s.margin s.paths.now s.work.now fine (sym c.check_lines-a.ensures ∙ c.in_default-a.is) c.total-tiles.result t c.if-tiles.true _
+    boxes_many s.path_nos.now s.coords.now s.beams.now s.margin s.paths.now s.work.now fine (sym c.check_lines-a.ensures ∙ c.in_default-a.is) c.total-tiles.result t c.if-tiles.true _
     (c.clear_words-then-tiles.ensures ∙ ap (cleared_of 0 0 (length s.beams.now * box_words)) w)
 
 pub put_records-requires : goal.put_records-requires
 put_records-requires c =
     let s = c.args in
     let fine = sym c.check_lent-v.ensures ∙ c.in_default.is in
-    let k = lent_told (length s.path-nos.now) (length s.coords.now) (length s.paths.now) (length s.beams.now) (length s.work.now) fine in
+    let k = lent_told (length s.path_nos.now) (length s.coords.now) (length s.paths.now) (length s.beams.now) (length s.work.now) fine in
     let long = c.clear_words.auto.words in
     let same = c.gather.auto.work in
     let few : sum (map (λ k. area_of_word (box_in c.gather.new.work s.margin k 0)) (from 0 (length s.beams.now))) ≡ c.total-tiles.result = sym c.total-tiles.ensures in
@@ -104,7 +104,7 @@ pub clear_words-requires-2 : goal.clear_words-requires-2
 clear_words-requires-2 c =
     let s = c.args in
     let fine = sym c.check_lent-v.ensures ∙ c.in_default.is in
-    let k = lent_told (length s.path-nos.now) (length s.coords.now) (length s.paths.now) (length s.beams.now) (length s.work.now) fine in
+    let k = lent_told (length s.path_nos.now) (length s.coords.now) (length s.paths.now) (length s.beams.now) (length s.work.now) fine in
     omega (
       arith,
       k.room,
@@ -116,12 +116,12 @@ pub returns : goal.returns
 returns c =
     let s = c.args in
     let fine = sym c.check_lent-v.ensures ∙ c.in_default.is in
-    let k = lent_told (length s.path-nos.now) (length s.coords.now) (length s.paths.now) (length s.beams.now) (length s.work.now) fine in
-    let w : c.gather.new.work ≡ full_of s.path-nos.now s.coords.now (length s.beams.now) s.work.now =
-    c.gather.ensures ∙ ap (gather_from s.path-nos.now s.coords.now (length s.path-nos.now) 0) c.clear_words.ensures in
+    let k = lent_told (length s.path_nos.now) (length s.coords.now) (length s.paths.now) (length s.beams.now) (length s.work.now) fine in
+    let w : c.gather.new.work ≡ full_of s.path_nos.now s.coords.now (length s.beams.now) s.work.now =
+    c.gather.ensures ∙ ap (gather_from s.path_nos.now s.coords.now (length s.path_nos.now) 0) c.clear_words.ensures in
     let t = c.total-tiles.ensures ∙ ap (λ (ws : List ℕ). sum (map (λ k. area_of_word (box_in ws s.margin k
     0)) (from 0 (length s.beams.now)))) w in
-    boxes_done s.path-nos.now s.coords.now s.beams.now s.margin s.paths.now s.work.now fine (sym c.check_lines-a.ensures ∙ c.in_default-a.is) c.total-tiles.result t c.if-tiles.false _ _
+    boxes_done s.path_nos.now s.coords.now s.beams.now s.margin s.paths.now s.work.now fine (sym c.check_lines-a.ensures ∙ c.in_default-a.is) c.total-tiles.result t c.if-tiles.false _ _
     (c.put_records.ensures ∙ ap (λ (ws : List ℕ). sets s.paths.now 0 (records_from (box_in ws s.margin) s.beams.now
     (length s.beams.now) 0 0)) w)
     (c.clear_words-2.ensures ∙ ap (cleared_of 0 0 (length s.beams.now * box_words)) w)

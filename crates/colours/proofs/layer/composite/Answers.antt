@@ -1,4 +1,5 @@
 -- `colours::layer::composite` meets its contract. The invariant: the rows above y are done. Assumes nothing.
+use mathlib.Core.List.{[]}
 use mathlib.Core.Path.{◌∙◌}
 use Prim.Native.Nat.{◌-◌}
 use native.Mathlib.Omega.{arith}

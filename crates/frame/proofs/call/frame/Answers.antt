@@ -22,7 +22,7 @@ returns-in-Refused c =
 pub draw-requires : goal.draw-requires
 draw-requires c =
     let a = c.args in
-    let fine = all_ok (lent_checks (length a.path-nos.now) (length a.coords.now) (length a.backdrops.now) (length a.stored.now)
+    let fine = all_ok (lent_checks (length a.path_nos.now) (length a.coords.now) (length a.backdrops.now) (length a.stored.now)
     (length a.tally.now) (length a.refs.now) (length a.segments.now) (length a.tags.now))
     (sym c.check_lent-v.ensures ∙ c.in_default.is) in (
       sym c.check_paths-a.ensures ∙ c.in_default-a.is,

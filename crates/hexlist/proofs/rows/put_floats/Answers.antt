@@ -1,7 +1,6 @@
 -- `hexlist::rows::put_floats` meets its contract: the first i elements are done, each turn does one more, and all are at the end. Assumes nothing.
 use borrow.Author.Rules.{rules}
 use mathlib.Core.Path.{refl, ap, ◌∙◌}
-use Prim.Native.Nat.{◌-◌}
 use native.Mathlib.Omega.{arith}
 use lib.ListN.{length-set}
 use lib.Ieee.{nan, binary32, of_bits}

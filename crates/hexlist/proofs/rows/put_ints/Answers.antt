@@ -1,10 +1,10 @@
 -- `hexlist::rows::put_ints` meets its contract: the first i elements are done, each turn does one more, and all are at the end. Assumes nothing.
 use borrow.Author.Rules.{rules}
 use mathlib.Core.Path.{refl, ap, ◌∙◌}
-use Prim.Native.Nat.{◌-◌}
 use native.Mathlib.Omega.{arith}
 use lib.ListN.{length-set}
 use lib.IntN.{pos}
+use mir.Syntax.{w32}
 use mir.Facts.{to_z-of_z}
 use Rattle.hexlist.specs.Rows.{ints_as}
 use Rattle.hexlist.specs.Values.{int_of}
@@ -31,7 +31,7 @@ loop-i-preserved c =
     let l = c.loop-i in (
       search rules,
       put_turn (ints_as a.words.now a.base a.code) (pos 0) a.out.now l.out l.i _ l.invariant.1
-          (to_z-of_z (record { sfits = c.int.type_inv }) ∙ c.int.ensures ∙ ap int_of c.element.ensures),
+          (to_z-of_z {w = w32} (record { sfits = c.int.type_inv }) ∙ c.int.ensures ∙ ap int_of c.element.ensures),
     )
 
 pub shape_of-out : goal.shape_of-out

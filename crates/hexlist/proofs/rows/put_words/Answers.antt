@@ -1,7 +1,6 @@
 -- `hexlist::rows::put_words` meets its contract: the first i elements are done, each turn does one more, and all are at the end. Assumes nothing.
 use borrow.Author.Rules.{rules}
 use mathlib.Core.Path.{refl}
-use Prim.Native.Nat.{◌-◌}
 use native.Mathlib.Omega.{arith}
 use lib.ListN.{length-set}
 use Rattle.hexlist.specs.Rows.{words_as}

@@ -2,7 +2,7 @@
 use borrow.Author.Rules.{rules}
 use mathlib.Core.Path.{◌≡◌, refl, sym, ap, ◌∙◌}
 use mathlib.Core.Bool.{Bool}
-use Prim.Native.Nat.{ℕ, ◌<◌, ◌-◌}
+use Prim.Native.Nat.{ℕ, ◌<◌}
 use lib.ListN.{get_or}
 use lib.IntN.{ℤ, pos}
 use lib.Signed.{mag}
@@ -32,7 +32,7 @@ returns-then-not-is_int c =
     let a = c.args in
     let l = c.loop-i in
     row_less is_int (word_of a.words.now a.base a.code) (pos 0) a.found.now l.i c.loop-i-test.true
-    (told (get_or a.found.now l.i (pos 0)) _ _ _ _ c.is_int-arg-1.given c.is_int.ensures
+    (told (get_or a.found.now l.i (pos 0)) _ _ _ _ (search rules) c.is_int.ensures
     c.element.ensures c.if-not-is_int.true) ∙ l.invariant.1
 
 pub loop-i-preserved : goal.loop-i-preserved
@@ -42,7 +42,7 @@ loop-i-preserved c =
       search rules,
       row_more is_int (word_of a.words.now a.base a.code) (pos 0) a.found.now l.i
           c.loop-i-test.true (told (get_or a.found.now l.i (pos 0)) _ _ _ _
-          c.is_int-arg-1.given c.is_int.ensures c.element.ensures c.if-not-is_int.false) ∙ l.invariant.1,
+          (search rules) c.is_int.ensures c.element.ensures c.if-not-is_int.false) ∙ l.invariant.1,
     )
 
 pub returns : goal.returns

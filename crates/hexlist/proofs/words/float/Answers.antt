@@ -1,7 +1,7 @@
 -- `hexlist::words::float` meets its contract. Assumes nothing.
 use borrow.Author.Tests.{lt-ltb, le-ltb}
 use mathlib.Core.Path.{◌≡◌, refl, sym, ◌∙◌}
-use mathlib.Core.Bool.{true, false, false≢true}
+use mathlib.Core.Bool.{true, false≢true}
 use Prim.Native.Nat.{◌%◌}
 use lib.Ieee.{Float, nan, inf, fin, binary32, div, of_bits, is_nan}
 use lib.Ieee.Bits.{nan_bits_is, nan_bits_above}

@@ -29,21 +29,21 @@ loop-l-init c = (
 )
 
 -- the line's place in the room
-fits : (c : Else-l invariant-loop decreases-loop) → c.args.n + c.args.n + c.loop-l.l < length c.loop-l.work
+fits : (c : Else-l) → c.args.n + c.args.n + c.loop-l.l < length c.loop-l.work
 fits c = omega (arith, c.loop-l.invariant.1, c.requires.2, c.loop-l-test.true)
 
 -- the lines before it, once its start is noted
-here : (c : After-own_line-t invariant-loop decreases-loop) → own_to c.args.path_nos.now c.args.coords.now c.args.paths.now c.args.n c.loop-l.l
+here : (c : After-own_line-t) → own_to c.args.path_nos.now c.args.coords.now c.args.paths.now c.args.n c.loop-l.l
     ≡ done (view_of c.args.n (set c.loop-l.work (c.args.n + c.args.n + c.loop-l.l) c.loop-l.made) c.loop-l.made)
 here c = own_here c.args.path_nos.now c.args.coords.now c.args.paths.now c.args.n c.loop-l.l c.loop-l.made c.loop-l.work c.loop-l.work (fits c) c.loop-l.invariant.2
 
 -- the room is as long as before
-long : (c : After-own_line-t invariant-loop decreases-loop) → length c.own_line-t.new.work ≡ length c.args.work.now
+long : (c : After-own_line-t) → length c.own_line-t.new.work ≡ length c.args.work.now
 long c = c.own_line-t.auto.work ∙ length-set c.loop-l.work (c.args.n + c.args.n + c.loop-l.l) c.loop-l.made ∙
     c.loop-l.invariant.1
 
 -- what the line's answer tells
-abbrev Told : (c : After-own_line-t invariant-loop decreases-loop) → Tallied → Type 0
+abbrev Told : (c : After-own_line-t) → Tallied → Type 0
 Told c r = StepAs c.args.n c.own_line-t.new.work c.loop-l.made
     (line_step c.args.path_nos.now c.args.coords.now c.args.paths.now most_slots c.loop-l.l c.loop-l.l
     (view_of c.args.n (set c.loop-l.work (c.args.n + c.args.n + c.loop-l.l) c.loop-l.made) c.loop-l.made)) r
@@ -94,13 +94,13 @@ returns-in-Against c = (
 )
 
 -- the line is taken
-took : (c : In-On invariant-loop decreases-loop) →
+took : (c : In-On) →
     line_step c.args.path_nos.now c.args.coords.now c.args.paths.now most_slots c.loop-l.l c.loop-l.l
     (view_of c.args.n (set c.loop-l.work (c.args.n + c.args.n + c.loop-l.l) c.loop-l.made) c.loop-l.made)
     ≡ taken (view_of c.args.n c.own_line-t.new.work (c.loop-l.made + c.in-On.k))
 took c = subst (Told c) c.in-On.is c.own_line-t.ensures.0
 
-small : (c : In-On invariant-loop decreases-loop) → c.loop-l.made + c.in-On.k < 2 ^ 32
+small : (c : In-On) → c.loop-l.made + c.in-On.k < 2 ^ 32
 small c = own_fits c.args.path_nos.now c.args.coords.now c.args.paths.now c.args.n c.loop-l.l c.loop-l.made c.loop-l.work _ (fits c) c.loop-l.invariant.2 c.loop-l.invariant.4 _ (took c)
 
 pub overflow_add-made : goal.overflow_add-made

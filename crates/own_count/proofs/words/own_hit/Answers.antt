@@ -1,5 +1,6 @@
 -- `own_count::words::own_hit` meets its contract.
 -- Assumes nothing.
+use mathlib.Core.List.{[]}
 use mathlib.Core.Path.{refl}
 use Rattle.acts.proofs.Laws.{own_below}
 use Rattle.own_count.proofs.Ran.{turn_goes, turn_stays}

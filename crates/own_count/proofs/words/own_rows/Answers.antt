@@ -13,7 +13,7 @@ pub loop-y-init : goal.loop-y-init
 loop-y-init c = (le_refl _, refl, λ ws v a. a)
 
 -- the row's tile is one of those lent
-below : (c : In-loop-y invariant-loop decreases-loop) → c.args.rows.first + (c.loop-y.y - c.args.rows.top) * c.args.rows.width < c.args.n
+below : (c : In-loop-y) → c.args.rows.first + (c.loop-y.y - c.args.rows.top) * c.args.rows.width < c.args.n
 below c = row_below c.args.rows c.args.n c.loop-y.y c.requires.0 c.loop-y.invariant.0
     c.loop-y-test.true
 

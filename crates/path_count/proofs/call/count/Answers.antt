@@ -7,13 +7,13 @@ use Rattle.path_count.proofs.call.count.Goals as goal
 pub returns-in-Against : goal.returns-in-Against
 returns-in-Against c =
     let a = c.args in
-    call_no a.running a.end a.path-nos.now a.coords.now a.paths.now a.backdrops.now a.counts.now a.refs.now
+    call_no a.running a.end a.path_nos.now a.coords.now a.paths.now a.backdrops.now a.counts.now a.refs.now
     c.check_lent-v.result c.check_lent-v.ensures _ c.in-Against.is
 
 pub returns-in-Refused : goal.returns-in-Refused
 returns-in-Refused c =
     let a = c.args in
-    call_path a.running a.end a.path-nos.now a.coords.now a.paths.now a.backdrops.now a.counts.now a.refs.now
+    call_path a.running a.end a.path_nos.now a.coords.now a.paths.now a.backdrops.now a.counts.now a.refs.now
     c.check_lent-v.result c.check_lent-v.ensures
     c.in_default.is c.check_paths-a.result
     c.check_paths-a.ensures _ _ c.in-Refused.is

@@ -33,17 +33,17 @@ ones_if-s-requires c =
     (subst (λ (m : ℕ). paths_answer a.paths.now m ≡ Done) (sym s.invariant.2) p.0.passed, c.loop-s-test.true, p.2, p.3, p.5)
 
 -- what is left after the run says what all says
-left : (c : After-ones_if-s invariant-loop decreases-loop) →
+left : (c : After-ones_if-s) →
     let a = c.args in
     let r = c.ones_if-s in
-    batch_from a.base a.path-nos.now a.coords.now a.paths.now (length a.refs.now / ref_words) r.result.lines a.end (st_of c.loop-s.backs r.new.counts r.new.refs r.result.refs)
-    ≡ batch_from a.base a.path-nos.now a.coords.now a.paths.now (length a.refs.now / ref_words) a.running.lines a.end (st_of a.backs.now a.counts.now a.refs.now a.running.refs)
+    batch_from a.base a.path_nos.now a.coords.now a.paths.now (length a.refs.now / ref_words) r.result.lines a.end (st_of c.loop-s.backs r.new.counts r.new.refs r.result.refs)
+    ≡ batch_from a.base a.path_nos.now a.coords.now a.paths.now (length a.refs.now / ref_words) a.running.lines a.end (st_of a.backs.now a.counts.now a.refs.now a.running.refs)
 left c =
     let a = c.args in
     let s = c.loop-s in
     let r = c.ones_if-s in
-    subst (λ (m : ℕ). batch_from a.base a.path-nos.now a.coords.now a.paths.now (m / ref_words) r.result.lines a.end (st_of c.loop-s.backs r.new.counts r.new.refs r.result.refs)
-    ≡ batch_from a.base a.path-nos.now a.coords.now a.paths.now (m / ref_words) s.s.lines a.end (st_of s.backs s.counts s.refs s.s.refs))
+    subst (λ (m : ℕ). batch_from a.base a.path_nos.now a.coords.now a.paths.now (m / ref_words) r.result.lines a.end (st_of c.loop-s.backs r.new.counts r.new.refs r.result.refs)
+    ≡ batch_from a.base a.path_nos.now a.coords.now a.paths.now (m / ref_words) s.s.lines a.end (st_of s.backs s.counts s.refs s.s.refs))
     s.invariant.3 (r.ensures.2 s.backs)
     ∙ s.invariant.4
 
@@ -66,7 +66,7 @@ returns-then-s-end c =
     let r = c.ones_if-s in
     let s = st_of c.loop-s.backs r.new.counts r.new.refs r.result.refs in
     batch_through a.base a.end r.result.lines s _ c.if-s-end.true
-    (batch_ends (λ l. line_step a.path-nos.now a.coords.now a.paths.now (length a.refs.now / ref_words) (a.base + l) l) r.result.lines a.end s _ (omega (arith, c.if-s-end.true)) (left (goal.at.returns-then-s-end c).After-ones_if-s))
+    (batch_ends (λ l. line_step a.path_nos.now a.coords.now a.paths.now (length a.refs.now / ref_words) (a.base + l) l) r.result.lines a.end s _ (omega (arith, c.if-s-end.true)) (left (goal.at.returns-then-s-end c).After-ones_if-s))
 
 pub count_at-t-requires : goal.count_at-t-requires
 count_at-t-requires c =
@@ -85,18 +85,18 @@ pub overflow_add-result : goal.overflow_add-result
 overflow_add-result c = omega (arith, c.ones_if-s.ensures.1, c.if-s-end.false, c.requires.5)
 
 -- what the line's answer says, with the room as it was at the start
-said : (c : After-count_at-t invariant-loop decreases-loop) →
+said : (c : After-count_at-t) →
     let a = c.args in
     let r = c.ones_if-s in
     let t = c.count_at-t in
     let s = st_of c.loop-s.backs r.new.counts r.new.refs r.result.refs in
-    tally_ran t.result (st_of t.new.backs t.new.counts t.new.refs) r.result.refs ≡ line_ran (line_step a.path-nos.now a.coords.now a.paths.now (length a.refs.now / ref_words) (a.base + r.result.lines) r.result.lines s) s
+    tally_ran t.result (st_of t.new.backs t.new.counts t.new.refs) r.result.refs ≡ line_ran (line_step a.path_nos.now a.coords.now a.paths.now (length a.refs.now / ref_words) (a.base + r.result.lines) r.result.lines s) s
 said c =
     let a = c.args in
     let r = c.ones_if-s in
     let s = st_of c.loop-s.backs r.new.counts r.new.refs r.result.refs in
     c.count_at-t.ensures
-    ∙ ap (λ (n : ℕ). line_ran (line_step a.path-nos.now a.coords.now a.paths.now (n / ref_words) (a.base + r.result.lines) r.result.lines s) s)
+    ∙ ap (λ (n : ℕ). line_ran (line_step a.path_nos.now a.coords.now a.paths.now (n / ref_words) (a.base + r.result.lines) r.result.lines s) s)
     (r.auto.refs ∙ c.loop-s.invariant.3)
 
 pub shape_of-notes-in_default : goal.shape_of-notes-in_default
@@ -121,23 +121,23 @@ returns-in_default c =
     let n = g.0.0 in
     let s = st_of c.loop-s.backs r.new.counts r.new.refs r.result.refs in
     let h : r.result.lines < a.end = omega (arith, r.ensures.1, c.if-s-end.false) in
-    let e = ran_halted (line_step a.path-nos.now a.coords.now a.paths.now (length a.refs.now / ref_words) (a.base + r.result.lines) r.result.lines s) s _ n
+    let e = ran_halted (line_step a.path_nos.now a.coords.now a.paths.now (length a.refs.now / ref_words) (a.base + r.result.lines) r.result.lines s) s _ n
     (sym (ap (λ (x : Tallied). tally_ran x (st_of t.new.backs t.new.counts t.new.refs) r.result.refs) g.1) ∙ said (goal.at.returns-in_default c).After-count_at-t) in
     batch_refused a.base a.end _ _ n s _ _ (c.number.ensures ∙ ap number_of g.1) e.1
-    (batch_stops (λ l. line_step a.path-nos.now a.coords.now a.paths.now (length a.refs.now / ref_words) (a.base + l) l) r.result.lines a.end s h _ (left (goal.at.returns-in_default c).After-ones_if-s) n e.0)
+    (batch_stops (λ l. line_step a.path_nos.now a.coords.now a.paths.now (length a.refs.now / ref_words) (a.base + l) l) r.result.lines a.end s h _ (left (goal.at.returns-in_default c).After-ones_if-s) n e.0)
 
 -- the line is taken
-took : (c : In-On-2 invariant-loop decreases-loop) →
+took : (c : In-On-2) →
     let a = c.args in
     let r = c.ones_if-s in
     let t = c.count_at-t in
-    line_step a.path-nos.now a.coords.now a.paths.now (length a.refs.now / ref_words) (a.base + r.result.lines) r.result.lines (st_of c.loop-s.backs r.new.counts r.new.refs r.result.refs) ≡ taken (st_of t.new.backs t.new.counts t.new.refs (r.result.refs + c.in-On.n))
+    line_step a.path_nos.now a.coords.now a.paths.now (length a.refs.now / ref_words) (a.base + r.result.lines) r.result.lines (st_of c.loop-s.backs r.new.counts r.new.refs r.result.refs) ≡ taken (st_of t.new.backs t.new.counts t.new.refs (r.result.refs + c.in-On.n))
 took c =
     let a = c.args in
     let r = c.ones_if-s in
     let t = c.count_at-t in
     let s = st_of c.loop-s.backs r.new.counts r.new.refs r.result.refs in
-    ran_taken (line_step a.path-nos.now a.coords.now a.paths.now (length a.refs.now / ref_words) (a.base + r.result.lines) r.result.lines s) s _
+    ran_taken (line_step a.path_nos.now a.coords.now a.paths.now (length a.refs.now / ref_words) (a.base + r.result.lines) r.result.lines s) s _
     (sym (ap (λ (x : Tallied). tally_ran x (st_of t.new.backs t.new.counts t.new.refs) r.result.refs) c.in-On.is) ∙ said c)
 
 pub stepped-s-requires : goal.stepped-s-requires
@@ -145,7 +145,7 @@ stepped-s-requires c =
     let a = c.args in
     let r = c.ones_if-s in (
       omega (arith, c.well_formed, r.ensures.1, c.if-s-end.false),
-      line_made a.path-nos.now a.coords.now a.paths.now (length a.refs.now / ref_words) (a.base + r.result.lines) r.result.lines (st_of c.loop-s.backs r.new.counts r.new.refs r.result.refs) _ (omega (arith, c.struct_known-in-loop-s-1.given)) (took (goal.at.stepped-s-requires c).In-On-2),
+      line_made a.path_nos.now a.coords.now a.paths.now (length a.refs.now / ref_words) (a.base + r.result.lines) r.result.lines (st_of c.loop-s.backs r.new.counts r.new.refs r.result.refs) _ (omega (arith, c.struct_known-in-loop-s-1.given)) (took (goal.at.stepped-s-requires c).In-On-2),
     )
 
 pub loop-s-smaller : goal.loop-s-smaller
@@ -164,7 +164,7 @@ loop-s-preserved c =
       t.auto.backs ∙ s.invariant.1,
       t.auto.counts ∙ r.auto.counts ∙ s.invariant.2,
       t.auto.refs ∙ r.auto.refs ∙ s.invariant.3,
-      batch_goes (λ l. line_step a.path-nos.now a.coords.now a.paths.now (length a.refs.now / ref_words) (a.base + l) l) r.result.lines a.end (st_of c.loop-s.backs r.new.counts r.new.refs r.result.refs) h _ (left (goal.at.loop-s-preserved c).After-ones_if-s) _ (took (goal.at.loop-s-preserved c).In-On-2),
+      batch_goes (λ l. line_step a.path_nos.now a.coords.now a.paths.now (length a.refs.now / ref_words) (a.base + l) l) r.result.lines a.end (st_of c.loop-s.backs r.new.counts r.new.refs r.result.refs) h _ (left (goal.at.loop-s-preserved c).After-ones_if-s) _ (took (goal.at.loop-s-preserved c).In-On-2),
       t.auto.notes ∙ s.invariant.5,
     )
 
@@ -185,4 +185,4 @@ returns c =
     let a = c.args in
     let s = c.loop-s in
     batch_through a.base a.end s.s.lines (st_of s.backs s.counts s.refs s.s.refs) _ (omega (arith, c.loop-s-test.false, s.invariant.0))
-    (batch_ends (λ l. line_step a.path-nos.now a.coords.now a.paths.now (length a.refs.now / ref_words) (a.base + l) l) s.s.lines a.end (st_of s.backs s.counts s.refs s.s.refs) _ c.loop-s-test.false s.invariant.4)
+    (batch_ends (λ l. line_step a.path_nos.now a.coords.now a.paths.now (length a.refs.now / ref_words) (a.base + l) l) s.s.lines a.end (st_of s.backs s.counts s.refs s.s.refs) _ c.loop-s-test.false s.invariant.4)

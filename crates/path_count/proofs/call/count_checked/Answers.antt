@@ -12,21 +12,21 @@ pub returns-in-Against : goal.returns-in-Against
 returns-in-Against c =
     let a = c.args in
     let v = c.check_lent-v in
-    call_no a.running a.end a.path-nos.now a.coords.now a.paths.now a.backdrops.now a.counts.now a.refs.now v.result v.ensures _ c.in-Against.is
+    call_no a.running a.end a.path_nos.now a.coords.now a.paths.now a.backdrops.now a.counts.now a.refs.now v.result v.ensures _ c.in-Against.is
 
 pub count_batch-requires : goal.count_batch-requires
 count_batch-requires c =
     let a = c.args in
     let fine = sym c.check_lent-v.ensures ∙ c.in_default.is in
     let k =
-    ranged (length a.path-nos.now) (length a.coords.now) (length a.backdrops.now) (length a.counts.now) (length a.refs.now) a.running.lines a.end fine in
+    ranged (length a.path_nos.now) (length a.coords.now) (length a.backdrops.now) (length a.counts.now) (length a.refs.now) a.running.lines a.end fine in
     (record { paired = k.paired; passed = c.requires }, k.forward, k.numbered, k.whole, refl, omega (arith, c.well_formed))
 
 pub returns : goal.returns
 returns c =
     let a = c.args in
     let v = c.check_lent-v in
-    call_goes a.running a.end a.path-nos.now a.coords.now a.paths.now a.backdrops.now a.counts.now a.refs.now v.result v.ensures
+    call_goes a.running a.end a.path_nos.now a.coords.now a.paths.now a.backdrops.now a.counts.now a.refs.now v.result v.ensures
     c.in_default.is _ refl _ c.requires
-    (c.count_batch.ensures ∙ from_zero a.path-nos.now a.coords.now a.paths.now (length a.refs.now / ref_words) a.running.lines a.end
+    (c.count_batch.ensures ∙ from_zero a.path_nos.now a.coords.now a.paths.now (length a.refs.now / ref_words) a.running.lines a.end
     (st_of a.backdrops.now a.counts.now a.refs.now a.running.refs))

@@ -15,6 +15,6 @@ returns c =
     let h : a.s.lines + n.result ≤ a.end = omega (arith, c.requires.1, n.ensures.0) in (
       omega arith,
       h,
-      λ bs. ones_left a.path-nos.now a.coords.now a.paths.now (length a.refs.now / ref_words) a.base a.s.lines a.end n.result
+      λ bs. ones_left a.path_nos.now a.coords.now a.paths.now (length a.refs.now / ref_words) a.base a.s.lines a.end n.result
           (st_of bs a.counts.now a.refs.now a.s.refs) _ h (n.ensures.2 bs),
     )

@@ -10,7 +10,7 @@ pub returns-in-Refused : goal.returns-in-Refused
 returns-in-Refused c =
     let a = c.args in
     let k = c.check_call-a in
-    sizes_refused a.path-nos.now a.coords.now a.paths.now a.cols a.rows k.result k.ensures _ _
+    sizes_refused a.path_nos.now a.coords.now a.paths.now a.cols a.rows k.result k.ensures _ _
     c.in-Refused.is
 
 -- the checks are passed
@@ -19,7 +19,7 @@ fine : (c : In_default) → Passed (length c.args.path_nos.now) (length
     c.args.cols c.args.rows
 fine c =
     let a = c.args in
-    passed (length a.path-nos.now) (length a.coords.now) a.paths.now a.cols a.rows
+    passed (length a.path_nos.now) (length a.coords.now) a.paths.now a.cols a.rows
     (sym c.check_call-a.ensures ∙ c.in_default.is)
 
 pub size_lines-refs-requires : goal.size_lines-refs-requires
@@ -37,7 +37,7 @@ returns-in-Refused-refs c =
     let k = c.check_call-a in
     let t = c.tiles_of-tiles in
     let w = c.words_of-words in
-    sizes_measured a.path-nos.now a.coords.now a.paths.now a.cols a.rows k.result k.ensures
+    sizes_measured a.path_nos.now a.coords.now a.paths.now a.cols a.rows k.result k.ensures
     c.in_default.is _ t.result w.result (sym c.in-Refused-refs.is
     ∙ c.size_lines-refs.ensures) t.ensures w.ensures _ refl
 
@@ -47,6 +47,6 @@ returns-in-Made c =
     let k = c.check_call-a in
     let t = c.tiles_of-tiles in
     let w = c.words_of-words in
-    sizes_measured a.path-nos.now a.coords.now a.paths.now a.cols a.rows k.result k.ensures
+    sizes_measured a.path_nos.now a.coords.now a.paths.now a.cols a.rows k.result k.ensures
     c.in_default.is _ t.result w.result (sym c.in-Made.is
     ∙ c.size_lines-refs.ensures) t.ensures w.ensures _ refl

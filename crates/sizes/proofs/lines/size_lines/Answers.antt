@@ -21,8 +21,8 @@ pub returns-then-l : goal.returns-then-l
 returns-then-l c =
     let a = c.args in
     let l = c.loop-l in
-    refs_stops a.path-nos.now a.coords.now a.paths.now l.l l.made l.invariant.3 c.loop-l-test.true _
-    (line_over a.path-nos.now a.coords.now a.paths.now l.l l.made c.if-l.true)
+    refs_stops a.path_nos.now a.coords.now a.paths.now l.l l.made l.invariant.3 c.loop-l-test.true _
+    (line_over a.path_nos.now a.coords.now a.paths.now l.l l.made c.if-l.true)
 
 pub overflow_cast-l : goal.overflow_cast-l
 overflow_cast-l c = omega (arith, c.if-l.false)
@@ -37,22 +37,22 @@ pub returns-in-Against : goal.returns-in-Against
 returns-in-Against c =
     let a = c.args in
     let l = c.loop-l in
-    refs_stops a.path-nos.now a.coords.now a.paths.now l.l l.made l.invariant.3 c.loop-l-test.true _
+    refs_stops a.path_nos.now a.coords.now a.paths.now l.l l.made l.invariant.3 c.loop-l-test.true _
     (sym c.size_line-t.ensures ∙ ap (tallied_size l.made) c.in-Against.is)
 
 -- the line is taken
-took : (c : In-On-2 invariant-loop decreases-loop)
+took : (c : In-On-2)
     → line_size c.args.path_nos.now
     c.args.coords.now
     c.args.paths.now c.loop-l.l
     c.loop-l.made ≡ taken (c.loop-l.made + c.in-On.k)
 took c = sym c.size_line-t.ensures ∙ ap (tallied_size c.loop-l.made) c.in-On.is
 
-small : (c : In-On-2 invariant-loop decreases-loop) → c.loop-l.made + c.in-On.k ≤ most_slots
+small : (c : In-On-2) → c.loop-l.made + c.in-On.k ≤ most_slots
 small c =
     let a = c.args in
     let l = c.loop-l in
-    line_few a.path-nos.now a.coords.now a.paths.now l.l l.made _ l.invariant.2 (took c)
+    line_few a.path_nos.now a.coords.now a.paths.now l.l l.made _ l.invariant.2 (took c)
 
 pub overflow_add-made : goal.overflow_add-made
 overflow_add-made c = record { fits = omega (arith, small (goal.at.overflow_add-made c).In-On-2) }
@@ -71,11 +71,11 @@ loop-l-preserved c =
       omega (arith, h),
       omega (arith, c.if-l.false),
       small (goal.at.loop-l-preserved c).In-On-2,
-      lines_goes a.path-nos.now a.coords.now a.paths.now l.l (length a.path-nos.now) l.made _ l.invariant.3 h _ (took (goal.at.loop-l-preserved c).In-On-2),
+      lines_goes a.path_nos.now a.coords.now a.paths.now l.l (length a.path_nos.now) l.made _ l.invariant.3 h _ (took (goal.at.loop-l-preserved c).In-On-2),
     )
 
 pub returns : goal.returns
 returns c =
     let a = c.args in
     let l = c.loop-l in
-    refs_made a.path-nos.now a.coords.now a.paths.now l.l l.made l.invariant.3 (omega (arith, c.loop-l-test.false))
+    refs_made a.path_nos.now a.coords.now a.paths.now l.l l.made l.invariant.3 (omega (arith, c.loop-l-test.false))

@@ -19,7 +19,7 @@ pub path_at-p-requires : goal.path_at-p-requires
 path_at-p-requires c = path_there c.args.paths.now c.loop-k.k (omega (arith, c.loop-k-test.true, c.requires.1))
 
 -- with one path more
-sum : (c : After-screen_pairs-pairs invariant-loop decreases-loop)
+sum : (c : After-screen_pairs-pairs)
     → c.loop-k.pairs + c.screen_pairs-pairs.result ≡ pairs_to c.args.paths.now
     c.args.cols c.args.rows (suc c.loop-k.k)
 sum c =
@@ -29,7 +29,7 @@ sum c =
     (c.screen_pairs-pairs.ensures ∙ ap (λ (p : Path). screen_pairs p a.cols a.rows) c.path_at-p.ensures)
     ∙ sym (pairs_suc a.paths.now a.cols a.rows l.k)
 
-few : (c : After-screen_pairs-pairs invariant-loop decreases-loop) → pairs_to c.args.paths.now
+few : (c : After-screen_pairs-pairs) → pairs_to c.args.paths.now
     c.args.cols c.args.rows (suc c.loop-k.k) ≤ most_tiles
 few c =
     let a = c.args in

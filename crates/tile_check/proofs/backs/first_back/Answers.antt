@@ -40,7 +40,7 @@ pub bounds-work-n : goal.bounds-work-n
 bounds-work-n c = omega (arith, c.loop-t-test.true, c.requires)
 
 -- whether the tile's backdrop is at fault
-at : (c : After-same_back invariant-loop decreases-loop) → back_fault c.args.backs.now (view_of (length c.args.backs.now) c.args.work.now 0).backs c.loop-t.t ≡ not c.same_back.result
+at : (c : After-same_back) → back_fault c.args.backs.now (view_of (length c.args.backs.now) c.args.work.now 0).backs c.loop-t.t ≡ not c.same_back.result
 at c = back_fault_lem c.args.backs.now c.args.work.now c.loop-t.t c.same_back.result c.requires c.loop-t-test.true
     (back_told (get_or c.args.backs.now c.loop-t.t (pos 0)) (get_or c.args.work.now (length c.args.backs.now + c.loop-t.t) 0) c.same_back.result c.same_back-arg-1.given c.same_back.ensures)
 

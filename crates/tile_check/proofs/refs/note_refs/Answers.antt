@@ -32,11 +32,11 @@ pub loop-j-init : goal.loop-j-init
 loop-j-init c = (omega arith, kept_all _ _, noted_none _ _ _ _ _ _ _, λ i h. absurd (not-suc-le-zero h))
 
 -- the room is as long as before
-long : (c : At-loop-j invariant-loop decreases-loop) → (own_end c.args.tiles (length c.args.path_nos.now)) + c.args.n + c.args.n ≤ length c.loop-j.work
+long : (c : At-loop-j) → (own_end c.args.tiles (length c.args.path_nos.now)) + c.args.n + c.args.n ≤ length c.loop-j.work
 long c = omega (arith, c.loop-j.invariant.1.same_length, c.requires.1)
 
 -- what the reference's places are, beside the room as it was
-met : (c : After-key_at-key invariant-loop decreases-loop) → KeyMet (made_of c.args.path_nos.now c.args.coords.now c.args.paths.now)
+met : (c : After-key_at-key) → KeyMet (made_of c.args.path_nos.now c.args.coords.now c.args.paths.now)
     (start_of c.args.path_nos.now c.args.coords.now c.args.paths.now c.args.tiles) (take c.args.tiles c.args.work.now) c.args.refs.now c.loop-j.j c.key_at-key.result
 met c =
     subst (λ (ours : List ℕ). KeyMet (made_of c.args.path_nos.now c.args.coords.now c.args.paths.now)

@@ -47,7 +47,7 @@ returns-then-counts-own-ge-MOST_COUNT c =
     let the_args = c.args in
     let the_pre = c.requires in
     ap (λ (v : Verdict). seen_of v (z_of the_args.pace the_args.i))
-    (check_full _ _ _ _ _ _ _ (hit_on the_args.pace the_args.path the_args.i _ _ _ _ (fell (goal.at.returns-then-counts-own-ge-MOST_COUNT c).In-Tile-2) the_args.last-z _ the_pre.2 refl) c.if-counts-own-ge-MOST_COUNT.true)
+    (check_full _ _ _ _ _ _ _ (hit_on the_args.pace the_args.path the_args.i _ _ _ _ (fell (goal.at.returns-then-counts-own-ge-MOST_COUNT c).In-Tile-2) the_args.last_z _ the_pre.2 refl) c.if-counts-own-ge-MOST_COUNT.true)
 
 pub crosses-marks-requires : goal.crosses-marks-requires
 crosses-marks-requires c =
@@ -62,7 +62,7 @@ next c =
     omega (
       arith,
       c.next_if-q.ensures,
-      next_below the_args.pace the_args.path the_args.i _ _ _ _ (fell c) the_args.last-z c.crosses-marks.result
+      next_below the_args.pace the_args.path the_args.i _ _ _ _ (fell c) the_args.last_z c.crosses-marks.result
           c.crosses-marks.ensures,
       the_pre.0.within,
       the_pre.0.paired,
@@ -84,7 +84,7 @@ hit : (c : After-crosses-marks) →
 hit c =
     let the_args = c.args in
     let the_pre = c.requires in
-    hit_on the_args.pace the_args.path the_args.i _ _ _ _ (fell c) the_args.last-z c.crosses-marks.result the_pre.2 c.crosses-marks.ensures
+    hit_on the_args.pace the_args.path the_args.i _ _ _ _ (fell c) the_args.last_z c.crosses-marks.result the_pre.2 c.crosses-marks.ensures
 
 -- what `leaves` says of the backdrop itself
 said : (c : After-leaves) →

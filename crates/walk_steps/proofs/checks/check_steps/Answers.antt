@@ -22,7 +22,7 @@ pub loop-i-init : goal.loop-i-init
 loop-i-init c = (c.z_at-last_z.ensures, refl)
 
 -- all steps are below the limit
-few : (c : In-loop-i invariant-loop decreases-loop) → c.loop-i.i < step_range
+few : (c : In-loop-i) → c.loop-i.i < step_range
 few c = omega (arith, c.requires.1 c.if-to-from.false, c.loop-i-test.true)
 
 pub check_step-seen-requires : goal.check_step-seen-requires

@@ -36,7 +36,7 @@ pub loop-i-init : goal.loop-i-init
 loop-i-init c = ((le_refl _, omega (arith, c.if-to-from.false)), c.z_at-last_z.ensures, refl, (λ j h. absurd (omega (arith, h))), refl)
 
 -- all steps are below the limit
-few : (c : In-loop-i invariant-loop decreases-loop) → c.loop-i.i < step_range
+few : (c : In-loop-i) → c.loop-i.i < step_range
 few c = omega (arith, c.requires.1 c.if-to-from.false, c.loop-i-test.true)
 
 pub note_step-noted-requires : goal.note_step-noted-requires
@@ -59,7 +59,7 @@ pub overflow_sub-notes : goal.overflow_sub-notes
 overflow_sub-notes c = c.loop-i.invariant.0.0
 
 -- the word is in the room lent
-in_room : (c : In-Passed invariant-loop decreases-loop) →
+in_room : (c : In-Passed) →
     let the_args = c.args in
     let the_loop = c.loop-i in
     the_loop.i - the_args.from < length the_loop.notes

@@ -18,7 +18,7 @@ pub overflow_sub-word : goal.overflow_sub-word
 overflow_sub-word c = c.loop-i.invariant.0.0
 
 -- the word is in the room lent
-in_room : (c : In-loop-i invariant-loop decreases-loop) → c.loop-i.i - c.args.from < length c.args.notes.now
+in_room : (c : In-loop-i) → c.loop-i.i - c.args.from < length c.args.notes.now
 in_room c = omega (arith, c.loop-i-test.true, c.loop-i.invariant.0.0, c.requires.4)
 
 pub offset_bounds-notes-i : goal.offset_bounds-notes-i

@@ -30,7 +30,7 @@ visit-requires c =
     let the_pre = c.requires in (
       omega (arith, (tile_in_lem the_args.pace the_args.path the_args.i _ _ _ _ (fell (goal.at.visit-requires c).In-Tile-2)).1, the_pre.0.within),
       the_pre.3,
-      write_count _ _ _ _ _ _ _ _ the_pre.5 _ _ (hit_on the_args.pace the_args.path the_args.i _ _ _ _ (fell (goal.at.visit-requires c).In-Tile-2) the_args.last-z _ the_pre.2 refl),
+      write_count _ _ _ _ _ _ _ _ the_pre.5 _ _ (hit_on the_args.pace the_args.path the_args.i _ _ _ _ (fell (goal.at.visit-requires c).In-Tile-2) the_args.last_z _ the_pre.2 refl),
       the_pre.1,
       the_pre.4,
     )
@@ -48,7 +48,7 @@ hit : (c : After-crosses-marks) →
 hit c =
     let the_args = c.args in
     let the_pre = c.requires in
-    hit_on the_args.pace the_args.path the_args.i _ _ _ _ (fell (c)) the_args.last-z c.crosses-marks.result the_pre.2 c.crosses-marks.ensures
+    hit_on the_args.pace the_args.path the_args.i _ _ _ _ (fell (c)) the_args.last_z c.crosses-marks.result the_pre.2 c.crosses-marks.ensures
 
 pub mark_if-requires : goal.mark_if-requires
 mark_if-requires c =
@@ -56,7 +56,7 @@ mark_if-requires c =
     let the_pre = c.requires in (
       omega (
         arith,
-        next_below the_args.pace the_args.path the_args.i _ _ _ _ (fell ((goal.at.mark_if-requires c).In-Tile-2)) the_args.last-z c.crosses-marks.result c.crosses-marks.ensures,
+        next_below the_args.pace the_args.path the_args.i _ _ _ _ (fell ((goal.at.mark_if-requires c).In-Tile-2)) the_args.last_z c.crosses-marks.result c.crosses-marks.ensures,
         the_pre.0.within,
         the_pre.0.paired,
       ),

@@ -29,7 +29,7 @@ pub loop-i-init : goal.loop-i-init
 loop-i-init c = ((le_refl _, c.requires.1), omega arith, c.z_at-last_z.ensures, refl, refl, refl, refl)
 
 -- all steps are below the limit
-few : (c : In-loop-i invariant-loop decreases-loop) → c.loop-i.i < step_range
+few : (c : In-loop-i) → c.loop-i.i < step_range
 few c = omega (arith, c.requires.2 c.if-to-from.false, c.loop-i-test.true)
 
 pub write_step-last_z-requires : goal.write_step-last_z-requires
