@@ -342,6 +342,7 @@ white_step : (b : ℕ) (rest : List ℕ) (s : Stage) → Waits s → is_white b 
 unfolding number_from
 white_step b rest Start start w = ⊎_elim (λ e. rw e) (λ e. rw e) (kind_white b w)
 white_step b rest Gap gap w = ⊎_elim (λ e. rw e) (λ e. rw e) (kind_white b w)
+white_step b rest (Digits _) x3 w = elim x3 [ ]
 
 stop_step : (b : ℕ) (rest : List ℕ) (n : ℕ) → is_white b ≡ true → number_from false (Digits n) (b ∷ rest) ≡ got n (b ∷ rest)
 unfolding number_from

@@ -5,7 +5,7 @@
 use Prim.Native.Nat.{ℕ, ◌+◌, ◌-◌, ◌*◌, ◌≤◌, ◌<◌}
 use native.Mathlib.Omega.{arith}
 use mathlib.Core.Path.{◌≡◌, refl, sym, ap, ◌∙◌}
-use mathlib.Core.Bool.{Bool, true, false, cond, not, ◌&&◌, ◌||◌, false≢true}
+use mathlib.Core.Bool.{Bool, true, false, cond, ◌&&◌, ◌||◌, false≢true}
 use mathlib.Core.List.{List}
 use lib.Dec.{ltb}
 use lib.ListN.{length, get_or}
@@ -142,7 +142,7 @@ inner_told p e =
     }
 
 -- both ends are such
-pub ends_inner : (a b : Bool) (d0 d1 : Vec2) → a ≡ inner_of d0 → b ≡ inner_of d1 → not (a && b) ≡ false → Inner d0 × Inner d1
+pub ends_inner : (a b : Bool) (d0 d1 : Vec2) → a ≡ inner_of d0 → b ≡ inner_of d1 → a && b ≡ true → Inner d0 × Inner d1
 ends_inner true true d0 d1 e f h = (inner_told d0 (sym e), inner_told d1 (sym f))
 ends_inner true false d0 d1 e f h = let z : ◌≡◌ {A = ℕ} 0 1 = cc in absurd (omega arith)
 ends_inner false b d0 d1 e f h = let z : ◌≡◌ {A = ℕ} 0 1 = cc in absurd (omega arith)

@@ -40,9 +40,9 @@ use Rattle.strides.specs.Strides.{sum_at, bits_at, low_of, strides_of, on_top, B
 use Rattle.strides.specs.declared.Strides.{Strides}
 
 -- ---- floats below 2 ^ 22 in size
-pub near_within : (x : Float) (r : Bool) → r ≡ (lt x (limit false) && lt (limit true) x) → not r ≡ false → Within x
+pub near_within : (x : Float) (r : Bool) → r ≡ (lt x (limit false) && lt (limit true) x) → r ≡ true → Within x
 near_within x true e t = let b = both (lt x (limit false)) (lt (limit true) x) (sym e) in record { below = b.0; above = b.1 }
-near_within x false e t = absurd (true≢false t)
+near_within x false e t = absurd (false≢true t)
 
 pub within_finite : (x : Float) → Within x → T (finite x)
 unfolding lt

@@ -83,8 +83,8 @@ held_of v =
     cond (lt (neg far_off) u) u (neg far_off)
 
 -- the tile in a column and a row of the box
-abbrev pub field_own : Strides → (col row : ℕ) → ℕ
-field_own g col row = g.base - g.back + row * g.width + cond (g.twice == 2) col 0 - cond (g.twice == 2) 0 col
+abbrev pub own_at : Strides → (col row : ℕ) → ℕ
+own_at g col row = g.base - g.back + row * g.width + cond (g.twice == 2) col 0 - cond (g.twice == 2) 0 col
 
 -- no sum there is below 0, or large
 pub record Room (g : Strides) (col row : ℕ) : Type 0 where

@@ -240,8 +240,8 @@ number_tokens (G.Number.number {ds = ds} {fs = fs} {r = r} (G.Sign.minus {s = t}
 -- ---- groups of numbers
 pub args_tokens : {n : ℕ} {s r : List ℕ} {vs : List Num} → Args n s vs r → (tokens_of 0 s ≡ map tok_of vs ++ tokens_of 0 r) × (length vs ≡ n)
 args_tokens (G.Args.one v) = (number_tokens v, refl)
-args_tokens (G.Args.more {v = v} x g more) =
-    let p = args_tokens more in (number_tokens x ∙ ap (λ (z : List Tok). tok_of v ∷ z) (gap_tokens g ∙ p.0), ap suc p.1)
+args_tokens (G.Args.more {v = v} x g others) =
+    let p = args_tokens others in (number_tokens x ∙ ap (λ (z : List Tok). tok_of v ∷ z) (gap_tokens g ∙ p.0), ap suc p.1)
 
 unfoldable pub flat : List (List Num) → List Tok
 flat [] = []

@@ -1,20 +1,20 @@
 -- x + 3 * 2 ^ 22, rounded, of an x below 2 ^ 22 in size: a whole number from 2 ^ 23 to 2 ^ 24, whose bits say which, and x's floor is that or one less. Assumes nothing.
 -- Of `fin s m e` the size is A / D, with A = m * up e and D = down e. W is 3 * 2 ^ 22, and S / D is what is rounded.
 use mathlib.Core.Path.{◌≡◌, refl, sym, ap, ◌∙◌, subst}
-use mathlib.Core.Bool.{Bool, true, false, not, cond, false≢true}
+use mathlib.Core.Bool.{Bool, true, false, not, false≢true}
 use mathlib.Core.Logic.{◌⊎◌, inl, inr}
-use Prim.Native.Nat.{ℕ, zero, suc, ◌+◌, ◌-◌, ◌*◌, ◌/◌, ◌%◌, ◌^◌, ◌≤◌, ◌<◌}
-use native.Mathlib.Nat.{mul-one, one-mul, add-mul, mul-sub, mul_comm, mul-div_cancel, div-add-mod', mod-lt, div-mul-le_self, lt_of_mul-lt-mul_right, le_of_mul-le-mul_right, mul-le-mul_right, le_of_lt}
+use Prim.Native.Nat.{ℕ, ◌+◌, ◌-◌, ◌*◌, ◌/◌, ◌%◌, ◌≤◌, ◌<◌}
+use native.Mathlib.Nat.{mul-one, one-mul, add-mul, div-add-mod', mod-lt, div-mul-le_self, lt_of_mul-lt-mul_right}
 use native.Mathlib.Omega.{arith}
 use lib.Dec.{T, ltb, lit<, lit≤}
 use lib.IntN.{ℤ, pos, neg_ℤ}
-use lib.Ieee.{Float, nan, inf, fin, binary32, up, down, round, add, sub, sum, lt, fits, is_nan, of_fields, of_bits, to_bits}
+use lib.Ieee.{Float, nan, inf, fin, binary32, up, down, round, add, sum, lt, fits, is_nan, of_fields, of_bits, to_bits}
 use lib.Ieee.Bits.{to_bits-of_bits}
 use lib.Ieee.Exact.{HasValue}
 use lib.Ieee.Fits.{down_pos, add-fits}
-use lib.Ieee.Nearest.{closest, closest_mono}
+use lib.Ieee.Nearest.{closest}
 use lib.Ieee.Back.{whole_unique}
-use borrow.Author.Tests.{lt-ltb, le-ltb, lt-leb, ltb-true, ltb-false}
+use borrow.Author.Tests.{lt-ltb, le-ltb, lt-leb, ltb-true}
 use Rattle.float32.specs.Inner.{limit}
 use Rattle.float32.specs.Meaning.{whole, up_div}
 use Rattle.float32.proofs.Tests.{below_or_not}
@@ -22,7 +22,7 @@ use Rattle.float32.proofs.Fields.{of_bits_is}
 use Rattle.float32.proofs.Whole.{whole_fits, whole_value, units_whole, round_no_nan}
 use Rattle.float32.proofs.Floors.{lt_plus, lt_minus, gt_minus}
 use Rattle.float32.proofs.Magic.{magic, near, grid_value, closest_above, closest_below, taken_off, div_is}
-use Rattle.exact.specs.Whole.{IsWhole, floor_z, signed_z}
+use Rattle.exact.specs.Whole.{IsWhole, floor_z}
 use Rattle.exact.proofs.Signs.{plus_of, minus_of, neg_plus, neg_minus}
 
 -- ---- the bits of a whole number from 2 ^ 23 to 2 ^ 24

@@ -6,12 +6,12 @@
 use mathlib.Core.Path.{◌≡◌, refl, sym, ap, ◌∙◌, subst}
 use mathlib.Core.Bool.{Bool, true, false, not, true≢false, false≢true}
 use mathlib.Core.Logic.{◌⊎◌, inl, inr}
-use Prim.Native.Nat.{ℕ, suc, ◌+◌, ◌-◌, ◌*◌, ◌/◌, ◌^◌, ◌≤◌, ◌<◌}
+use Prim.Native.Nat.{ℕ, ◌+◌, ◌-◌, ◌*◌, ◌/◌, ◌^◌, ◌≤◌, ◌<◌}
 use native.Mathlib.Nat.{one-mul, add-mul, le_of_eq, mod-lt, div-add-mod', mul-lt-mul_of_pos_right, lt_of_mul-lt-mul_right}
 use native.Mathlib.Omega.{arith}
 use lib.Dec.{T, ltb}
 use lib.IntN.{ℤ, pos, negsuc, nat_abs}
-use lib.Ieee.{Float, nan, inf, fin, binary32, up, down, add, lt, le, fits, is_nan, to_bits, to_signed}
+use lib.Ieee.{Float, nan, inf, fin, binary32, up, down, add, lt, le, fits, is_nan, to_bits}
 use lib.Ieee.Fits.{down_pos}
 use lib.Ieee.Scale.{finite}
 use borrow.Author.Tests.{lt-ltb, ltb-true, ltb-false}
@@ -21,7 +21,7 @@ use Rattle.float32.proofs.Floors.{lt_plus, gt_minus}
 use Rattle.float32.proofs.Order.{le_of_not_lt}
 use Rattle.float32.proofs.Magic.{magic, near, floor_near, div_is}
 use Rattle.exact.specs.Whole.{IsWhole, Small, floor_z}
-use Rattle.exact.proofs.Signs.{plus_of, minus_of, one_part, abs_parts, same_parts, abs_signed, neg_minus}
+use Rattle.exact.proofs.Signs.{plus_of, minus_of, same_parts, abs_signed, neg_minus}
 use Rattle.whole.specs.Bits.{zero_bits, bits_of}
 use Rattle.whole.proofs.Shifted.{Shift, shifted, no_value_nan, up_reach}
 

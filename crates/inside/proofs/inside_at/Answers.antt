@@ -8,20 +8,19 @@ use Rattle.walk.specs.Setup.{ends_of}
 use Rattle.box_edges.specs.Edges.{edges_of}
 use Rattle.walk.specs.Lent.{Reached}
 use Rattle.walk.proofs.Counts.{ends_scaled}
-use Rattle.walk.proofs.Lines.{turned_off}
 use Rattle.walk.proofs.AroundLaws.{ends_ordered}
 use Rattle.inside.specs.Stages.{in_edges_of}
 use Rattle.inside.proofs.Compared.{edges_told}
 use Rattle.inside.proofs.InReach.{ends_reach}
 use Rattle.inside.proofs.InBoxes.{met}
 use Rattle.inside.proofs.inside_at.Goals as goal
-use Rattle.inside.proofs.inside_at.Goals.{After-paced-arg-2-1, Else-not-in_edges}
+use Rattle.inside.proofs.inside_at.Goals.{Else-not-in_edges}
 
 -- of the line at its place: its ends lie within the box's edges, and so it is within reach
 within : (c : Else-not-in_edges) → let l = line_at c.args.coords.now c.args.place in
     in_edges_of (ends_of l.p0 l.p1).s0 (ends_of l.p0 l.p1).s1 (edges_of c.args.b) ≡ true
 within c =
-    rw (c.in_edges.ensures, c.edges_of-g.ensures, c.ends_at-t.ensures.0, c.ends_at-t.ensures.1) at (turned_off c.in_edges.result c.if-not-in_edges.false)
+    rw (c.in_edges.ensures, c.edges_of-g.ensures, c.ends_at-t.ensures.0, c.ends_at-t.ensures.1) at c.if-not-in_edges.false
 
 checked : (c : Else-not-in_edges) → let l = line_at c.args.coords.now c.args.place in
     Reached l.p0 l.p1
@@ -36,11 +35,11 @@ checked c =
 pub paced-requires : goal.paced-requires
 paced-requires c =
     let l = line_at c.args.coords.now c.args.place in
-    let n = ends_scaled l.p0 l.p1 (checked c) in
-    let o = ends_ordered l.p0 l.p1 (checked c) in
+    let n = ends_scaled l.p0 l.p1 (checked (goal.at.paced-requires c).Else-not-in_edges) in
+    let o = ends_ordered l.p0 l.p1 (checked (goal.at.paced-requires c).Else-not-in_edges) in
     (rw c.ends_at-t.ensures.0 n.0, rw c.ends_at-t.ensures.1 n.1, rw (c.ends_at-t.ensures.0, c.ends_at-t.ensures.1) o)
 
 pub returns : goal.returns
 returns c =
-    met (line_at c.args.coords.now c.args.place) c.args.b c.paced.result (checked (goal.at.returns c).After-paced-arg-2-1) (within (goal.at.returns c).After-paced-arg-2-1)
+    met (line_at c.args.coords.now c.args.place) c.args.b c.paced.result (checked (goal.at.returns c).Else-not-in_edges) (within (goal.at.returns c).Else-not-in_edges)
     (rw (c.ends_at-t.ensures.0, c.ends_at-t.ensures.1) at c.paced.ensures)

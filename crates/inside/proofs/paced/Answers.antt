@@ -10,7 +10,7 @@ use Rattle.walk.specs.Around.{Around}
 use Rattle.walk.proofs.AroundLaws.{both_span, counts_are}
 use Rattle.inside.specs.Stages.{pace_of, paced_of}
 use Rattle.inside.proofs.paced.Goals as goal
-use Rattle.inside.proofs.paced.Goals.{After-count_steps-k, After-floor_near-right}
+use Rattle.inside.proofs.paced.Goals.{After-floor_near-right}
 
 pub floor_near-top-requires : goal.floor_near-top-requires
 floor_near-top-requires c = near_within _ c.requires.0.in_y
@@ -54,20 +54,18 @@ count_steps-k-requires c = both_span _ _ (around (goal.at.count_steps-k-requires
 pub incline-m-requires : goal.incline-m-requires
 incline-m-requires c = around (goal.at.incline-m-requires c).After-floor_near-right
 
-counted : (c : After-count_steps-k) → c.count_steps-k.result ≡ counts_of c.args.s0 c.args.s1
-counted c = c.count_steps-k.ensures ∙ counts_are _ _ (around c)
-
 pub rise-a-requires : goal.rise-a-requires
 rise-a-requires c = both_span _ _ (around (goal.at.rise-a-requires c).After-floor_near-right)
 
 pub returns : goal.returns
 unfolding paced_of pace_of
 returns c =
+    let k : c.count_steps-k.result ≡ counts_of c.args.s0 c.args.s1 = c.count_steps-k.ensures ∙ counts_are _ _ (around (goal.at.returns c).After-floor_near-right) in
     rw (
       rw c.flat.ensures at c.if-flat.false,
       c.rise-a.ensures,
       counts_are _ _ (around (goal.at.returns c).After-floor_near-right),
       c.start-b.ensures,
       c.incline-m.ensures,
-      counted (goal.at.returns c).After-count_steps-k,
+      k,
     )

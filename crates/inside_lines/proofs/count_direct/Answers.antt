@@ -13,7 +13,7 @@ use Rattle.acts.specs.Acts.{st_of}
 use Rattle.hits.specs.Notes.{note_words}
 use Rattle.inside_lines.proofs.Directs.{none, few, on_box, starting, direct_fine, direct_done, direct_few}
 use Rattle.inside_lines.proofs.count_direct.Goals as goal
-use Rattle.inside_lines.proofs.count_direct.Goals.{After-slice_known-3-1, After-within_at-within, Else-n-after, In-Line-1, In-Line-2}
+use Rattle.inside_lines.proofs.count_direct.Goals.{Else-n-after, In-Line}
 
 pub within_at-within-requires : goal.within_at-within-requires
 within_at-within-requires c =
@@ -23,7 +23,7 @@ pub returns-in_default : goal.returns-in_default
 returns-in_default c = (refl, refl, refl)
 
 -- the line lies inside its path's box
-lies : (c : In-Line-2) →
+lies : (c : In-Line) →
     Unclipped c.args.path_nos.now c.args.coords.now c.args.paths.now c.args.place c.in-Line.pace c.in-Line.path c.in-Line.n
     c.in-Line.up
 lies c =
@@ -41,7 +41,7 @@ tests c =
 
 pub count_few-requires : goal.count_few-requires
 count_few-requires c =
-    let u = lies (goal.at.count_few-requires c).In-Line-2 in
+    let u = lies (goal.at.count_few-requires c).In-Line in
     let t = tests (goal.at.count_few-requires c).Else-n-after in (
       on_box c.args.path_nos.now c.args.coords.now c.args.paths.now c.args.place _ _ _ _ u _ _ c.requires.0,
       c.if-n-le-FEW.true,
@@ -54,13 +54,13 @@ count_few-requires c =
 pub returns-then-n-le-FEW : goal.returns-then-n-le-FEW
 returns-then-n-le-FEW c =
     let t = tests (goal.at.returns-then-n-le-FEW c).Else-n-after in
-    direct_few c.args.path_nos.now c.args.coords.now c.args.paths.now c.args.place _ _ _ _ (lies (goal.at.returns-then-n-le-FEW c).In-Line-2) c.args.line.0 c.args.made
+    direct_few c.args.path_nos.now c.args.coords.now c.args.paths.now c.args.place _ _ _ _ (lies (goal.at.returns-then-n-le-FEW c).In-Line) c.args.line.0 c.args.made
     c.args.backs.now c.args.counts.now c.args.refs.now _ _ _ t.0 t.1 t.2 c.count_few.result c.count_few.ensures
 
 pub quick_steps-requires : goal.quick_steps-requires
 quick_steps-requires c =
-    let u = lies (goal.at.quick_steps-requires c).After-within_at-within in
-    let t = tests (goal.at.quick_steps-requires c).In-Line-2 in (
+    let u = lies (goal.at.quick_steps-requires c).In-Line in
+    let t = tests (goal.at.quick_steps-requires c).Else-n-after in (
       on_box c.args.path_nos.now c.args.coords.now c.args.paths.now c.args.place _ _ _ _ u _ _ c.requires.0,
       λ h. few _ t.0,
       starting c.args.path_nos.now c.args.coords.now c.args.paths.now c.args.place _ _ _ _ u (length c.args.backs.now) (length c.args.counts.now) c.requires.0,
@@ -70,8 +70,8 @@ quick_steps-requires c =
 
 pub write_notes-requires : goal.write_notes-requires
 write_notes-requires c =
-    let u = lies (goal.at.write_notes-requires c).After-slice_known-3-1 in
-    let t = tests (goal.at.write_notes-requires c).In-Line-1 in
+    let u = lies (goal.at.write_notes-requires c).In-Line in
+    let t = tests (goal.at.write_notes-requires c).Else-n-after in
     let q = c.quick_steps in
     let f = q.ensures c.if-quick_steps.true in (
       λ j h. (f.1 j h).below,
@@ -88,8 +88,8 @@ write_notes-requires c =
 
 pub returns-then-quick_steps : goal.returns-then-quick_steps
 returns-then-quick_steps c =
-    let u = lies (goal.at.returns-then-quick_steps c).After-slice_known-3-1 in
-    let t = tests (goal.at.returns-then-quick_steps c).In-Line-1 in
+    let u = lies (goal.at.returns-then-quick_steps c).In-Line in
+    let t = tests (goal.at.returns-then-quick_steps c).Else-n-after in
     let q = c.quick_steps in
     let f = q.ensures c.if-quick_steps.true in
     direct_done c.args.path_nos.now c.args.coords.now c.args.paths.now c.args.place _ _ _ _ u c.args.line.0 c.args.made

@@ -42,14 +42,12 @@ put_color-requires-in-Solid c =
 
 pub returns-in-Fill : goal.returns-in-Fill
 returns-in-Fill c =
-    let pair = c.pair-1 in
     let first = c.put_fill in
     let then = c.put_color in
-    rw pair.given.1 (pair_put c.args.words.now _ _ c.args.at (Fill _ _ _) (Color _) first.ensures then.ensures)
+    rw c.in-Fill.is (pair_put c.args.words.now _ _ c.args.at (Fill _ _ _) (Color _) first.ensures then.ensures)
 
 pub returns-in-Solid : goal.returns-in-Solid
 returns-in-Solid c =
-    let pair = c.pair-in-Solid-1 in
     let first = c.put_solid in
     let then = c.put_color-in-Solid in
-    rw pair.given.1 (pair_put c.args.words.now _ _ c.args.at Solid (Color _) first.ensures then.ensures)
+    rw c.in-Solid.is (pair_put c.args.words.now _ _ c.args.at Solid (Color _) first.ensures then.ensures)

@@ -5,7 +5,6 @@ use mathlib.Core.Bool.{false, ◌||◌, true≢false}
 use Prim.Native.Nat.{ℕ, ◌+◌, ◌-◌}
 use lib.Dec.{eqb}
 use native.Mathlib.Omega.{arith}
-use borrow.Author.Tests.{not-false}
 use Rattle.panel.specs.Limits.{most_commands}
 use Rattle.commands.specs.Numbers.{end_no, fill_no}
 use Rattle.commands.proofs.Traced.{found, trace_goes}
@@ -58,8 +57,7 @@ loop-count-preserved c =
       ),
       alike_turn segs ws l.at l.count _ _ l.area _ l.px _ _
           c.loop-count-test.true
-          l.invariant.1 goes (sym c.alike.ensures ∙ not-false c.alike.result
-          c.if-not-alike.false) c.cover_one-area.ensures c.paint_one.ensures,
+          l.invariant.1 goes (sym c.alike.ensures ∙ c.if-not-alike.false) c.cover_one-area.ensures c.paint_one.ensures,
       one_covered _ _ _ l.area _ goes c.cover_one-area.ensures l.invariant.2,
     )
 

@@ -1,20 +1,15 @@
 -- `one_line::count_other` meets its contract.
 -- Assumes nothing.
-use mathlib.Core.List.{[]}
 use mathlib.Core.Path.{◌≡◌, refl, sym, ap, ◌∙◌, subst, subst₂}
-use mathlib.Core.Logic.{⊎_elim}
-use mathlib.Core.List.{◌∷◌}
 use Prim.Native.Nat.{ℕ, ◌/◌}
-use native.Mathlib.Omega.{arith}
 use lib.ListN.{length}
-use denote.Enum.Declared.{tag_of}
-use types.Run.{OneOf}
 use Rattle.lists.specs.Run.{Step}
 use Rattle.panel.specs.Widths.{ref_words}
 use Rattle.walk.specs.Lent.{walk_at}
+use Rattle.panel.specs.declared.kinds.Path.{Path}
+use Rattle.walk.specs.declared.kinds.Walk.{Walk}
 use Rattle.walk.specs.declared.kinds.Walked.{Walked}
 use Rattle.walk.specs.declared.kinds.Walked.TheVariants.{Refused as WalkRefused, Skipped, Line}
-use Rattle.walk.specs.contracts.kinds.Walked.{the_type}
 use Rattle.acts.specs.Acts.{St, st_of}
 use Rattle.hits.specs.Notes.{OnTiles}
 use Rattle.walked_lines.specs.Line.{line_ran}
@@ -23,7 +18,7 @@ use Rattle.few_steps.specs.declared.Direct.{Direct}
 use Rattle.walked_lines.proofs.Lines.{on_tiles, walkable, line_over, line_walked}
 use Rattle.one_line.proofs.Ways.{NoWalk, line_unwalked, same_tally, same_walk}
 use Rattle.one_line.proofs.count_other.Goals as goal
-use Rattle.one_line.proofs.count_other.Goals.{In-Line-2, In_default}
+use Rattle.one_line.proofs.count_other.Goals.{In-Line, In_default}
 
 pub returns-then-line-ge-MOST_LINES : goal.returns-then-line-ge-MOST_LINES
 returns-then-line-ge-MOST_LINES c =
@@ -59,11 +54,11 @@ same c =
 pub walk_at-walked-requires : goal.walk_at-walked-requires
 walk_at-walked-requires c = let p = c.requires in (p.1.numbered, p.1.whole)
 
--- a value of the first two variants, by its tag, has no walk
-no_walk : (x : Walked) → OneOf (0 ∷ 1 ∷ []) (tag_of the_type x) → NoWalk x
+-- a value of the first two variants has no walk
+no_walk : (x : Walked) → ((w : Walk) (b : Path) → x ≡ Line w b → ⊥) → NoWalk x
 no_walk (WalkRefused n) k = tt
 no_walk Skipped k = tt
-no_walk (Line w b) k = ⊎_elim (λ e. absurd (omega (arith, e))) (λ e. absurd (omega (arith, e))) k
+no_walk (Line w b) k = k w b refl
 
 pub returns-in_default-walked : goal.returns-in_default-walked
 returns-in_default-walked c =
@@ -71,10 +66,10 @@ returns-in_default-walked c =
     let w = c.walk_at-walked in
     same_tally _ _ _ _ _ _ (same (goal.at.returns-in_default-walked c).In_default) c.unwalked.result a.made _
     (line_unwalked a.path_nos.now a.coords.now a.paths.now (length a.refs.now / ref_words) a.line.0 a.place a.backs.now a.counts.now a.refs.now a.made
-    w.result c.unwalked.result c.if-line-ge-MOST_LINES.false (sym w.ensures) (no_walk w.result c.in_default-walked.keys2) c.unwalked.ensures)
+    w.result c.unwalked.result c.if-line-ge-MOST_LINES.false (sym w.ensures) (no_walk w.result c.in_default-walked.not-Line) c.unwalked.ensures)
 
 -- the line has a walk
-line : (c : In-Line-2) →
+line : (c : In-Line) →
     let a = c.args in walk_at a.path_nos.now a.coords.now a.paths.now a.place ≡ Line c.in-Line.walk c.in-Line.path
 line c = sym c.walk_at-walked.ensures ∙ c.in-Line.is
 
@@ -84,8 +79,8 @@ count_walk-requires c =
     let p = c.requires in
     let e = same (goal.at.count_walk-requires c).In_default in (
       subst₂ (OnTiles c.in-Line.path) (sym (ap length e.0)) (sym (ap length e.1))
-          (on_tiles a.path_nos.now a.coords.now a.paths.now a.place _ _ (line (goal.at.count_walk-requires c).In-Line-2) _ _ p.0),
-      walkable a.path_nos.now a.coords.now a.paths.now a.place _ _ (line (goal.at.count_walk-requires c).In-Line-2) _ _ p.0,
+          (on_tiles a.path_nos.now a.coords.now a.paths.now a.place _ _ (line (goal.at.count_walk-requires c).In-Line) _ _ p.0),
+      walkable a.path_nos.now a.coords.now a.paths.now a.place _ _ (line (goal.at.count_walk-requires c).In-Line) _ _ p.0,
       c.count_direct-direct.auto.notes ∙ p.2,
     )
 
@@ -107,4 +102,4 @@ returns c =
     let t = st_of a.backs.now a.counts.now a.refs.now a.made in
     same_walk _ _ _ _ _ _ (same (goal.at.returns c).In_default) a.line.0 a.made c.in-Line.walk c.in-Line.path _ c.count_walk.ensures
     ∙ ap (λ (o : Step St ℕ). line_ran o t)
-    (sym (line_walked a.path_nos.now a.coords.now a.paths.now (length a.refs.now / ref_words) a.line.0 a.place t _ c.if-line-ge-MOST_LINES.false (line (goal.at.returns c).In-Line-2)))
+    (sym (line_walked a.path_nos.now a.coords.now a.paths.now (length a.refs.now / ref_words) a.line.0 a.place t _ c.if-line-ge-MOST_LINES.false (line (goal.at.returns c).In-Line)))

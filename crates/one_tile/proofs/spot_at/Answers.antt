@@ -8,7 +8,7 @@ use Rattle.one_tile.proofs.Ones.{met}
 use Rattle.one_tile.proofs.spot_at.Goals as goal
 
 pub overflow_cast-path_no-2 : goal.overflow_cast-path_no-2
-overflow_cast-path_no-2 c = omega (arith, c.shared_slice_known-4-1.given c.args.place)
+overflow_cast-path_no-2 c = omega (arith, c.type_inv.path_nos c.args.place)
 
 pub spot_of-requires : goal.spot_of-requires
 spot_of-requires c =

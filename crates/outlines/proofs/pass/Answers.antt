@@ -54,4 +54,4 @@ returns c =
     let nos = c.args.path_nos.now in
     let l = c.loop-i in
     let all : l.i ≡ length nos = omega arith in
-    record { shape_of-work = l.invariant.1; noted = rw (← all) l.invariant.2; least = least_at c.args.coords.now nos l.i l.best all l.invariant.3 }
+    record { same_length = l.invariant.1; noted = rw (← all) l.invariant.2; least = least_at c.args.coords.now nos l.i l.best all l.invariant.3 }

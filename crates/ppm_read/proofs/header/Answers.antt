@@ -13,8 +13,7 @@ returns-then-not-is_magic c = (ap held_header (header_none c.args.file.now (sym 
 pub returns-in_default : goal.returns-in_default
 returns-in_default c = (
   (number_then c.args.file.now _ from_width _ _ _ alike_width c.read_number.ensures.0 c.in_default.is
-      (ap held_header (header_some c.args.file.now (sym c.is_magic.ensures ∙ not-false _
-      c.if-not-is_magic.false)))),
+      (ap held_header (header_some c.args.file.now (sym c.is_magic.ensures ∙ c.if-not-is_magic.false)))),
   tt,
 )
 
@@ -23,8 +22,7 @@ returns-in_default-read_number c = (
   (number_then c.args.file.now _ _ _ _ _ (alike_height _) c.read_number-2.ensures.0 c.in_default-read_number.is
       (number_then c.args.file.now _ from_width _ _ _ alike_width c.read_number.ensures.0
       c.in-At.is (ap held_header
-      (header_some c.args.file.now (sym c.is_magic.ensures ∙ not-false _
-      c.if-not-is_magic.false))))),
+      (header_some c.args.file.now (sym c.is_magic.ensures ∙ c.if-not-is_magic.false))))),
   tt,
 )
 
@@ -48,8 +46,7 @@ returns-then-most-ne-LARGEST c = (
       c.read_number-2.ensures.0 c.in-At-read_number.is
       (number_then c.args.file.now _ from_width _ _ _ alike_width
       c.read_number.ensures.0 c.in-At.is
-      (ap held_header (header_some c.args.file.now (sym c.is_magic.ensures ∙ not-false _
-      c.if-not-is_magic.false)))))),
+      (ap held_header (header_some c.args.file.now (sym c.is_magic.ensures ∙ c.if-not-is_magic.false)))))),
   tt,
 )
 

@@ -56,15 +56,13 @@ overflow_add-size c =
 
 pub returns-then-out-size : goal.returns-then-out-size
 returns-then-out-size c =
-    room_refused _ _ _ _ _ _ _ (sides_of c.side_ok.ensures c.side_ok-2.ensures (not-false _
-    c.if-not-side_ok.false))
+    room_refused _ _ _ _ _ _ _ (sides_of c.side_ok.ensures c.side_ok-2.ensures c.if-not-side_ok.false)
     (sym c.whole.ensures ∙ c.if-not-whole.false) c.if-out-size.true
 
 pub put_rows-requires : goal.put_rows-requires
 put_rows-requires c =
     let a = c.args in
-    let s = sides_of c.side_ok.ensures c.side_ok-2.ensures (not-false _
-    c.if-not-side_ok.false) in
+    let s = sides_of c.side_ok.ensures c.side_ok-2.ensures c.if-not-side_ok.false in
     let least = side_least a.width (both (side_ok a.width) (side_ok a.height) s).0 in
     let w = sym c.whole.ensures ∙ c.if-not-whole.false in
     let told = whole_told (length a.pixels.now) a.screen a.width a.height a.stride w in

@@ -15,7 +15,7 @@ use Rattle.acts.proofs.Signs.{told}
 use Rattle.acts.proofs.Laws.{check_passes, own_below}
 use Rattle.hits.proofs.NoteLaws.{none_leaves}
 use Rattle.quick_notes.proofs.pass_step.Goals as goal
-use Rattle.quick_notes.proofs.pass_step.Goals.{After-leaves, After-next_if-q, After-word_tile-own}
+use Rattle.quick_notes.proofs.pass_step.Goals.{After-leaves, After-word_tile-own}
 
 -- its tile is lent
 below : (c : After-word_tile-own) → c.word_tile-own.result < length c.args.counts.now
@@ -29,23 +29,21 @@ pub returns-then-counts-own-ge-MOST_COUNT : goal.returns-then-counts-own-ge-MOST
 returns-then-counts-own-ge-MOST_COUNT c = λ e. absurd (false≢true e)
 
 -- the tile that it marks, or its own
-next : (c : After-next_if-q) → c.next_if-q.result ≡ word_next c.args.word
-next c =
-    c.next_if-q.ensures
-    ∙ ap₂ (λ (m : Bool) (t : ℕ). cond m (t + 1) t) c.word_marks.ensures c.word_tile-own.ensures
+next : (word : ℕ) {m : Bool} {t q : ℕ} → q ≡ cond m (t + 1) t → m ≡ word_marks word → t ≡ word_tile word → q ≡ word_next word
+next word q_is m_is t_is = q_is ∙ ap₂ (λ (m : Bool) (t : ℕ). cond m (t + 1) t) m_is t_is
 
 pub offset_bounds-backs-q : goal.offset_bounds-backs-q
-offset_bounds-backs-q c = omega (arith, next c, c.requires.1.below, c.requires.0.few, c.requires.0.paired)
+offset_bounds-backs-q c = omega (arith, next c.args.word c.next_if-q.ensures c.word_marks.ensures c.word_tile-own.ensures, c.requires.1.below, c.requires.0.few, c.requires.0.paired)
 
 pub bounds-backs-q : goal.bounds-backs-q
-bounds-backs-q c = omega (arith, next c, c.requires.1.below)
+bounds-backs-q c = omega (arith, next c.args.word c.next_if-q.ensures c.word_marks.ensures c.word_tile-own.ensures, c.requires.1.below)
 
 -- what `leaves` says of the backdrop itself
 said : (c : After-leaves) →
     c.leaves.result ≡ not (in_i32 (get_or c.args.backs.now (word_next c.args.word) (pos 0) +ℤ delta_of c.args.up))
 said c =
     told (get_or c.args.backs.now c.next_if-q.result (pos 0)) (delta_of c.args.up) c.leaves.result c.leaves-arg-1.given c.leaves.ensures
-    ∙ ap (λ (q : ℕ). not (in_i32 (get_or c.args.backs.now q (pos 0) +ℤ delta_of c.args.up))) (next c)
+    ∙ ap (λ (q : ℕ). not (in_i32 (get_or c.args.backs.now q (pos 0) +ℤ delta_of c.args.up))) (next c.args.word c.next_if-q.ensures c.word_marks.ensures c.word_tile-own.ensures)
 
 pub returns : goal.returns
 returns c =

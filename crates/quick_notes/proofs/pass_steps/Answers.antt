@@ -6,7 +6,6 @@ use Prim.Native.Nat.{ℕ, ◌<◌, ◌-◌, ◌+◌}
 use native.Mathlib.Nat.{le_refl}
 use native.Mathlib.Omega.{arith}
 use lib.ListN.{length, get_or}
-use Rattle.walk.proofs.Lines.{turned_off}
 use Rattle.acts.proofs.Laws.{steps_turn, steps_end, check_goes, check_ends}
 use Rattle.hits.specs.Steps.{hit_at}
 use Rattle.hits.specs.Notes.{Told}
@@ -51,7 +50,7 @@ pub loop-i-preserved : goal.loop-i-preserved
 loop-i-preserved c =
     let t = c.loop-i-test.true in
     let o = c.loop-i in
-    ((omega (arith, o.invariant.0.0), omega (arith, t)), check_goes _ _ _ _ (steps_turn _ o.i _ t) _ _ _ _ o.invariant.1 refl (c.pass_step.ensures (turned_off _ c.if-not-pass_step.false)))
+    ((omega (arith, o.invariant.0.0), omega (arith, t)), check_goes _ _ _ _ (steps_turn _ o.i _ t) _ _ _ _ o.invariant.1 refl (c.pass_step.ensures c.if-not-pass_step.false))
 
 pub returns : goal.returns
 returns c = let o = c.loop-i in λ r. check_ends _ _ _ _ _ (steps_end _ o.i _ c.loop-i-test.false) o.invariant.1

@@ -6,7 +6,6 @@ use Prim.Native.Nat.{◌<◌, ◌-◌}
 use native.Mathlib.Omega.{arith}
 use lib.ListN.{length}
 use Rattle.panel.specs.Paths.{end_of}
-use Rattle.walk.proofs.Lines.{turned_off}
 use Rattle.strides.specs.Strides.{LastMet}
 use Rattle.strides.specs.declared.Last.{Last}
 use Rattle.strides.proofs.Laws.{in_both}
@@ -14,7 +13,7 @@ use Rattle.hits.specs.Steps.{hit_at}
 use Rattle.hits.specs.Notes.{Notes}
 use Rattle.hits.proofs.NoteLaws.{notes_wider}
 use Rattle.quick_notes.proofs.quick_steps.Goals as goal
-use Rattle.quick_notes.proofs.quick_steps.Goals.{After-slice_known-2-1, After-struct_known-1, Else-not-lay_steps, Else-to-from}
+use Rattle.quick_notes.proofs.quick_steps.Goals.{Else-not-lay_steps, Else-to-from}
 
 pub returns-then-to-from : goal.returns-then-to-from
 returns-then-to-from c = λ e. absurd (false≢true e)
@@ -54,19 +53,19 @@ laid : (c : Else-not-lay_steps) →
     Notes (hit_at c.args.pace c.args.path) c.args.from (c.args.to - c.args.from) c.lay_steps.new.notes (length c.args.backs.now)
 laid c =
     notes_wider (hit_at c.args.pace c.args.path) c.args.from (c.args.to - c.args.from) c.lay_steps.new.notes
-    (end_of c.args.path) (length c.args.backs.now) (omega (arith, c.requires.0.within, c.requires.0.paired)) (c.lay_steps.ensures (turned_off _ c.if-not-lay_steps.false))
+    (end_of c.args.path) (length c.args.backs.now) (omega (arith, c.requires.0.within, c.requires.0.paired)) (c.lay_steps.ensures c.if-not-lay_steps.false)
 
 pub pass_steps-requires : goal.pass_steps-requires
 pass_steps-requires c =
-    let t = some (goal.at.pass_steps-requires c).After-struct_known-1 in
+    let t = some (goal.at.pass_steps-requires c).Else-to-from in
     let k = c.lay_steps.auto.notes in (
       c.requires.0,
       omega (arith, t.0),
       omega (arith, c.requires.3, k),
       k ∙ c.requires.4,
       c.requires.1 t.0,
-      laid (goal.at.pass_steps-requires c).After-slice_known-2-1,
+      laid (goal.at.pass_steps-requires c).Else-not-lay_steps,
     )
 
 pub returns : goal.returns
-returns c = λ e. (c.pass_steps.ensures e, laid (goal.at.returns c).After-slice_known-2-1)
+returns c = λ e. (c.pass_steps.ensures e, laid (goal.at.returns c).Else-not-lay_steps)

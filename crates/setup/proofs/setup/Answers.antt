@@ -9,7 +9,7 @@ use Rattle.walk.specs.Setup.{counts_of, walk_on}
 use Rattle.walk.specs.Around.{Around}
 use Rattle.walk.proofs.AroundLaws.{both_span, counts_are}
 use Rattle.setup.proofs.setup.Goals as goal
-use Rattle.setup.proofs.setup.Goals.{After-count_steps-k, After-floor_near-right}
+use Rattle.setup.proofs.setup.Goals.{After-floor_near-right}
 
 pub floor_near-bottom-requires : goal.floor_near-bottom-requires
 floor_near-bottom-requires c =
@@ -43,19 +43,17 @@ count_steps-k-requires c = both_span _ _ (around c)
 pub incline-m-requires : goal.incline-m-requires
 incline-m-requires c = around (goal.at.incline-m-requires c).After-floor_near-right
 
-counted : (c : After-count_steps-k) → c.count_steps-k.result ≡ counts_of c.args.e.s0 c.args.e.s1
-counted c = c.count_steps-k.ensures ∙ counts_are _ _ (around c)
-
 pub rise-a-requires : goal.rise-a-requires
 rise-a-requires c = both_span _ _ (around (goal.at.rise-a-requires c).After-floor_near-right)
 
 pub returns : goal.returns
 unfolding walk_on
 returns c =
+    let k : c.count_steps-k.result ≡ counts_of c.args.e.s0 c.args.e.s1 = c.count_steps-k.ensures ∙ counts_are _ _ (around (goal.at.returns c).After-floor_near-right) in
     rw (
       c.rise-a.ensures,
       counts_are _ _ (around (goal.at.returns c).After-floor_near-right),
       c.start-b.ensures,
       c.incline-m.ensures,
-      counted (goal.at.returns c).After-count_steps-k,
+      k,
     )

@@ -1,12 +1,12 @@
 -- `setup::walk_at` meets its contract. Assumes nothing.
 use native.Mathlib.Omega.{arith}
-use Rattle.walk.proofs.Lines.{turned_on, turned_off, far_off, no_path, goes}
+use Rattle.walk.proofs.Lines.{far_off, no_path, goes}
 use Rattle.setup.proofs.walk_at.Goals as goal
 
 pub returns-then-not-reached : goal.returns-then-not-reached
 returns-then-not-reached c =
     far_off c.args.path_nos.now c.args.coords.now c.args.paths.now c.args.line_no c.line_at-line.result c.line_at-line.ensures
-    (cc (turned_on c.reached.result c.if-not-reached.true))
+    (cc)
 
 pub overflow_cast-path_no-2 : goal.overflow_cast-path_no-2
 overflow_cast-path_no-2 c = omega (arith, c.shared_slice_known-4-1.given c.args.line_no)
@@ -14,16 +14,16 @@ overflow_cast-path_no-2 c = omega (arith, c.shared_slice_known-4-1.given c.args.
 pub returns-then-path_no-paths : goal.returns-then-path_no-paths
 returns-then-path_no-paths c =
     no_path c.args.path_nos.now c.args.coords.now c.args.paths.now c.args.line_no c.line_at-line.result c.line_at-line.ensures
-    (cc (turned_off c.reached.result c.if-not-reached.false))
+    (cc)
     c.if-path_no-paths.true
 
 pub walk_on-requires : goal.walk_on-requires
-walk_on-requires c = cc (turned_off c.reached.result c.if-not-reached.false)
+walk_on-requires c = cc
 
 pub returns : goal.returns
 returns c =
     goes c.args.path_nos.now c.args.coords.now c.args.paths.now c.args.line_no c.line_at-line.result c.line_at-line.ensures
     c.walk_on.result
-    (cc (turned_off c.reached.result c.if-not-reached.false))
+    (cc)
     c.if-path_no-paths.false
     (cc)

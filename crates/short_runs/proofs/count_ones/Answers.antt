@@ -12,7 +12,7 @@ use Rattle.one_tile.specs.One.{Alone, OneMet}
 use Rattle.one_tile.specs.declared.One.{One}
 use Rattle.short_runs.proofs.Ones.{run_one}
 use Rattle.short_runs.proofs.count_ones.Goals as goal
-use Rattle.short_runs.proofs.count_ones.Goals.{In-In-2}
+use Rattle.short_runs.proofs.count_ones.Goals.{In-In}
 
 pub loop-n-init : goal.loop-n-init
 loop-n-init c = (omega arith, omega arith, refl, refl, λ bs. rw (add-zero c.args.made))
@@ -42,7 +42,7 @@ pub returns-in_default : goal.returns-in_default
 returns-in_default c = let i = c.loop-n.invariant in (i.0, i.1, i.4)
 
 -- the line lies within the tile named, which may be counted
-alone : (c : In-In-2) →
+alone : (c : In-In) →
     let a = c.args in
     let s = c.loop-n in
     Alone a.path_nos.now a.coords.now a.paths.now (a.place + s.n) (a.made + s.n) s.counts (length s.refs) c.in-In.tile
@@ -59,7 +59,7 @@ overflow_add-made-in-loop-n c = omega (arith, c.loop-n.invariant.1)
 
 pub visit-requires : goal.visit-requires
 unfolding step_range
-visit-requires c = let a = alone (goal.at.visit-requires c).In-In-2 in (a.lent, a.room, a.free, omega arith, a.few)
+visit-requires c = let a = alone (goal.at.visit-requires c).In-In in (a.lent, a.room, a.free, omega arith, a.few)
 
 pub overflow_add-n : goal.overflow_add-n
 overflow_add-n c = omega (arith, c.loop-n-test.true, c.numbered-most.ensures)
@@ -72,7 +72,7 @@ loop-n-preserved c =
     let a = c.args in
     let s = c.loop-n in
     let v = c.visit in
-    let t = alone (goal.at.loop-n-preserved c).In-In-2 in (
+    let t = alone (goal.at.loop-n-preserved c).In-In in (
       omega (arith, c.loop-n-test.true, c.numbered-most.ensures),
       omega (arith, t.few),
       v.auto.counts ∙ s.invariant.2,

@@ -7,8 +7,8 @@ use Rattle.spot.proofs.tile_by.Goals.{Else-x-b}
 -- the tile is in the box
 inside : (c : Else-x-b) → At c.args.tx c.args.ty c.args.b c.wrapping_sub_u32-col.result c.wrapping_sub_u32-row.result
 inside c =
-    at_box c.args.tx c.args.ty c.args.b c.requires.0 _ _ _ _ c.wrapping_sub_u32-col.ensures
-    c.wrapping_sub_u32-row.ensures c.wrapping_sub_u32-x.ensures c.wrapping_sub_u32-y.ensures
+    at_box c.args.tx c.args.ty c.args.b c.requires.0 _ _ _ _ c.wrapping_sub_u32-col.ensures.value
+    c.wrapping_sub_u32-row.ensures.value c.wrapping_sub_u32-x.ensures.value c.wrapping_sub_u32-y.ensures.value
     c.if-x-b.false
 
 pub tile_at-requires : goal.tile_at-requires

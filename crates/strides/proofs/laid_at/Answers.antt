@@ -42,16 +42,16 @@ word_at-requires c =
     _ _ _ refl _ _ c.pick_u32-col.ensures c.pick_u32-row.ensures
 
 -- z, by the step's number as it is
-z_is : (c : After-floor_bits-z) →
+z_is : (c : After-floor_bits-z) → c.args.i < 2 ^ 31 →
     c.floor_bits-z.result ≡ bits_of (floor_z (held_of (sum_at c.args.p (float c.args.i))))
-z_is c =
+z_is c l =
     c.floor_bits-z.ensures
     ∙ ap (λ (v : Float). bits_of (floor_z v)) c.held.ensures
-    ∙ ap (λ (n : ℤ). bits_of (floor_z (held_of (sum_at c.args.p (of_int binary32 n))))) (to_z_pos w32 (few c))
+    ∙ ap (λ (n : ℤ). bits_of (floor_z (held_of (sum_at c.args.p (of_int binary32 n))))) (to_z_pos w32 l)
 
 pub returns : goal.returns
 returns c =
     laid c.args.p c.args.b c.requires.0 c.requires.2 c.args.g (the_grid (goal.at.returns c).Start) c.requires.1
-    _ _ _ refl c.args.i c.requires.3 _ (z_is (goal.at.returns c).After-floor_bits-z)
-    c.wrapping_sub_u32-x.ensures c.wrapping_sub_u32-y.ensures
+    _ _ _ refl c.args.i c.requires.3 _ (z_is (goal.at.returns c).After-floor_bits-z (few (goal.at.returns c).Start))
+    c.wrapping_sub_u32-x.ensures.value c.wrapping_sub_u32-y.ensures.value
     c.args.last _ _ _ _ c.pick_u32-col.ensures c.pick_u32-row.ensures refl c.word_at.ensures

@@ -33,53 +33,53 @@ inside : (c : Else-x-g) →
     (c.wrapping_sub_u32-x.result < c.args.g.width) × (c.wrapping_sub_u32-y.result < c.args.g.height)
 inside c = in_both _ _ _ _ c.if-x-g.false
 
-few : (c : Else-x-g) → (c.wrapping_sub_u32-y.result * c.args.g.width + c.wrapping_sub_u32-x.result < width_of c.args.b * height_of c.args.b)
+few : (c : Else-x-g) → Grid c.args.p c.args.b c.requires.0 c.requires.1 c.args.g → Within (sum_at c.args.p (float c.args.i)) → (c.wrapping_sub_u32-y.result * c.args.g.width + c.wrapping_sub_u32-x.result < width_of c.args.b * height_of c.args.b)
     × (c.args.b.first + width_of c.args.b * height_of c.args.b ≤ most_tiles)
-few c =
-    cells c.args.p c.args.b c.requires.0 c.requires.1 c.args.g (the_grid c) c.args.i c.requires.2 (near c)
+few c g n =
+    cells c.args.p c.args.b c.requires.0 c.requires.1 c.args.g g c.args.i c.requires.2 n
     _ _ _ c.floor_bits-z.ensures
-    c.wrapping_sub_u32-x.ensures c.wrapping_sub_u32-y.ensures (inside c).0 (inside c).1
+    c.wrapping_sub_u32-x.ensures.value c.wrapping_sub_u32-y.ensures.value (inside c).0 (inside c).1
 
 pub overflow_mul-t : goal.overflow_mul-t
-overflow_mul-t c = let f = few (goal.at.overflow_mul-t c).Else-x-g in omega (arith, f.0, f.1)
+overflow_mul-t c = let f = few (goal.at.overflow_mul-t c).Else-x-g (the_grid (goal.at.overflow_mul-t c).Start) (near (goal.at.overflow_mul-t c).Else-not-near) in omega (arith, f.0, f.1)
 
 pub overflow_add-t : goal.overflow_add-t
 overflow_add-t c =
-    let f = few (goal.at.overflow_add-t c).Else-x-g in
+    let f = few (goal.at.overflow_add-t c).Else-x-g (the_grid (goal.at.overflow_add-t c).Start) (near (goal.at.overflow_add-t c).Else-not-near) in
     omega (arith, f.0, f.1, (the_grid (goal.at.overflow_add-t c).Start).base_is, (edges_few c.args.p c.args.b c.requires.0 c.requires.1).0)
 
 -- and so are the sums that make it
-sums : (c : Else-x-g) → let x = c.wrapping_sub_u32-x.result in
+sums : (c : Else-x-g) → Grid c.args.p c.args.b c.requires.0 c.requires.1 c.args.g → Within (sum_at c.args.p (float c.args.i)) → let x = c.wrapping_sub_u32-x.result in
     let y = c.wrapping_sub_u32-y.result in
     (c.args.g.twice * x ≤ 2 * x) × (x + c.args.g.back ≤ c.args.g.base + y * c.args.g.width + c.args.g.twice * x) × (c.args.g.back ≤ 2 ^ 20 + 1)
-sums c =
-    own_few c.args.p c.args.b c.requires.0 c.requires.1 c.args.g (the_grid c) c.args.i c.requires.2 (near c)
+sums c g n =
+    own_few c.args.p c.args.b c.requires.0 c.requires.1 c.args.g g c.args.i c.requires.2 n
     _ _ _ c.floor_bits-z.ensures
-    c.wrapping_sub_u32-x.ensures c.wrapping_sub_u32-y.ensures (inside c).0 (inside c).1
+    c.wrapping_sub_u32-x.ensures.value c.wrapping_sub_u32-y.ensures.value (inside c).0 (inside c).1
 
 pub overflow_mul-own : goal.overflow_mul-own
 overflow_mul-own c =
-    let f = few (goal.at.overflow_mul-own c).Else-x-g in
-    omega (arith, f.0, f.1, (sums (goal.at.overflow_mul-own c).Else-x-g).0)
+    let f = few (goal.at.overflow_mul-own c).Else-x-g (the_grid (goal.at.overflow_mul-own c).Start) (near (goal.at.overflow_mul-own c).Else-not-near) in
+    omega (arith, f.0, f.1, (sums (goal.at.overflow_mul-own c).Else-x-g (the_grid (goal.at.overflow_mul-own c).Start) (near (goal.at.overflow_mul-own c).Else-not-near)).0)
 
 pub overflow_add-own : goal.overflow_add-own
 overflow_add-own c =
-    let f = few (goal.at.overflow_add-own c).Else-x-g in
-    omega (arith, f.0, f.1, (the_grid (goal.at.overflow_add-own c).Start).base_is, (edges_few c.args.p c.args.b c.requires.0 c.requires.1).0, (sums (goal.at.overflow_add-own c).Else-x-g).0)
+    let f = few (goal.at.overflow_add-own c).Else-x-g (the_grid (goal.at.overflow_add-own c).Start) (near (goal.at.overflow_add-own c).Else-not-near) in
+    omega (arith, f.0, f.1, (the_grid (goal.at.overflow_add-own c).Start).base_is, (edges_few c.args.p c.args.b c.requires.0 c.requires.1).0, (sums (goal.at.overflow_add-own c).Else-x-g (the_grid (goal.at.overflow_add-own c).Start) (near (goal.at.overflow_add-own c).Else-not-near)).0)
 
 pub overflow_add-own-2 : goal.overflow_add-own-2
 overflow_add-own-2 c =
-    let f = few (goal.at.overflow_add-own-2 c).Else-x-g in
-    omega (arith, f.0, f.1, (sums (goal.at.overflow_add-own-2 c).Else-x-g).2)
+    let f = few (goal.at.overflow_add-own-2 c).Else-x-g (the_grid (goal.at.overflow_add-own-2 c).Start) (near (goal.at.overflow_add-own-2 c).Else-not-near) in
+    omega (arith, f.0, f.1, (sums (goal.at.overflow_add-own-2 c).Else-x-g (the_grid (goal.at.overflow_add-own-2 c).Start) (near (goal.at.overflow_add-own-2 c).Else-not-near)).2)
 
 pub overflow_sub-own : goal.overflow_sub-own
-overflow_sub-own c = (sums (goal.at.overflow_sub-own c).Else-x-g).1
+overflow_sub-own c = (sums (goal.at.overflow_sub-own c).Else-x-g (the_grid (goal.at.overflow_sub-own c).Start) (near (goal.at.overflow_sub-own c).Else-not-near)).1
 
 pub returns : goal.returns
 returns c =
     struck c.args.p c.args.b c.requires.0 c.requires.1 c.args.g (the_grid (goal.at.returns c).Start) c.args.i c.requires.2
     (near (goal.at.returns c).Else-not-near) _ _ _
     c.floor_bits-z.ensures
-    c.wrapping_sub_u32-x.ensures
-    c.wrapping_sub_u32-y.ensures
+    c.wrapping_sub_u32-x.ensures.value
+    c.wrapping_sub_u32-y.ensures.value
     (inside (goal.at.returns c).Else-x-g).0 (inside (goal.at.returns c).Else-x-g).1 c.args.last _ _ c.requires.4 refl refl

@@ -46,11 +46,10 @@ pub overflow_sub-col : goal.overflow_sub-col
 overflow_sub-col c =
     omega (arith, (col_bounds (goal.at.overflow_sub-col c).After-floor_bits-col).1, (edges_few c.args.p c.args.b c.requires.0 c.requires.1).0)
 
-low_bounds : (c : After-pick_u32-low) → (c.pick_u32-low.result ≤ 1262485504 + 2 ^ 23) × (1 ≤ c.pick_u32-low.result)
-low_bounds c =
+low_bounds : (c : After-pick_u32-low) → (c.floor_bits-col.result ≤ 1262485504 + 2 ^ 21) × (1262485504 ≤ c.floor_bits-col.result + 2 ^ 21) → (c.pick_u32-low.result ≤ 1262485504 + 2 ^ 23) × (1 ≤ c.pick_u32-low.result)
+low_bounds c f =
     let e = (edges_few c.args.p c.args.b c.requires.0 c.requires.1).0 in
     let l = c.requires.0.left in
-    let f = col_bounds c in
     go (lt zero c.args.p.sign) c.pick_u32-low.result c.pick_u32-low.ensures f e l
   where
     go : (t : Bool) (r : ℕ) {col left right : ℕ} → r ≡ cond t (1262485504 + 1262485504 + left - col) (col + 1 - right) → (col ≤ 1262485504 + 2 ^ 21) × (1262485504 ≤ col + 2 ^ 21) → right ≤ 2 ^ 20
@@ -60,10 +59,10 @@ low_bounds c =
 
 pub overflow_add-low : goal.overflow_add-low
 overflow_add-low c =
-    omega (arith, (low_bounds c).0, (edges_few c.args.p c.args.b c.requires.0 c.requires.1).0)
+    omega (arith, (low_bounds (goal.at.overflow_add-low c).After-pick_u32-low (col_bounds (goal.at.overflow_add-low c).After-floor_bits-col)).0, (edges_few c.args.p c.args.b c.requires.0 c.requires.1).0)
 
 pub overflow_sub-low : goal.overflow_sub-low
-overflow_sub-low c = omega (arith, (low_bounds c).1)
+overflow_sub-low c = omega (arith, (low_bounds (goal.at.overflow_sub-low c).After-pick_u32-low (col_bounds (goal.at.overflow_sub-low c).After-floor_bits-col)).1)
 
 pub overflow_sub-top : goal.overflow_sub-top
 overflow_sub-top c =

@@ -16,7 +16,7 @@ use Rattle.hits.specs.Steps.{hit_at}
 use Rattle.walked_lines.specs.Line.{plan_by, Clipped}
 use Rattle.walked_lines.proofs.Lines.{starts, left, clipped, rows_in, not_far, has_room, walk_far, walk_full, walk_refused, walk_fine, walk_done}
 use Rattle.walked_lines.proofs.count_walk.Goals as goal
-use Rattle.walked_lines.proofs.count_walk.Goals.{After-check_line-arg-1, After-check_line-v, After-clip_to-clip, After-rows_by-rows, Else-imin-imax}
+use Rattle.walked_lines.proofs.count_walk.Goals.{After-check_line-v, After-rows_by-rows}
 
 pub returns-then-imin-imax : goal.returns-then-imin-imax
 unfolding most_steps
@@ -64,15 +64,18 @@ acts c =
 
 pub check_line-v-requires : goal.check_line-v-requires
 check_line-v-requires c =
-    (c.requires.0, rows (goal.at.check_line-v-requires c).Else-imin-imax, (kept (goal.at.check_line-v-requires c).Else-imin-imax).onward, (kept (goal.at.check_line-v-requires c).Else-imin-imax).last, starts c.args.walk c.args.path c.requires.1, c.requires.2)
+    (c.requires.0, rows (goal.at.check_line-v-requires c).After-rows_by-rows, (kept (goal.at.check_line-v-requires c).After-rows_by-rows).onward, (kept (goal.at.check_line-v-requires c).After-rows_by-rows).last, starts c.args.walk c.args.path c.requires.1, c.requires.2)
 
 -- what the check says, of those acts
 checked : (c : After-check_line-v) →
     let d = not c.args.walk.e.is_down in
+    let k = c.clip_to-clip.result in
+    rows_acts c.rows_by-rows.result ++ steps_acts (hit_at c.args.walk.pace c.args.path) (k.imax - k.imin) k.imin
+    ≡ plan_acts (plan_by d c.args.walk.pace c.args.path k) →
     c.check_line-v.result ≡ check_no (delta_of d) (plan_acts (plan_by d c.args.walk.pace c.args.path c.clip_to-clip.result)) c.args.backs.now c.args.counts.now
-checked c =
+checked c h =
     c.check_line-v.ensures.0
-    ∙ ap (λ (xs : List Act). check_no (delta_of (not c.args.walk.e.is_down)) xs c.args.backs.now c.args.counts.now) (acts c)
+    ∙ ap (λ (xs : List Act). check_no (delta_of (not c.args.walk.e.is_down)) xs c.args.backs.now c.args.counts.now) h
 
 pub returns-in-Against : goal.returns-in-Against
 unfolding most_steps
@@ -80,7 +83,7 @@ returns-in-Against c =
     let k = c.clip_to-clip in
     walk_refused (length c.args.refs.now / ref_words) c.args.line.0 c.args.walk c.args.path k.result k.ensures
     (st_of c.args.backs.now c.args.counts.now c.args.refs.now c.args.made)
-    c.if-imin-imax.false c.if-after-refs.false _ _ c.requires.0 c.requires.1 c.check_line-v.result (checked (goal.at.returns-in-Against c).After-check_line-v) _ c.in-Against.is
+    c.if-imin-imax.false c.if-after-refs.false _ _ c.requires.0 c.requires.1 c.check_line-v.result (checked (goal.at.returns-in-Against c).After-check_line-v (acts (goal.at.returns-in-Against c).After-rows_by-rows)) _ c.in-Against.is
 
 pub write_line-requires : goal.write_line-requires
 unfolding most_steps
@@ -89,18 +92,18 @@ write_line-requires c =
     let fine = c.in_default.is in
     let room = has_room (length c.args.refs.now / ref_words) (c.args.made + (k.result.imax - k.result.imin)) c.if-after-refs.false in (
       c.requires.0,
-      rows (goal.at.write_line-requires c).After-clip_to-clip,
-      (kept (goal.at.write_line-requires c).After-clip_to-clip).onward,
-      (kept (goal.at.write_line-requires c).After-clip_to-clip).last,
-      c.check_line.auto.1.1.1.1.1.1.1.1.0 ∙ c.requires.2,
-      c.check_line.ensures.1 fine,
+      rows (goal.at.write_line-requires c).After-rows_by-rows,
+      (kept (goal.at.write_line-requires c).After-rows_by-rows).onward,
+      (kept (goal.at.write_line-requires c).After-rows_by-rows).last,
+      c.check_line-v.auto.notes ∙ c.requires.2,
+      c.check_line-v.ensures.1 fine,
       omega (arith, room),
       omega (arith, room),
       subst (λ (xs : List Act). is_done (run_acts (delta_of (not c.args.walk.e.is_down)) c.args.line.0 xs (st_of c.args.backs.now c.args.counts.now c.args.refs.now c.args.made)) ≡ true)
-          (sym (acts (goal.at.write_line-requires c).After-clip_to-clip))
+          (sym (acts (goal.at.write_line-requires c).After-rows_by-rows))
           (walk_fine (length c.args.refs.now / ref_words) c.args.line.0 c.args.walk c.args.path k.result k.ensures
           (st_of c.args.backs.now c.args.counts.now c.args.refs.now c.args.made)
-          c.if-imin-imax.false c.if-after-refs.false _ _ c.requires.0 c.requires.1 c.check_line.result (checked (goal.at.write_line-requires c).After-check_line-arg-1) fine),
+          c.if-imin-imax.false c.if-after-refs.false _ _ c.requires.0 c.requires.1 c.check_line-v.result (checked (goal.at.write_line-requires c).After-check_line-v (acts (goal.at.write_line-requires c).After-rows_by-rows)) fine),
     )
 
 pub returns : goal.returns
@@ -110,4 +113,4 @@ returns c =
     let u = st_of c.args.backs.now c.args.counts.now c.args.refs.now c.args.made in
     walk_done (length c.args.refs.now / ref_words) c.args.line.0 c.args.walk c.args.path k.result k.ensures u c.if-imin-imax.false c.if-after-refs.false _
     (c.write_line.ensures
-    ∙ ap (λ (xs : List Act). run_acts (delta_of (not c.args.walk.e.is_down)) c.args.line.0 xs u) (acts (goal.at.returns c).After-clip_to-clip))
+    ∙ ap (λ (xs : List Act). run_acts (delta_of (not c.args.walk.e.is_down)) c.args.line.0 xs u) (acts (goal.at.returns c).After-rows_by-rows))

@@ -1,6 +1,6 @@
 -- `whole::whole_int` meets its contract: the bits of a whole number shifted to where the floats are whole (`Steps.antt`). Assumes nothing.
 use mathlib.Core.Path.{◌≡◌, sym, ap, ◌∙◌, subst}
-use Prim.Native.Nat.{ℕ, ◌-◌, ◌<◌, ◌^◌}
+use Prim.Native.Nat.{ℕ, ◌<◌, ◌^◌}
 use native.Mathlib.Omega.{arith}
 use lib.IntN.{ℤ, pos, neg_ℤ, ◌-ℤ◌}
 use lib.Ieee.{Float, binary32, add, of_bits, to_bits, to_signed}

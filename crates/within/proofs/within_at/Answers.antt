@@ -11,7 +11,7 @@ use Rattle.within.proofs.Withins.{unclipped}
 use Rattle.within.proofs.within_at.Goals as goal
 
 pub overflow_cast-path_no-2 : goal.overflow_cast-path_no-2
-overflow_cast-path_no-2 c = omega (arith, c.shared_slice_known-4-1.given c.args.place)
+overflow_cast-path_no-2 c = omega (arith, c.type_inv.path_nos c.args.place)
 
 pub inside_at-requires : goal.inside_at-requires
 inside_at-requires c =
@@ -20,7 +20,7 @@ inside_at-requires c =
 pub returns : goal.returns
 returns c =
     let b = c.path_at-path in
-    let i = c.pace-1 in
-    unclipped c.args.path_nos.now c.args.coords.now c.args.paths.now c.args.place c.line_at-line.result b.result i.given.0.0 i.given.0.1.0 _
+    let i = c.in-In in
+    unclipped c.args.path_nos.now c.args.coords.now c.args.paths.now c.args.place c.line_at-line.result b.result i.pace i.n _
     c.line_at-line.ensures b.ensures c.if-path_no-paths.false
-    (subst (λ (r : Inside). InsideMet (line_at c.args.coords.now c.args.place) b.result r) i.given.1 c.inside_at.ensures) refl
+    (subst (λ (r : Inside). InsideMet (line_at c.args.coords.now c.args.place) b.result r) i.is c.inside_at.ensures) refl

@@ -22,7 +22,7 @@ overflow_cast-sum c =
     let l = c.loop-i in
     let bs = c.args.backdrops.now in
     let b = backdrop_at bs l.i in
-    let s = to_z w64 l.sum in
+    let s = to_z w64 l.sum-bits in
     let g : SFits w32 b = record { sfits = c.sum-1.given } in
     read_fits s b l.invariant.1 g
 
@@ -31,7 +31,7 @@ overflow_add-sum c =
     let l = c.loop-i in
     let bs = c.args.backdrops.now in
     let b = backdrop_at bs l.i in
-    let s = to_z w64 l.sum in
+    let s = to_z w64 l.sum-bits in
     let g : SFits w32 b = record { sfits = c.sum-1.given } in
     added_fits s b l.invariant.1 g
 
@@ -40,7 +40,7 @@ returns-then-not-in_i32 c =
     let l = c.loop-i in
     let bs = c.args.backdrops.now in
     let b = backdrop_at bs l.i in
-    let s = to_z w64 l.sum in
+    let s = to_z w64 l.sum-bits in
     let g : SFits w32 b = record { sfits = c.sum-1.given } in
     let out : in_i32 (s +ℤ b) ≡ false = ap in_i32 (sym (added s b l.invariant.1 g)) ∙ sym c.in_i32.ensures ∙ c.if-not-in_i32.true in
     sym (rw out at (fits_turn bs c.args.end l.i s c.loop-i-test.true)) ∙ l.invariant.2
@@ -50,7 +50,7 @@ loop-i-preserved c =
     let l = c.loop-i in
     let bs = c.args.backdrops.now in
     let b = backdrop_at bs l.i in
-    let s = to_z w64 l.sum in
+    let s = to_z w64 l.sum-bits in
     let g : SFits w32 b = record { sfits = c.sum-1.given } in
     let in_it : in_i32 (s +ℤ b) ≡ true = ap in_i32 (sym (added s b l.invariant.1 g)) ∙ sym c.in_i32.ensures ∙ c.if-not-in_i32.false in
     let turn = rw in_it at (fits_turn bs c.args.end l.i s c.loop-i-test.true) in
@@ -59,4 +59,4 @@ loop-i-preserved c =
 pub returns : goal.returns
 returns c =
     let l = c.loop-i in
-    sym (fits_end c.args.backdrops.now c.args.end l.i (to_z w64 l.sum) c.loop-i-test.false) ∙ l.invariant.2
+    sym (fits_end c.args.backdrops.now c.args.end l.i (to_z w64 l.sum-bits) c.loop-i-test.false) ∙ l.invariant.2

@@ -7,7 +7,7 @@ use Rattle.backdrop.specs.Backdrop.{row_fits}
 use Rattle.backdrop.proofs.rows.row_fits.Given as goal
 
 abbrev pub invariant-loop-i : goal.invariant-loop-i
-invariant-loop-i l = (l.i ≤ l.end) × (SFits w32 (to_z w64 l.sum)) × (row_fits (l.end - l.i) l.i (to_z w64 l.sum) l.backdrops ≡ row_fits (l.end - l.at) l.at (pos 0) l.backdrops)
+invariant-loop-i l = (l.i ≤ l.end) × (SFits w32 l.sum) × (row_fits (l.end - l.i) l.i l.sum l.backdrops ≡ row_fits (l.end - l.at) l.at (pos 0) l.backdrops)
 
 abbrev pub decreases-loop-i : goal.decreases-loop-i
 decreases-loop-i l = l.end - l.i

@@ -23,7 +23,7 @@ overflow_add-sum c =
     let l = c.loop-i in
     let bs = l.backdrops in
     let b = backdrop_at bs l.i in
-    let s = to_z w32 l.sum in
+    let s = to_z w32 l.sum-bits in
     let end = c.args.end in
     let g : SFits w32 b = record { sfits = c.sum-1.given } in
     let now_fits = both (in_i32 (s +ℤ b)) (row_fits (end - (l.i + 1)) (l.i + 1) (s +ℤ b) bs) (sym (fits_turn bs end l.i s c.loop-i-test.true) ∙ l.invariant.3) in
@@ -34,7 +34,7 @@ loop-i-preserved c =
     let l = c.loop-i in
     let bs = l.backdrops in
     let b = backdrop_at bs l.i in
-    let s = to_z w32 l.sum in
+    let s = to_z w32 l.sum-bits in
     let end = c.args.end in
     let g : SFits w32 b = record { sfits = c.sum-1.given } in
     let now_fits = both (in_i32 (s +ℤ b)) (row_fits (end - (l.i + 1)) (l.i + 1) (s +ℤ b) bs) (sym (fits_turn bs end l.i s c.loop-i-test.true) ∙ l.invariant.3) in
@@ -50,4 +50,4 @@ loop-i-preserved c =
 pub returns : goal.returns
 returns c =
     let l = c.loop-i in
-    sym (sums_end l.backdrops c.args.end l.i (to_z w32 l.sum) (omega arith)) ∙ l.invariant.4
+    sym (sums_end l.backdrops c.args.end l.i (to_z w32 l.sum-bits) (omega arith)) ∙ l.invariant.4

@@ -10,8 +10,8 @@ use Rattle.backdrop.proofs.rows.sum_row.Given as goal
 
 abbrev pub invariant-loop-i : goal.invariant-loop-i
 invariant-loop-i l =
-    (l.i ≤ l.end) × (SFits w32 (to_z w32 l.sum)) × (length l.backdrops ≡ length l.initial.backdrops) × (row_fits (l.end - l.i) l.i (to_z w32 l.sum) l.backdrops ≡ true)
-    × (row_sums (l.end - l.i) l.i (to_z w32 l.sum) l.backdrops ≡ row_sums (l.end - l.at) l.at (pos 0) l.initial.backdrops)
+    (l.i ≤ l.end) × (SFits w32 l.sum) × (length l.backdrops ≡ length l.initial.backdrops) × (row_fits (l.end - l.i) l.i l.sum l.backdrops ≡ true)
+    × (row_sums (l.end - l.i) l.i l.sum l.backdrops ≡ row_sums (l.end - l.at) l.at (pos 0) l.initial.backdrops)
 
 abbrev pub decreases-loop-i : goal.decreases-loop-i
 decreases-loop-i l = l.end - l.i

@@ -1,21 +1,11 @@
 use Rattle.svg_outline.specs.declared.steps.Kind.TheVariants.{Move}
 use Rattle.svg_outline.proofs.count.count.Goals as goal
 -- `svg_outline::count` meets its contract: the lines so far and those to come are all. Assumes nothing.
-use borrow.Author.Rules.{rules}
-use Prim.Native.Nat.{◌-◌}
 use native.Mathlib.Omega.{arith}
 use lib.ListN.{length}
-use Rattle.svg_outline.proofs.Texts.{place_past, Counting, from_none, sum_fits, counted, counted_over, end_over, end_in}
-use Rattle.svg_outline.proofs.count.count.Statement.{statement}
-use Rattle.svg_outline.proofs.count.count.Tie as tie
-use Rattle.svg_outline.proofs.count.count.Reads as reads
-use Rattle.svg_outline.proofs.count.count.Lts as lts
-use Rattle.svg_outline.proofs.steps.act.Reads as act-reads
-use Rattle.svg_outline.proofs.steps.many.Reads as many-reads
-use Rattle.svg_outline.proofs.steps.pass.Reads as pass-reads
-use Rattle.svg_outline.proofs.steps.place.Reads as place-reads
-use Rattle.svg_outline.proofs.steps.start.Reads as start-reads
-use Rattle.svg_tokens.proofs.next.Reads as next-reads
+use Rattle.svg_outline.specs.declared.steps.Kind.TheVariants.{Move}
+use Rattle.svg_outline.proofs.Texts.{place_past, from_none, sum_fits, counted, counted_over, end_over, end_in}
+use Rattle.svg_outline.proofs.count.count.Goals as goal
 
 pub loop-i-init : goal.loop-i-init
 loop-i-init c = from_none c.args.s.now c.args.depth c.args.room _ c.start-g.ensures

@@ -1,3 +1,6 @@
+use Prim.Native.Nat.{◌-◌}
+use lib.ListN.{length}
+use Rattle.svg_outline.proofs.Texts.{Counting}
 use Rattle.svg_outline.proofs.count.count.Given as goal
 
 abbrev pub invariant-loop-i : goal.invariant-loop-i

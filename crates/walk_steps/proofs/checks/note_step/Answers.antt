@@ -22,7 +22,7 @@ use Rattle.hits.proofs.StepLaws.{hit_off, hit_on, next_below}
 use Rattle.hits.proofs.NoteLaws.{none_leaves}
 use Rattle.walk_steps.proofs.CheckLaws.{noted_by_lem}
 use Rattle.walk_steps.proofs.checks.note_step.Goals as goal
-use Rattle.walk_steps.proofs.checks.note_step.Goals.{After-crosses-marks, After-leaves, After-next_if-q, After-word_of-word, In-Tile-2}
+use Rattle.walk_steps.proofs.checks.note_step.Goals.{After-crosses-marks, After-leaves, After-next_if-q, After-word_of-word, In-Tile}
 
 pub returns-in_default : goal.returns-in_default
 returns-in_default c =
@@ -31,31 +31,31 @@ returns-in_default c =
     (check_off _ _ _ _ _ (hit_off the_args.pace the_args.path the_args.i (sym c.step_by.ensures ∙ c.in_default.is)))
 
 -- the step is on its tile
-fell : (c : In-Tile-2) →
+fell : (c : In-Tile) →
     let the_args = c.args in
     step_of the_args.pace the_args.path the_args.i ≡ Tile c.in-Tile.tile c.in-Tile.x c.in-Tile.field-2 c.in-Tile.z
 fell c = sym c.step_by.ensures ∙ c.in-Tile.is
 
 -- which is lent
-below : (c : In-Tile-2) → c.in-Tile.tile.0 < length c.args.counts.now
+below : (c : In-Tile) → c.in-Tile.tile.0 < length c.args.counts.now
 below c =
     let the_args = c.args in
     omega (arith, (tile_in_lem the_args.pace the_args.path the_args.i _ _ _ _ (fell c)).1, c.requires.0.within)
 
 pub bounds-counts-t : goal.bounds-counts-t
-bounds-counts-t c = below (goal.at.bounds-counts-t c).In-Tile-2
+bounds-counts-t c = below (goal.at.bounds-counts-t c).In-Tile
 
 pub returns-then-counts-t-ge-MOST_COUNT : goal.returns-then-counts-t-ge-MOST_COUNT
 returns-then-counts-t-ge-MOST_COUNT c =
     let the_args = c.args in
     let the_pre = c.requires in
     ap (λ (v : Verdict). noted_of v (z_of the_args.pace the_args.i) (word_by (hit_at the_args.pace the_args.path the_args.i)))
-    (check_full _ _ _ _ _ _ _ (hit_on the_args.pace the_args.path the_args.i _ _ _ _ (fell (goal.at.returns-then-counts-t-ge-MOST_COUNT c).In-Tile-2) the_args.last_z _ the_pre.2 refl) c.if-counts-t-ge-MOST_COUNT.true)
+    (check_full _ _ _ _ _ _ _ (hit_on the_args.pace the_args.path the_args.i _ _ _ _ (fell (goal.at.returns-then-counts-t-ge-MOST_COUNT c).In-Tile) the_args.last_z _ the_pre.2 refl) c.if-counts-t-ge-MOST_COUNT.true)
 
 pub crosses-marks-requires : goal.crosses-marks-requires
 crosses-marks-requires c =
     let the_args = c.args in
-    (step_told the_args.pace the_args.path the_args.i _ _ _ _ (fell (goal.at.crosses-marks-requires c).In-Tile-2)).within.col_most
+    (step_told the_args.pace the_args.path the_args.i _ _ _ _ (fell (goal.at.crosses-marks-requires c).In-Tile)).within.col_most
 
 -- the tile that is marked, or the step's own, is lent
 next : (c : After-next_if-q) → c.next_if-q.result < length c.args.backs.now
@@ -65,7 +65,7 @@ next c =
     omega (
       arith,
       c.next_if-q.ensures,
-      next_below the_args.pace the_args.path the_args.i _ _ _ _ (fell c) the_args.last_z c.crosses-marks.result
+      next_below the_args.pace the_args.path the_args.i _ _ _ _ (sym c.step_by.ensures ∙ c.in-Tile.is) the_args.last_z c.crosses-marks.result
           c.crosses-marks.ensures,
       the_pre.0.within,
       the_pre.0.paired,
@@ -82,19 +82,17 @@ bounds-backs-q c = next (goal.at.bounds-backs-q c).After-next_if-q
 -- where the step falls, and whether it marks
 hit : (c : After-crosses-marks) →
     let the_args = c.args in
-    let the_tile = c.tile-1 in
-    hit_at the_args.pace the_args.path the_args.i ≡ on the_tile.given.0.0.0 c.crosses-marks.result
+    hit_at the_args.pace the_args.path the_args.i ≡ on c.in-Tile.tile.0 c.crosses-marks.result
 hit c =
     let the_args = c.args in
     let the_pre = c.requires in
-    hit_on the_args.pace the_args.path the_args.i _ _ _ _ (fell c) the_args.last_z c.crosses-marks.result the_pre.2 c.crosses-marks.ensures
+    hit_on the_args.pace the_args.path the_args.i _ _ _ _ (sym c.step_by.ensures ∙ c.in-Tile.is) the_args.last_z c.crosses-marks.result the_pre.2 c.crosses-marks.ensures
 
 -- what `leaves` says of the backdrop itself
 said : (c : After-leaves) →
     let the_args = c.args in
-    let the_tile = c.tile-1 in
     let the_crosses = c.crosses-marks in
-    c.leaves.result ≡ not (in_i32 (get_or the_args.backs.now (cond the_crosses.result (the_tile.given.0.0.0 + 1) the_tile.given.0.0.0) (pos 0) +ℤ delta_of the_args.up))
+    c.leaves.result ≡ not (in_i32 (get_or the_args.backs.now (cond the_crosses.result (c.in-Tile.tile.0 + 1) c.in-Tile.tile.0) (pos 0) +ℤ delta_of the_args.up))
 said c =
     let the_args = c.args in
     let the_next_if = c.next_if-q in
@@ -103,15 +101,15 @@ said c =
 
 pub word_of-word-requires : goal.word_of-word-requires
 word_of-word-requires c =
-    omega (arith, below (goal.at.word_of-word-requires c).In-Tile-2, c.requires.0.few)
+    omega (arith, below (goal.at.word_of-word-requires c).In-Tile, c.requires.0.few)
 
 pub check_step-requires : goal.check_step-requires
 check_step-requires c = (c.requires.0, c.requires.1, c.requires.2)
 
 -- the word is the step's
-word : (c : After-word_of-word) →
+word : (c : After-word_of-word) → hit_at c.args.pace c.args.path c.args.i ≡ on c.in-Tile.tile.0 c.crosses-marks.result →
     c.word_of-word.result ≡ word_by (hit_at c.args.pace c.args.path c.args.i)
-word c = c.word_of-word.ensures ∙ ap word_by (sym (hit c))
+word c h = c.word_of-word.ensures ∙ ap word_by (sym h)
 
 pub returns-then-leaves : goal.returns-then-leaves
 returns-then-leaves c =
@@ -119,13 +117,13 @@ returns-then-leaves c =
     c.noted_of.ensures
     ∙ ap (λ (x : Seen). noted_by x c.word_of-word.result) c.check_step.ensures
     ∙ noted_by_lem v (z_of c.args.pace c.args.i) c.word_of-word.result
-    ∙ ap (noted_of v (z_of c.args.pace c.args.i)) (word (goal.at.returns-then-leaves c).After-word_of-word)
+    ∙ ap (noted_of v (z_of c.args.pace c.args.i)) (word (goal.at.returns-then-leaves c).After-word_of-word (hit (goal.at.returns-then-leaves c).After-crosses-marks))
 
 pub returns : goal.returns
 returns c =
     let h = hit (goal.at.returns c).After-crosses-marks in
-    ap (λ z. Passed z c.word_of-word.result) (sym (step_told c.args.pace c.args.path c.args.i _ _ _ _ (fell ((goal.at.returns c).In-Tile-2))).is_z)
-    ∙ ap (Passed (z_of c.args.pace c.args.i)) (word (goal.at.returns c).After-word_of-word)
+    ap (λ z. Passed z c.word_of-word.result) (sym (step_told c.args.pace c.args.path c.args.i _ _ _ _ (fell ((goal.at.returns c).In-Tile))).is_z)
+    ∙ ap (Passed (z_of c.args.pace c.args.i)) (word (goal.at.returns c).After-word_of-word h)
     ∙ ap (λ (v : Verdict). noted_of v (z_of c.args.pace c.args.i) (word_by (hit_at c.args.pace c.args.path c.args.i)))
     (check_passes _ _ _ _ _ _ _ h c.leaves.result c.if-counts-t-ge-MOST_COUNT.false (said (goal.at.returns c).After-leaves)
     (none_leaves c.crosses-marks.result c.leaves.result c.if-leaves.false))

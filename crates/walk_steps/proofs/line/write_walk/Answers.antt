@@ -67,14 +67,14 @@ overflow_add-at c =
     omega (arith, (middle ((goal.at.overflow_add-at c).After-noted_to-mid)).1, (middle ((goal.at.overflow_add-at c).After-noted_to-mid)).0, the_pre.4)
 
 -- what is left after them, run from there, is the walk run from the start
-left : (c : After-write_notes) →
-    let the_noted_to = c.noted_to-mid in
-    let the_write_notes = c.write_notes in
-    let m = the_noted_to.result in run_acts (delta_of c.args.up) c.args.line.0
-    (steps_acts (hit_at c.args.pace c.args.path) (c.args.imax - m) m) (st_of the_write_notes.new.backs the_write_notes.new.counts
-    the_write_notes.new.refs (c.args.made + (m - c.args.imin))) ≡ run_acts (delta_of c.args.up) c.args.line.0
+left : (c : After-write_notes) → let m = c.noted_to-mid.result in
+    steps_acts (hit_at c.args.pace c.args.path) (c.args.imax - c.args.imin) c.args.imin ≡
+    steps_acts (hits_by c.args.notes.now c.args.imin) (m - c.args.imin) c.args.imin ++ steps_acts (hit_at c.args.pace c.args.path) (c.args.imax - m) m →
+    run_acts (delta_of c.args.up) c.args.line.0
+    (steps_acts (hit_at c.args.pace c.args.path) (c.args.imax - m) m) (st_of c.write_notes.new.backs c.write_notes.new.counts
+    c.write_notes.new.refs (c.args.made + (m - c.args.imin))) ≡ run_acts (delta_of c.args.up) c.args.line.0
     (steps_acts (hit_at c.args.pace c.args.path) (c.args.imax - c.args.imin) c.args.imin) (st_of c.args.backs.now c.args.counts.now c.args.refs.now c.args.made)
-left c = run_goes _ _ _ _ (halves c) _ _ _ _ refl c.write_notes.ensures
+left c h = run_goes _ _ _ _ h _ _ _ _ refl c.write_notes.ensures
 
 pub write_steps-requires : goal.write_steps-requires
 write_steps-requires c =
@@ -85,7 +85,7 @@ write_steps-requires c =
       λ h. c.requires.2 (omega (arith, h, m.0)),
       omega (arith, m.0, m.1, c.requires.3, w.auto.refs),
       omega (arith, m.0, m.1, c.requires.4),
-      ap is_done (left (goal.at.write_steps-requires c).After-write_notes) ∙ c.requires.5,
+      ap is_done (left (goal.at.write_steps-requires c).After-write_notes (halves (goal.at.write_steps-requires c).After-noted_to-mid)) ∙ c.requires.5,
     )
 
 pub returns : goal.returns
@@ -94,4 +94,4 @@ returns c =
     let m = the_noted_to.result in
     let w = c.write_steps in
     let e : c.args.made + (c.args.imax - c.args.imin) ≡ c.args.made + (m - c.args.imin) + (c.args.imax - m) = omega (arith, (middle ((goal.at.returns c).After-noted_to-mid)).0, (middle ((goal.at.returns c).After-noted_to-mid)).1) in
-    ap (λ (n : ℕ). done (st_of w.new.backs w.new.counts w.new.refs n)) e ∙ w.ensures ∙ left ((goal.at.returns c).After-write_notes)
+    ap (λ (n : ℕ). done (st_of w.new.backs w.new.counts w.new.refs n)) e ∙ w.ensures ∙ left (goal.at.returns c).After-write_notes (halves (goal.at.returns c).After-noted_to-mid)
