@@ -119,9 +119,8 @@ returns-in-Refused c =
     let a = c.args in
     let s = c.loop-k in
     let t = c.count_batch-t in
-    let g = c.t-1.given in
-    told_refused a.line_nos.now (get_or a.line_nos.now s.k 0) c.stretch-n.result t.new.backs t.new.counts t.new.refs g.0.1.1.0.refs (batch_of (λ j. own_step a.path a.path_nos.now a.coords.now a.paths.now (length a.refs.now / ref_words) (get_or a.line_nos.now j 0) j) (s.k + c.stretch-n.result) (length a.path_nos.now - (s.k + c.stretch-n.result))) g.0.0 g.0.1.0 g.0.1.1.0.lines (batch_from (get_or a.line_nos.now s.k 0) (drop s.k a.path_nos.now) (drop (s.k * line_floats) a.coords.now) a.paths.now (length a.refs.now / ref_words) 0 c.stretch-n.result (st_of s.backs s.counts s.refs s.made))
-    (sym (ap (λ (x : Counted). told_of (paper_of x) (st_of t.new.backs t.new.counts t.new.refs (made_of x))) g.1) ∙ said (goal.at.returns-in-Refused c).After-count_batch-t)
+    told_refused a.line_nos.now (get_or a.line_nos.now s.k 0) c.stretch-n.result t.new.backs t.new.counts t.new.refs c.in-Refused.s.refs (batch_of (λ j. own_step a.path a.path_nos.now a.coords.now a.paths.now (length a.refs.now / ref_words) (get_or a.line_nos.now j 0) j) (s.k + c.stretch-n.result) (length a.path_nos.now - (s.k + c.stretch-n.result))) c.in-Refused.why c.in-Refused.item c.in-Refused.s.lines (batch_from (get_or a.line_nos.now s.k 0) (drop s.k a.path_nos.now) (drop (s.k * line_floats) a.coords.now) a.paths.now (length a.refs.now / ref_words) 0 c.stretch-n.result (st_of s.backs s.counts s.refs s.made))
+    (sym (ap (λ (x : Counted). told_of (paper_of x) (st_of t.new.backs t.new.counts t.new.refs (made_of x))) c.in-Refused.is) ∙ said (goal.at.returns-in-Refused c).After-count_batch-t)
     ∙ sym (stretch_first a.path a.line_nos.now a.path_nos.now a.coords.now a.paths.now (length a.refs.now / ref_words) s.k c.stretch-n.result c.requires.1 c.stretch-n.ensures.order _ _ refl refl (st_of s.backs s.counts s.refs s.made) c.stretch-n.ensures.lent)
     ∙ s.invariant.4
 
@@ -135,14 +134,13 @@ pub loop-k-preserved : goal.loop-k-preserved
 loop-k-preserved c =
     let a = c.args in
     let s = c.loop-k in
-    let t = c.count_batch-t in
-    let g = c.t-in-Done-1.given in (
+    let t = c.count_batch-t in (
       c.stretch-n.ensures.lent,
       t.auto.backs ∙ s.invariant.1,
       t.auto.counts ∙ s.invariant.2,
       t.auto.refs ∙ s.invariant.3,
-      told_done a.line_nos.now (get_or a.line_nos.now s.k 0) c.stretch-n.result t.new.backs t.new.counts t.new.refs g.0.0.refs (batch_of (λ j. own_step a.path a.path_nos.now a.coords.now a.paths.now (length a.refs.now / ref_words) (get_or a.line_nos.now j 0) j) (s.k + c.stretch-n.result) (length a.path_nos.now - (s.k + c.stretch-n.result))) g.0.0.lines (batch_from (get_or a.line_nos.now s.k 0) (drop s.k a.path_nos.now) (drop (s.k * line_floats) a.coords.now) a.paths.now (length a.refs.now / ref_words) 0 c.stretch-n.result (st_of s.backs s.counts s.refs s.made))
-          (sym (ap (λ (x : Counted). told_of (paper_of x) (st_of t.new.backs t.new.counts t.new.refs (made_of x))) g.1) ∙ said (goal.at.loop-k-preserved c).After-count_batch-t)
+      told_done a.line_nos.now (get_or a.line_nos.now s.k 0) c.stretch-n.result t.new.backs t.new.counts t.new.refs c.in-Done.s.refs (batch_of (λ j. own_step a.path a.path_nos.now a.coords.now a.paths.now (length a.refs.now / ref_words) (get_or a.line_nos.now j 0) j) (s.k + c.stretch-n.result) (length a.path_nos.now - (s.k + c.stretch-n.result))) c.in-Done.s.lines (batch_from (get_or a.line_nos.now s.k 0) (drop s.k a.path_nos.now) (drop (s.k * line_floats) a.coords.now) a.paths.now (length a.refs.now / ref_words) 0 c.stretch-n.result (st_of s.backs s.counts s.refs s.made))
+          (sym (ap (λ (x : Counted). told_of (paper_of x) (st_of t.new.backs t.new.counts t.new.refs (made_of x))) c.in-Done.is) ∙ said (goal.at.loop-k-preserved c).After-count_batch-t)
           ∙ sym (stretch_first a.path a.line_nos.now a.path_nos.now a.coords.now a.paths.now (length a.refs.now / ref_words) s.k c.stretch-n.result c.requires.1 c.stretch-n.ensures.order _ _ refl refl (st_of s.backs s.counts s.refs s.made) c.stretch-n.ensures.lent)
           ∙ s.invariant.4,
       t.auto.notes ∙ s.invariant.5,

@@ -9,11 +9,12 @@ use Rattle.lists.specs.Run.{taken, done}
 use Rattle.panel.specs.Limits.{most_slots}
 use Rattle.walked_lines.specs.Line.{line_step}
 use Rattle.walked_lines.specs.declared.Tallied.{Tallied}
+use Rattle.walked_lines.specs.declared.Tallied.TheVariants.{On}
 use Rattle.own_count.specs.Own.{own_to}
 use Rattle.own_count.specs.View.{view_of, StepAs, StartsNoted}
 use Rattle.own_count.proofs.LineLaws.{own_none, own_next, own_stops, own_over, own_here, own_fits, starts_more}
 use Rattle.own_count.proofs.lines.own_lines.Goals as goal
-use Rattle.own_count.proofs.lines.own_lines.Goals.{After-own_line-t, Else-l, In-On}
+use Rattle.own_count.proofs.lines.own_lines.Goals.{After-own_line-t, Else-l}
 
 pub overflow_add-starts : goal.overflow_add-starts
 overflow_add-starts c = omega (arith, c.requires.2)
@@ -33,9 +34,9 @@ fits : (c : Else-l) → c.args.n + c.args.n + c.loop-l.l < length c.loop-l.work
 fits c = omega (arith, c.loop-l.invariant.1, c.requires.2, c.loop-l-test.true)
 
 -- the lines before it, once its start is noted
-here : (c : After-own_line-t) → own_to c.args.path_nos.now c.args.coords.now c.args.paths.now c.args.n c.loop-l.l
+here : (c : After-own_line-t) → c.args.n + c.args.n + c.loop-l.l < length c.loop-l.work → own_to c.args.path_nos.now c.args.coords.now c.args.paths.now c.args.n c.loop-l.l
     ≡ done (view_of c.args.n (set c.loop-l.work (c.args.n + c.args.n + c.loop-l.l) c.loop-l.made) c.loop-l.made)
-here c = own_here c.args.path_nos.now c.args.coords.now c.args.paths.now c.args.n c.loop-l.l c.loop-l.made c.loop-l.work c.loop-l.work (fits c) c.loop-l.invariant.2
+here c f = own_here c.args.path_nos.now c.args.coords.now c.args.paths.now c.args.n c.loop-l.l c.loop-l.made c.loop-l.work c.loop-l.work f c.loop-l.invariant.2
 
 -- the room is as long as before
 long : (c : After-own_line-t) → length c.own_line-t.new.work ≡ length c.args.work.now
@@ -90,21 +91,23 @@ shape_of-work-in-Against c = long (goal.at.shape_of-work-in-Against c).After-own
 pub returns-in-Against : goal.returns-in-Against
 returns-in-Against c = (
   _,
-  own_stops c.args.path_nos.now c.args.coords.now c.args.paths.now c.args.n c.loop-l.l _ (here (goal.at.returns-in-Against c).After-own_line-t) _ c.loop-l-test.true _ (subst (Told (goal.at.returns-in-Against c).After-own_line-t) c.in-Against.is c.own_line-t.ensures.0),
+  own_stops c.args.path_nos.now c.args.coords.now c.args.paths.now c.args.n c.loop-l.l _ (here (goal.at.returns-in-Against c).After-own_line-t (fits (goal.at.returns-in-Against c).Else-l)) _ c.loop-l-test.true _ (subst (Told (goal.at.returns-in-Against c).After-own_line-t) c.in-Against.is c.own_line-t.ensures.0),
 )
 
 -- the line is taken
-took : (c : In-On) →
+took : (c : After-own_line-t) (k : ℕ) → c.own_line-t.result ≡ On k →
     line_step c.args.path_nos.now c.args.coords.now c.args.paths.now most_slots c.loop-l.l c.loop-l.l
     (view_of c.args.n (set c.loop-l.work (c.args.n + c.args.n + c.loop-l.l) c.loop-l.made) c.loop-l.made)
-    ≡ taken (view_of c.args.n c.own_line-t.new.work (c.loop-l.made + c.in-On.k))
-took c = subst (Told c) c.in-On.is c.own_line-t.ensures.0
+    ≡ taken (view_of c.args.n c.own_line-t.new.work (c.loop-l.made + k))
+took c k e = subst (Told c) e c.own_line-t.ensures.0
 
-small : (c : In-On) → c.loop-l.made + c.in-On.k < 2 ^ 32
-small c = own_fits c.args.path_nos.now c.args.coords.now c.args.paths.now c.args.n c.loop-l.l c.loop-l.made c.loop-l.work _ (fits c) c.loop-l.invariant.2 c.loop-l.invariant.4 _ (took c)
+small : (c : After-own_line-t) (k : ℕ) → c.own_line-t.result ≡ On k → c.args.n + c.args.n + c.loop-l.l < length c.loop-l.work → c.loop-l.made + k < 2 ^ 32
+small c k e f = own_fits c.args.path_nos.now c.args.coords.now c.args.paths.now c.args.n c.loop-l.l c.loop-l.made c.loop-l.work _ f c.loop-l.invariant.2 c.loop-l.invariant.4 _ (took c k e)
 
 pub overflow_add-made : goal.overflow_add-made
-overflow_add-made c = record { fits = small c }
+overflow_add-made c = record {
+  fits = small (goal.at.overflow_add-made c).After-own_line-t c.in-On.k c.in-On.is (fits (goal.at.overflow_add-made c).Else-l);
+}
 
 pub overflow_add-l : goal.overflow_add-l
 overflow_add-l c = omega (arith, c.loop-l-test.true)
@@ -122,9 +125,9 @@ loop-l-preserved c = (
     ),
   ),
   long (goal.at.loop-l-preserved c).After-own_line-t,
-  own_next c.args.path_nos.now c.args.coords.now c.args.paths.now c.args.n c.loop-l.l _ (here (goal.at.loop-l-preserved c).After-own_line-t) _ (took c),
+  own_next c.args.path_nos.now c.args.coords.now c.args.paths.now c.args.n c.loop-l.l _ (here (goal.at.loop-l-preserved c).After-own_line-t (fits (goal.at.loop-l-preserved c).Else-l)) _ (took (goal.at.loop-l-preserved c).After-own_line-t c.in-On.k c.in-On.is),
   starts_more c.args.path_nos.now c.args.coords.now c.args.paths.now c.args.n c.loop-l.l c.loop-l.made c.loop-l.work _ (fits (goal.at.loop-l-preserved c).Else-l) c.loop-l.invariant.2 c.loop-l.invariant.3 c.own_line-t.ensures.1,
-  small c,
+  small (goal.at.loop-l-preserved c).After-own_line-t c.in-On.k c.in-On.is (fits (goal.at.loop-l-preserved c).Else-l),
 )
 
 pub shape_of-work : goal.shape_of-work

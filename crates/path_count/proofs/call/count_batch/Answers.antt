@@ -17,10 +17,11 @@ use Rattle.acts.proofs.Lines.{batch_goes, batch_stops, batch_ends}
 use Rattle.walked_lines.specs.Line.{line_step, line_ran, tally_ran, number_of, Lent}
 use Rattle.path_count.specs.Runs.{batch_from}
 use Rattle.walked_lines.specs.declared.Tallied.{Tallied}
+use Rattle.walked_lines.specs.declared.Tallied.TheVariants.{Against, On}
 use Rattle.walked_lines.proofs.Lines.{ran_taken, ran_halted, line_made}
 use Rattle.path_count.proofs.Batches.{batch_refused, batch_through}
 use Rattle.path_count.proofs.call.count_batch.Goals as goal
-use Rattle.path_count.proofs.call.count_batch.Goals.{After-count_at-t, After-ones_if-s, In-On-2}
+use Rattle.path_count.proofs.call.count_batch.Goals.{After-count_at-t, After-ones_if-s, In-On}
 
 pub loop-s-init : goal.loop-s-init
 loop-s-init c = (c.requires.1, refl, refl, refl, refl, c.requires.4)
@@ -111,14 +112,19 @@ shape_of-counts-in_default c = c.count_at-t.auto.counts ∙ c.ones_if-s.auto.cou
 pub shape_of-refs-in_default : goal.shape_of-refs-in_default
 shape_of-refs-in_default c = c.count_at-t.auto.refs ∙ c.ones_if-s.auto.refs ∙ c.loop-s.invariant.3
 
+-- what isn't a number of references is a refusal
+against : (x : Tallied) → ((n : ℕ) → x ≡ On n → ⊥) → (n : ℕ) × (x ≡ Against n)
+against (On n) k = absurd (k n refl)
+against (Against n) k = (n, refl)
+
 -- the line is refused: all is as before it
 pub returns-in_default : goal.returns-in_default
 returns-in_default c =
     let a = c.args in
     let r = c.ones_if-s in
     let t = c.count_at-t in
-    let g = c.enum_told-1.given in
-    let n = g.0.0 in
+    let g = against t.result c.in_default.not-On in
+    let n = g.0 in
     let s = st_of c.loop-s.backs r.new.counts r.new.refs r.result.refs in
     let h : r.result.lines < a.end = omega (arith, r.ensures.1, c.if-s-end.false) in
     let e = ran_halted (line_step a.path_nos.now a.coords.now a.paths.now (length a.refs.now / ref_words) (a.base + r.result.lines) r.result.lines s) s _ n
@@ -127,25 +133,27 @@ returns-in_default c =
     (batch_stops (λ l. line_step a.path_nos.now a.coords.now a.paths.now (length a.refs.now / ref_words) (a.base + l) l) r.result.lines a.end s h _ (left (goal.at.returns-in_default c).After-ones_if-s) n e.0)
 
 -- the line is taken
-took : (c : In-On-2) →
+took : (c : In-On) →
     let a = c.args in
     let r = c.ones_if-s in
     let t = c.count_at-t in
+    let s = st_of c.loop-s.backs r.new.counts r.new.refs r.result.refs in
+    tally_ran t.result (st_of t.new.backs t.new.counts t.new.refs) r.result.refs ≡ line_ran (line_step a.path_nos.now a.coords.now a.paths.now (length a.refs.now / ref_words) (a.base + r.result.lines) r.result.lines s) s →
     line_step a.path_nos.now a.coords.now a.paths.now (length a.refs.now / ref_words) (a.base + r.result.lines) r.result.lines (st_of c.loop-s.backs r.new.counts r.new.refs r.result.refs) ≡ taken (st_of t.new.backs t.new.counts t.new.refs (r.result.refs + c.in-On.n))
-took c =
+took c h =
     let a = c.args in
     let r = c.ones_if-s in
     let t = c.count_at-t in
     let s = st_of c.loop-s.backs r.new.counts r.new.refs r.result.refs in
     ran_taken (line_step a.path_nos.now a.coords.now a.paths.now (length a.refs.now / ref_words) (a.base + r.result.lines) r.result.lines s) s _
-    (sym (ap (λ (x : Tallied). tally_ran x (st_of t.new.backs t.new.counts t.new.refs) r.result.refs) c.in-On.is) ∙ said c)
+    (sym (ap (λ (x : Tallied). tally_ran x (st_of t.new.backs t.new.counts t.new.refs) r.result.refs) c.in-On.is) ∙ h)
 
 pub stepped-s-requires : goal.stepped-s-requires
 stepped-s-requires c =
     let a = c.args in
     let r = c.ones_if-s in (
       omega (arith, c.well_formed, r.ensures.1, c.if-s-end.false),
-      line_made a.path_nos.now a.coords.now a.paths.now (length a.refs.now / ref_words) (a.base + r.result.lines) r.result.lines (st_of c.loop-s.backs r.new.counts r.new.refs r.result.refs) _ (omega (arith, c.struct_known-in-loop-s-1.given)) (took (goal.at.stepped-s-requires c).In-On-2),
+      line_made a.path_nos.now a.coords.now a.paths.now (length a.refs.now / ref_words) (a.base + r.result.lines) r.result.lines (st_of c.loop-s.backs r.new.counts r.new.refs r.result.refs) _ (omega (arith, c.struct_known-in-loop-s-1.given)) (took (goal.at.stepped-s-requires c).In-On (said (goal.at.stepped-s-requires c).After-count_at-t)),
     )
 
 pub loop-s-smaller : goal.loop-s-smaller
@@ -164,7 +172,7 @@ loop-s-preserved c =
       t.auto.backs ∙ s.invariant.1,
       t.auto.counts ∙ r.auto.counts ∙ s.invariant.2,
       t.auto.refs ∙ r.auto.refs ∙ s.invariant.3,
-      batch_goes (λ l. line_step a.path_nos.now a.coords.now a.paths.now (length a.refs.now / ref_words) (a.base + l) l) r.result.lines a.end (st_of c.loop-s.backs r.new.counts r.new.refs r.result.refs) h _ (left (goal.at.loop-s-preserved c).After-ones_if-s) _ (took (goal.at.loop-s-preserved c).In-On-2),
+      batch_goes (λ l. line_step a.path_nos.now a.coords.now a.paths.now (length a.refs.now / ref_words) (a.base + l) l) r.result.lines a.end (st_of c.loop-s.backs r.new.counts r.new.refs r.result.refs) h _ (left (goal.at.loop-s-preserved c).After-ones_if-s) _ (took (goal.at.loop-s-preserved c).In-On (said (goal.at.loop-s-preserved c).After-count_at-t)),
       t.auto.notes ∙ s.invariant.5,
     )
 

@@ -9,7 +9,7 @@ use Rattle.panel.specs.Limits.{most_slots}
 use Rattle.sizes.specs.Refs.{line_size, tallied_size}
 use Rattle.sizes.proofs.RefLaws.{line_over, line_few, lines_goes, refs_stops, refs_made}
 use Rattle.sizes.proofs.lines.size_lines.Goals as goal
-use Rattle.sizes.proofs.lines.size_lines.Goals.{In-On-2}
+use Rattle.sizes.proofs.lines.size_lines.Goals.{In-On}
 
 pub loop-l-init : goal.loop-l-init
 loop-l-init c = (omega arith, omega arith, omega arith, refl)
@@ -41,21 +41,21 @@ returns-in-Against c =
     (sym c.size_line-t.ensures ∙ ap (tallied_size l.made) c.in-Against.is)
 
 -- the line is taken
-took : (c : In-On-2)
+took : (c : In-On)
     → line_size c.args.path_nos.now
     c.args.coords.now
     c.args.paths.now c.loop-l.l
     c.loop-l.made ≡ taken (c.loop-l.made + c.in-On.k)
 took c = sym c.size_line-t.ensures ∙ ap (tallied_size c.loop-l.made) c.in-On.is
 
-small : (c : In-On-2) → c.loop-l.made + c.in-On.k ≤ most_slots
+small : (c : In-On) → c.loop-l.made + c.in-On.k ≤ most_slots
 small c =
     let a = c.args in
     let l = c.loop-l in
     line_few a.path_nos.now a.coords.now a.paths.now l.l l.made _ l.invariant.2 (took c)
 
 pub overflow_add-made : goal.overflow_add-made
-overflow_add-made c = record { fits = omega (arith, small (goal.at.overflow_add-made c).In-On-2) }
+overflow_add-made c = record { fits = omega (arith, small (goal.at.overflow_add-made c).In-On) }
 
 pub overflow_add-l : goal.overflow_add-l
 overflow_add-l c = omega (arith, c.loop-l-test.true)
@@ -70,8 +70,8 @@ loop-l-preserved c =
     let h = c.loop-l-test.true in (
       omega (arith, h),
       omega (arith, c.if-l.false),
-      small (goal.at.loop-l-preserved c).In-On-2,
-      lines_goes a.path_nos.now a.coords.now a.paths.now l.l (length a.path_nos.now) l.made _ l.invariant.3 h _ (took (goal.at.loop-l-preserved c).In-On-2),
+      small (goal.at.loop-l-preserved c).In-On,
+      lines_goes a.path_nos.now a.coords.now a.paths.now l.l (length a.path_nos.now) l.made _ l.invariant.3 h _ (took (goal.at.loop-l-preserved c).In-On),
     )
 
 pub returns : goal.returns

@@ -1,6 +1,6 @@
 -- `tile_check::backs::first_back` meets its contract. The invariant: those so far are ours.
 -- Assumes nothing.
-use mathlib.Core.Path.{◌≡◌, ◌∙◌}
+use mathlib.Core.Path.{◌≡◌, ap, ◌∙◌}
 use mathlib.Core.Bool.{true, false, not}
 use mathlib.Core.List.{List}
 use Prim.Native.Nat.{ℕ, ◌+◌, ◌-◌, ◌≤◌, ◌<◌}
@@ -46,7 +46,7 @@ at c = back_fault_lem c.args.backs.now c.args.work.now c.loop-t.t c.same_back.re
 
 pub returns-then-not-same_back : goal.returns-then-not-same_back
 returns-then-not-same_back c =
-    first_of c.args.backs.now (view_of (length c.args.backs.now) c.args.work.now 0).backs c.loop-t.t c.loop-t.invariant.0 (λ h. at ((goal.at.returns-then-not-same_back c).After-same_back) ∙ c.if-not-same_back.true) c.loop-t.invariant.1
+    first_of c.args.backs.now (view_of (length c.args.backs.now) c.args.work.now 0).backs c.loop-t.t c.loop-t.invariant.0 (λ h. at ((goal.at.returns-then-not-same_back c).After-same_back) ∙ ap not c.if-not-same_back.true) c.loop-t.invariant.1
 
 pub overflow_add-t : goal.overflow_add-t
 overflow_add-t c = omega (arith, c.loop-t-test.true)
@@ -57,7 +57,7 @@ loop-t-smaller c = omega (arith, c.loop-t-test.true)
 pub loop-t-preserved : goal.loop-t-preserved
 loop-t-preserved c = (
   omega (arith, c.loop-t-test.true),
-  fine_more (back_fault c.args.backs.now (view_of (length c.args.backs.now) c.args.work.now 0).backs) c.loop-t.t c.loop-t.invariant.1 (at ((goal.at.loop-t-preserved c).After-same_back) ∙ c.if-not-same_back.false),
+  fine_more (back_fault c.args.backs.now (view_of (length c.args.backs.now) c.args.work.now 0).backs) c.loop-t.t c.loop-t.invariant.1 (at ((goal.at.loop-t-preserved c).After-same_back) ∙ ap not c.if-not-same_back.false),
 )
 
 pub returns : goal.returns

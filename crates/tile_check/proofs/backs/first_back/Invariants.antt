@@ -7,7 +7,7 @@ use Rattle.tile_check.specs.Faults.{back_fault}
 use Rattle.tile_check.proofs.backs.first_back.Given as goal
 
 abbrev pub invariant-loop-t : goal.invariant-loop-t
-invariant-loop-t l = (l.t ≤ l.n) × ((i : ℕ) → i < l.t → back_fault l.backs (view_of (length l.backs) l.work 0).l.backs i ≡ false)
+invariant-loop-t l = (l.t ≤ l.n) × ((i : ℕ) → i < l.t → back_fault l.backs (view_of (length l.backs) l.work 0).backs i ≡ false)
 
 abbrev pub decreases-loop-t : goal.decreases-loop-t
 decreases-loop-t l = l.n - l.t

@@ -41,29 +41,35 @@ looked-r-requires c = (
 )
 
 -- the part comes back as long as it was lent
-part : (c : After-looked-r) → length c.looked-r.new.work
+part : (c : After-looked-r) → AskedTold c.args.paths.now (length c.args.path_nos.now) (length c.args.coords.now) (length c.args.refs.now)
+    (length c.args.counts.now) (length c.args.backs.now) (length c.args.stored.now) (length
+    c.args.work.now) →
+    length c.looked-r.new.work
     ≡ work_words (length c.args.counts.now) (length c.args.path_nos.now) (length c.args.refs.now / ref_words)
-part c = c.looked-r.auto.work ∙ length-take-le _ c.args.work.now (told c).room
+part c t = c.looked-r.auto.work ∙ length-take-le _ c.args.work.now t.room
 
-whole : (c : After-looked-r) → length (c.looked-r.new.work
+whole : (c : After-looked-r) → AskedTold c.args.paths.now (length c.args.path_nos.now) (length c.args.coords.now) (length c.args.refs.now)
+    (length c.args.counts.now) (length c.args.backs.now) (length c.args.stored.now) (length
+    c.args.work.now) →
+    length (c.looked-r.new.work
     ++ drop (work_words (length c.args.counts.now) (length c.args.path_nos.now) (length c.args.refs.now / ref_words)) c.args.work.now)
     ≡ length c.args.work.now
-whole c =
+whole c t =
     length-append c.looked-r.new.work _
     ∙ omega (
       arith,
-      part c,
-      (told c).room,
+      part c t,
+      t.room,
       length-drop (work_words (length c.args.counts.now) (length c.args.path_nos.now)
           (length c.args.refs.now / ref_words)) c.args.work.now,
     )
 
 pub clear_words-requires : goal.clear_words-requires
-clear_words-requires c = omega (arith, whole (goal.at.clear_words-requires c).After-looked-r, (told (goal.at.clear_words-requires c).In_default).room)
+clear_words-requires c = omega (arith, whole (goal.at.clear_words-requires c).After-looked-r (told (goal.at.clear_words-requires c).In_default), (told (goal.at.clear_words-requires c).In_default).room)
 
 pub returns : goal.returns
 returns c =
     check_looked c.args.path_nos.now c.args.coords.now
     c.args.paths.now c.args.refs.now c.args.counts.now c.args.backs.now c.args.stored.now c.args.room c.args.work.now c.asked-a.result c.asked-a.ensures
     c.looked-r.result c.clear_words.new.words c.in_default.is c.looked-r.ensures
-    (c.clear_words.ensures ∙ cleared_is (work_words (length c.args.counts.now) (length c.args.path_nos.now) (length c.args.refs.now / ref_words)) c.looked-r.new.work c.args.work.now (told (goal.at.returns c).In_default).room (part (goal.at.returns c).After-looked-r))
+    (c.clear_words.ensures ∙ cleared_is (work_words (length c.args.counts.now) (length c.args.path_nos.now) (length c.args.refs.now / ref_words)) c.looked-r.new.work c.args.work.now (told (goal.at.returns c).In_default).room (part (goal.at.returns c).After-looked-r (told (goal.at.returns c).In_default)))

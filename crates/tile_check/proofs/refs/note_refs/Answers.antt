@@ -14,7 +14,7 @@ use Rattle.tile_check.specs.Faults.{stray_ref}
 use Rattle.tile_check.specs.Keys.{KeyMet, own_end}
 use Rattle.tile_check.proofs.RoomLaws.{counts_same, room_kept, noted_kept, noted_more, fine_more, noted_none, noted_to_lem}
 use Rattle.tile_check.proofs.refs.note_refs.Goals as goal
-use Rattle.tile_check.proofs.refs.note_refs.Goals.{After-key_at-key, After-slice_known-1, At-loop-j}
+use Rattle.tile_check.proofs.refs.note_refs.Goals.{After-key_at-key, At-loop-j}
 
 pub overflow_add-a : goal.overflow_add-a
 overflow_add-a c = omega (arith, c.requires.1)
@@ -124,9 +124,9 @@ loop-j-preserved c =
     in (
       omega (arith, c.loop-j-test.true),
       noted_kept (made_of c.args.path_nos.now c.args.coords.now c.args.paths.now) (start_of c.args.path_nos.now c.args.coords.now c.args.paths.now c.args.tiles) (take c.args.tiles c.args.work.now) c.args.refs.now c.args.work.now c.loop-j.work (own_end c.args.tiles
-          (length c.args.path_nos.now)) c.args.n c.loop-j.j _ _ c.loop-j-test.true (long (goal.at.loop-j-preserved c).After-slice_known-1) c.loop-j.invariant.1,
+          (length c.args.path_nos.now)) c.args.n c.loop-j.j _ _ c.loop-j-test.true (long (goal.at.loop-j-preserved c).At-loop-j) c.loop-j.invariant.1,
       noted_more (made_of c.args.path_nos.now c.args.coords.now c.args.paths.now) (start_of c.args.path_nos.now c.args.coords.now c.args.paths.now c.args.tiles) (take c.args.tiles c.args.work.now) c.args.refs.now c.args.work.now c.loop-j.work (own_end c.args.tiles
-          (length c.args.path_nos.now)) c.args.n c.loop-j.j _ _ c.loop-j-test.true (long (goal.at.loop-j-preserved c).After-slice_known-1) c.loop-j.invariant.2 m.1 m.2,
+          (length c.args.path_nos.now)) c.args.n c.loop-j.j _ _ c.loop-j-test.true (long (goal.at.loop-j-preserved c).At-loop-j) c.loop-j.invariant.2 m.1 m.2,
       fine_more (stray_ref (made_of c.args.path_nos.now c.args.coords.now c.args.paths.now) (take c.args.tiles
           c.args.work.now) c.args.refs.now) c.loop-j.j c.loop-j.invariant.3 m.0,
     )

@@ -2,7 +2,6 @@
 -- of it. Assumes nothing.
 use mathlib.Core.Path.{◌≡◌, refl, sym, ap, ◌∙◌}
 use mathlib.Core.List.{List}
-use mathlib.Core.Logic.{⊎_elim}
 use Prim.Native.Nat.{ℕ, ◌+◌, ◌-◌, ◌%◌, ◌/◌}
 use native.Mathlib.Omega.{arith}
 use lib.ListN.{take, drop, get_or}
@@ -14,6 +13,7 @@ use Rattle.pairs.specs.declared.Pair.{Pair}
 use Rattle.pairs.specs.declared.Put.{Put}
 use Rattle.tile_list.proofs.WeighLaws.{put_light, weigh_next}
 use Rattle.near.proofs.NearLaws.{list_turn, list_there, list_end}
+use Rattle.tile_list.proofs.weigh.weigh.Goals.{in-Puts, in_default}
 use Rattle.tile_list.proofs.weigh.weigh.Goals as goal
 
 pub loop-j-init : goal.loop-j-init
@@ -63,10 +63,11 @@ loop-j-preserved c =
       c.requires.2,
       c.requires.3,
     )) c.loop-j-test.true in
-    let is : c.match-put.w ≡ weigh_all a.room (put_list put) l.w = ⊎_elim
-    (λ q. q.4 ∙ q.3.ensures ∙ sym (ap (λ (h : Put). weigh_all a.room (put_list h) l.w) q.1.given.1))
-    (λ q. q.2 ∙ sym (ap (λ (h : Put). weigh_all a.room (put_list h) l.w) q.1.given.1))
-    c.match-put.branch in (
+    let is : c.match-put.w ≡ weigh_all a.room (put_list put) l.w =
+    elim c.match-put.branch [
+      | in-Puts w ↦ w.w-is ∙ w.weigh_pair-w.ensures ∙ sym (ap (λ (h : Put). weigh_all a.room (put_list h) l.w) w.in-Puts.is)
+      | in_default w ↦ w.w-is ∙ sym (ap (λ (h : Put). weigh_all a.room (put_list h) l.w) w.in_default.is)
+    ] in (
       omega (arith, c.loop-j-test.true),
       rw is (put_light a.room l.j put l.w l.invariant.1),
       weigh_next s x y (get_or a.near.now l.j 0) rest (drop l.j (take a.n a.near.now)) a.room (put_list put) l.w c.match-put.w e
