@@ -3,8 +3,7 @@ ghost use Rattle.groatpocket.specs.Calls.{GpBackdropMet};
 
 use panel::kinds::{item, number};
 
-#[unsafe(no_mangle)]
-pub extern "C" fn gp_backdrop(paths: &[u32], backdrops: &mut [i32], at: &mut u32) -> u32
+pub fn gp_backdrop(paths: &[u32], backdrops: &mut [i32], at: &mut u32) -> u32
     ensures { GpBackdropMet paths.now backdrops.old result at.new backdrops.new }
 {
     let r = backdrop::backdrop(paths, backdrops);

@@ -3,8 +3,7 @@ ghost use Rattle.groatpocket.specs.Calls.{GpFineRowsMet};
 
 use panel::kinds::{item, number};
 
-#[unsafe(no_mangle)]
-pub extern "C" fn gp_fine_rows(
+pub fn gp_fine_rows(
     words: &[u32],
     segments: &[f32],
     width: u32,

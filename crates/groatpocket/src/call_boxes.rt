@@ -33,8 +33,7 @@ fn item_of(r: Boxed) -> u32
     }
 }
 
-#[unsafe(no_mangle)]
-pub extern "C" fn gp_boxes(
+pub fn gp_boxes(
     path_nos: &[u32],
     coords: &[f32],
     beams: &[u32],

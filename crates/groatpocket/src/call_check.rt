@@ -46,8 +46,7 @@ fn item_of(r: Checked) -> u32
     }
 }
 
-#[unsafe(no_mangle)]
-pub extern "C" fn gp_check(
+pub fn gp_check(
     path_nos: &[u32],
     coords: &[f32],
     paths: &[u32],

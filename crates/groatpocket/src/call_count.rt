@@ -34,8 +34,7 @@ fn running_of(c: Counted) -> Running
     }
 }
 
-#[unsafe(no_mangle)]
-pub extern "C" fn gp_count(
+pub fn gp_count(
     path_nos: &[u32],
     coords: &[f32],
     paths: &[u32],

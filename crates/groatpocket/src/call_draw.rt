@@ -44,8 +44,7 @@ fn running_of(d: Drawn) -> Running
     }
 }
 
-#[unsafe(no_mangle)]
-pub extern "C" fn gp_draw(
+pub fn gp_draw(
     path_nos: &[u32],
     coords: &[f32],
     paths: &[u32],

@@ -4,8 +4,7 @@ ghost use Rattle.groatpocket.specs.Calls.{GpFillMet};
 use panel::kinds::number;
 
 // Even-odd where the flag isn't 0, else non-zero.
-#[unsafe(no_mangle)]
-pub extern "C" fn gp_fill(
+pub fn gp_fill(
     segments: &[f32],
     first: u32,
     count: u32,

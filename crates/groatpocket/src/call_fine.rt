@@ -3,8 +3,7 @@ ghost use Rattle.groatpocket.specs.Calls.{GpFineMet};
 
 use panel::kinds::{item, number};
 
-#[unsafe(no_mangle)]
-pub extern "C" fn gp_fine(
+pub fn gp_fine(
     words: &[u32],
     segments: &[f32],
     width: u32,

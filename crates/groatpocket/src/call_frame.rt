@@ -44,8 +44,7 @@ fn running_of(f: Framed) -> Running
     }
 }
 
-#[unsafe(no_mangle)]
-pub extern "C" fn gp_frame(
+pub fn gp_frame(
     path_nos: &[u32],
     coords: &[f32],
     paths: &[u32],

@@ -3,8 +3,7 @@ ghost use Rattle.groatpocket.specs.Calls.{GpHandMet};
 
 use panel::kinds::number;
 
-#[unsafe(no_mangle)]
-pub extern "C" fn gp_hand_out(counts: &mut [u32], tally: &mut [u32], room: u32) -> u32
+pub fn gp_hand_out(counts: &mut [u32], tally: &mut [u32], room: u32) -> u32
     ensures { GpHandMet room counts.old tally.old result counts.new tally.new }
 {
     let r = hand_out::hand_out(counts, tally, room);

@@ -4,8 +4,7 @@ ghost use Rattle.groatpocket.specs.CallLists.{GpListsMet};
 
 use panel::kinds::{item, number};
 
-#[unsafe(no_mangle)]
-pub extern "C" fn gp_write_lists(
+pub fn gp_write_lists(
     paths: &[u32],
     paints: &[u32],
     backdrops: &[i32],

@@ -3,8 +3,7 @@ ghost use Rattle.groatpocket.specs.CallOutlines.{GpOutlinesMet};
 
 use panel::kinds::{item, number};
 
-#[unsafe(no_mangle)]
-pub extern "C" fn gp_outlines(
+pub fn gp_outlines(
     path_nos: &[u32],
     coords: &[f32],
     path_count: u32,

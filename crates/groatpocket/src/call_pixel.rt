@@ -45,8 +45,7 @@ fn coloured_or(c: Coloured, old: u32) -> u32
 }
 
 // Even-odd where the flag isn't 0, else non-zero.
-#[unsafe(no_mangle)]
-pub extern "C" fn gp_pixel_area(
+pub fn gp_pixel_area(
     segments: &[f32],
     first: u32,
     count: u32,
@@ -76,8 +75,7 @@ pub extern "C" fn gp_pixel_area(
     covered_no(c)
 }
 
-#[unsafe(no_mangle)]
-pub extern "C" fn gp_pixel(
+pub fn gp_pixel(
     words: &[u32],
     segments: &[f32],
     tile: u32,

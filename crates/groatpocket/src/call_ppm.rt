@@ -25,8 +25,7 @@ fn wrote_size(w: Written) -> usize
     }
 }
 
-#[unsafe(no_mangle)]
-pub extern "C" fn gp_ppm_write(
+pub fn gp_ppm_write(
     pixels: &[u32],
     width: u32,
     height: u32,
@@ -68,8 +67,7 @@ fn read_height(a: Answer) -> u32
     }
 }
 
-#[unsafe(no_mangle)]
-pub extern "C" fn gp_ppm_read(file: &[u8], out: &mut [u8], width: &mut u32, height: &mut u32) -> u32
+pub fn gp_ppm_read(file: &[u8], out: &mut [u8], width: &mut u32, height: &mut u32) -> u32
     ensures { GpReadMet file.now out.old result width.new height.new out.new }
 {
     let a = ppm_read::read(file, out);

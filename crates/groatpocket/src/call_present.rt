@@ -1,8 +1,7 @@
 // present::present: the shown part of a screen's pixels as bytes for a frame buffer.
 ghost use Rattle.present.specs.Present.{PresentMet};
 
-#[unsafe(no_mangle)]
-pub extern "C" fn gp_present(
+pub fn gp_present(
     pixels: &[u32],
     screen: u32,
     width: u32,

@@ -33,8 +33,7 @@ fn made_of(r: Recounted) -> u32
     }
 }
 
-#[unsafe(no_mangle)]
-pub extern "C" fn gp_recount(
+pub fn gp_recount(
     path: u32,
     line_nos: &[u32],
     path_nos: &[u32],

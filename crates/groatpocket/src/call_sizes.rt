@@ -52,8 +52,7 @@ fn item_of(r: Measured) -> u32
     }
 }
 
-#[unsafe(no_mangle)]
-pub extern "C" fn gp_sizes(
+pub fn gp_sizes(
     path_nos: &[u32],
     coords: &[f32],
     paths: &[u32],

@@ -34,8 +34,7 @@ fn svg_place(a: Answer) -> usize
     }
 }
 
-#[unsafe(no_mangle)]
-pub extern "C" fn gp_svg_lines(
+pub fn gp_svg_lines(
     text: &[u8],
     depth: u32,
     path: u32,

@@ -5,8 +5,7 @@ ghost use Rattle.groatpocket.specs.Calls.{GpTileMet};
 
 use panel::kinds::{item, number};
 
-#[unsafe(no_mangle)]
-pub extern "C" fn gp_tile(
+pub fn gp_tile(
     path_nos: &[u32],
     coords: &[f32],
     paths: &[u32],

@@ -4,8 +4,7 @@ ghost use Rattle.groatpocket.specs.Version.{version_number};
 
 pub const VERSION_NUMBER: u32 = 200;
 
-#[unsafe(no_mangle)]
-pub extern "C" fn gp_version() -> u32
+pub fn gp_version() -> u32
     ensures { result ≡ version_number }
 {
     VERSION_NUMBER

@@ -1,6 +1,5 @@
-// The functions that a panel in C or Rust links: `rt staticlib groatpocket` writes the archive. Each is
-// a thin call of a proved function, named with the prefix gp_, with the promise of that function.
-// A slice is lent as a pointer and a length. A module for each stage.
+// The functions that a panel in C or Rust calls, by the names that it has for them. Each is a thin call of a proved function, named with
+// the prefix gp_, with the promise of that function. The crate groatpocket_c exports them. A module for each stage.
 #![tactic(auto)]
 
 pub mod call_backdrop;

@@ -8,7 +8,7 @@ use Rattle.walked_lines.specs.Line.{Lent}
 use Rattle.kept_range.specs.Kept.{tiles_in}
 use Rattle.kept_range.proofs.KeptLaws.{in_order, in_backs, in_counts, in_kept, redrawn_done, redrawn_refused}
 use Rattle.kept_range.proofs.redraw.Goals as goal
-use Rattle.kept_range.proofs.redraw.Goals.{After-path_at-b, After-slice_known-2-1, After-slice_known-3-1, After-struct_known-1, After-tiles_in-n}
+use Rattle.kept_range.proofs.redraw.Goals.{After-tiles_in-n}
 
 pub path_at-b-requires : goal.path_at-b-requires
 path_at-b-requires c = path_there c.args.paths.now c.args.path
@@ -34,9 +34,9 @@ pub copy_backdrops-requires : goal.copy_backdrops-requires
 copy_backdrops-requires c =
     let a = c.args in (
       in_backs a.path a.paths.now _ _ c.requires.0
-          c.requires.1 _ _ (first_is (goal.at.copy_backdrops-requires c).After-struct_known-1) (tiles_is (goal.at.copy_backdrops-requires c).After-struct_known-1),
+          c.requires.1 _ _ (first_is (goal.at.copy_backdrops-requires c).After-tiles_in-n) (tiles_is (goal.at.copy_backdrops-requires c).After-tiles_in-n),
       in_kept a.path a.paths.now _ _ c.requires.0
-          c.requires.1 _ _ (first_is (goal.at.copy_backdrops-requires c).After-struct_known-1) (tiles_is (goal.at.copy_backdrops-requires c).After-struct_known-1) _
+          c.requires.1 _ _ (first_is (goal.at.copy_backdrops-requires c).After-tiles_in-n) (tiles_is (goal.at.copy_backdrops-requires c).After-tiles_in-n) _
           c.requires.4,
     )
 
@@ -45,10 +45,10 @@ copy_words-requires c =
     let a = c.args in (
       in_counts a.path a.paths.now _ _ c.requires.0
           c.requires.1 _ _
-          (first_is (goal.at.copy_words-requires c).After-path_at-b) (tiles_is (goal.at.copy_words-requires c).After-path_at-b),
+          (first_is (goal.at.copy_words-requires c).After-tiles_in-n) (tiles_is (goal.at.copy_words-requires c).After-tiles_in-n),
       in_kept a.path a.paths.now _ _ c.requires.0
           c.requires.1 _ _
-          (first_is (goal.at.copy_words-requires c).After-path_at-b) (tiles_is (goal.at.copy_words-requires c).After-path_at-b) _
+          (first_is (goal.at.copy_words-requires c).After-tiles_in-n) (tiles_is (goal.at.copy_words-requires c).After-tiles_in-n) _
           c.requires.5,
     )
 
@@ -58,14 +58,14 @@ clear_backdrops-requires c =
     in_backs a.path a.paths.now _ _
     c.requires.0
     c.requires.1 _ _
-    (first_is (goal.at.clear_backdrops-requires c).After-path_at-b) (tiles_is (goal.at.clear_backdrops-requires c).After-path_at-b)
+    (first_is (goal.at.clear_backdrops-requires c).After-tiles_in-n) (tiles_is (goal.at.clear_backdrops-requires c).After-tiles_in-n)
 
 pub clear_words-requires : goal.clear_words-requires
 clear_words-requires c =
     let a = c.args in
     in_counts a.path a.paths.now _ _
-    c.requires.0 c.requires.1 _ _ (first_is (goal.at.clear_words-requires c).After-path_at-b)
-    (tiles_is (goal.at.clear_words-requires c).After-path_at-b)
+    c.requires.0 c.requires.1 _ _ (first_is (goal.at.clear_words-requires c).After-tiles_in-n)
+    (tiles_is (goal.at.clear_words-requires c).After-tiles_in-n)
 
 pub count_lines-r-requires : goal.count_lines-r-requires
 count_lines-r-requires c =
@@ -83,13 +83,13 @@ copy_backdrops-requires-in-Refused c =
     let b = in_backs a.path a.paths.now _ _
     c.requires.0
     c.requires.1 _ _
-    (first_is (goal.at.copy_backdrops-requires-in-Refused c).After-slice_known-3-1)
-    (tiles_is (goal.at.copy_backdrops-requires-in-Refused c).After-slice_known-3-1) in (
+    (first_is (goal.at.copy_backdrops-requires-in-Refused c).After-tiles_in-n)
+    (tiles_is (goal.at.copy_backdrops-requires-in-Refused c).After-tiles_in-n) in (
       in_kept a.path a.paths.now _ _
           c.requires.0
           c.requires.1 _ _
-          (first_is (goal.at.copy_backdrops-requires-in-Refused c).After-slice_known-3-1)
-          (tiles_is (goal.at.copy_backdrops-requires-in-Refused c).After-slice_known-3-1) _
+          (first_is (goal.at.copy_backdrops-requires-in-Refused c).After-tiles_in-n)
+          (tiles_is (goal.at.copy_backdrops-requires-in-Refused c).After-tiles_in-n) _
           (c.kept_backdrops-1.given
           ∙ c.requires.4),
       omega (
@@ -106,13 +106,13 @@ copy_words-requires-in-Refused c =
     let b = in_counts a.path a.paths.now _ _
     c.requires.0
     c.requires.1 _ _
-    (first_is (goal.at.copy_words-requires-in-Refused c).After-slice_known-2-1)
-    (tiles_is (goal.at.copy_words-requires-in-Refused c).After-slice_known-2-1) in (
+    (first_is (goal.at.copy_words-requires-in-Refused c).After-tiles_in-n)
+    (tiles_is (goal.at.copy_words-requires-in-Refused c).After-tiles_in-n) in (
       in_kept a.path a.paths.now _ _
           c.requires.0
           c.requires.1 _ _ (first_is
-          (goal.at.copy_words-requires-in-Refused c).After-slice_known-2-1)
-          (tiles_is (goal.at.copy_words-requires-in-Refused c).After-slice_known-2-1) _
+          (goal.at.copy_words-requires-in-Refused c).After-tiles_in-n)
+          (tiles_is (goal.at.copy_words-requires-in-Refused c).After-tiles_in-n) _
           (c.kept_counts-1.given
           ∙ c.requires.5),
       omega (
@@ -123,28 +123,13 @@ copy_words-requires-in-Refused c =
       ),
     )
 
-pub shape_of-backdrops-in-Refused : goal.shape_of-backdrops-in-Refused
-shape_of-backdrops-in-Refused c = c.backdrops-in-Refused-1.given
-    ∙ c.backdrops-2-1.given
-    ∙ c.backdrops-1.given
-
-pub shape_of-counts-in-Refused : goal.shape_of-counts-in-Refused
-shape_of-counts-in-Refused c = c.counts-in-Refused-1.given ∙ c.counts-2-1.given
-    ∙ c.counts-1.given
-
-pub shape_of-kept_backdrops-in-Refused : goal.shape_of-kept_backdrops-in-Refused
-shape_of-kept_backdrops-in-Refused c = c.kept_backdrops-1.given
-
-pub shape_of-kept_counts-in-Refused : goal.shape_of-kept_counts-in-Refused
-shape_of-kept_counts-in-Refused c = c.kept_counts-1.given
-
 pub returns-in-Refused : goal.returns-in-Refused
 returns-in-Refused c =
     let a = c.args in
     redrawn_refused a.path a.line_nos.now a.path_nos.now a.coords.now a.paths.now a.backdrops.now a.counts.now a.refs.now a.kept_backdrops.now
     a.kept_counts.now _ _
-    (first_is (goal.at.returns-in-Refused c).After-slice_known-2-1)
-    (tiles_is (goal.at.returns-in-Refused c).After-slice_known-2-1)
+    (first_is (goal.at.returns-in-Refused c).After-tiles_in-n)
+    (tiles_is (goal.at.returns-in-Refused c).After-tiles_in-n)
     _ c.copy_backdrops.ensures _
     c.copy_words.ensures _
     c.clear_backdrops.ensures _
@@ -154,26 +139,13 @@ returns-in-Refused c =
     c.in-Refused.is _ c.copy_backdrops-in-Refused.ensures _
     c.copy_words-in-Refused.ensures
 
-pub shape_of-backdrops : goal.shape_of-backdrops
-shape_of-backdrops c = c.backdrops-2-1.given
-    ∙ c.backdrops-1.given
-
-pub shape_of-counts : goal.shape_of-counts
-shape_of-counts c = c.counts-2-1.given ∙ c.counts-1.given
-
-pub shape_of-kept_backdrops : goal.shape_of-kept_backdrops
-shape_of-kept_backdrops c = c.kept_backdrops-1.given
-
-pub shape_of-kept_counts : goal.shape_of-kept_counts
-shape_of-kept_counts c = c.kept_counts-1.given
-
 pub returns : goal.returns
 returns c =
     let a = c.args in
     redrawn_done a.path a.line_nos.now a.path_nos.now a.coords.now a.paths.now a.backdrops.now a.counts.now a.refs.now a.kept_backdrops.now
     a.kept_counts.now _ _
-    (first_is (goal.at.returns c).After-path_at-b)
-    (tiles_is (goal.at.returns c).After-path_at-b)
+    (first_is (goal.at.returns c).After-tiles_in-n)
+    (tiles_is (goal.at.returns c).After-tiles_in-n)
     _ c.copy_backdrops.ensures _
     c.copy_words.ensures _
     c.clear_backdrops.ensures _
