@@ -1,5 +1,5 @@
 /* Slices of no elements, lent as NULL and 0; the version, a refusal in words, a paint, and a float helper. Valid as C and as
- * C++, and examples/run compiles it as both. Build from the project's root, once `rt staticlib groatpocket` has written the archive:
+ * C++, and examples/run compiles it as both. Build from the project's root, once `./archive` has written the archive:
  *
  *     cc -std=c11 -Wall -Wextra -Werror -pedantic -Iinclude examples/c/empty.c \
  *         target/staticlib/libgroatpocket.a -o target/empty && target/empty

@@ -1,6 +1,6 @@
 /* Eight channels by the panel maker's kit: the boxes are made from the lines, the sizes are asked for, one call goes from
  * lines to pixels, and one crops them. examples/rust/src/bin/kit.rs does the same by `Panel`, and both print examples/kit.out; with
- * a file's name the picture is written there too. Build from the project's root, once `rt staticlib groatpocket` has written the archive:
+ * a file's name the picture is written there too. Build from the project's root, once `./archive` has written the archive:
  *
  *     cc -std=c11 -Wall -Wextra -Werror -pedantic -Iinclude examples/c/kit.c target/staticlib/libgroatpocket.a -o target/kit
  */

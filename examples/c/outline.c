@@ -1,6 +1,6 @@
 /* A beam from SVG to pixels: the outline of an I-beam with two bolt holes, as a drawing program writes it, read, framed,
  * listed and drawn. A first text has a fault, and is refused with its place. Prints examples/outline.out; with a file's name
- * it writes the picture there too, white on black. Build from the project's root, once `rt staticlib groatpocket` has
+ * it writes the picture there too, white on black. Build from the project's root, once `./archive` has
  * written the archive:
  *
  *     cc -std=c11 -Wall -Wextra -Werror -pedantic -Iinclude examples/c/outline.c \

@@ -1,6 +1,6 @@
 /* A panel of three channels, a strip each, drawn in three calls: frame, command lists, pixels. A channel whose lines are
  * refused gets a fault mark in its strip. examples/rust does the same in Rust, and both print examples/panel.out. Build
- * from the project's root, once `rt staticlib groatpocket` has written the archive:
+ * from the project's root, once `./archive` has written the archive:
  *
  *     cc -std=c11 -Wall -Wextra -Werror -pedantic -Iinclude examples/c/panel.c \
  *         target/staticlib/libgroatpocket.a -o target/panel && target/panel

@@ -1,6 +1,6 @@
 /* One screen drawn by two threads at once: each draws a band of its tile rows in its own part of the pixels, and they share
  * the words and segments, which are only read. Then the pixels are held against those of one call. examples/rust/src/bin/threads.rs
- * does the same in Rust, and both print examples/threads.out. Build from the project's root, once `rt staticlib groatpocket` has
+ * does the same in Rust, and both print examples/threads.out. Build from the project's root, once `./archive` has
  * written the archive:
  *
  *     cc -std=c11 -Wall -Wextra -Werror -pedantic -pthread -Iinclude examples/c/threads.c \

@@ -1,5 +1,5 @@
 /* One trace drawn through all stages, and its answers printed. Build from the project's root, once
- * `rt staticlib groatpocket` has written the archive:
+ * `./archive` has written the archive:
  *
  *     cc -std=c11 -Wall -Wextra -Werror -pedantic -Iinclude examples/c/trace.c \
  *         target/staticlib/libgroatpocket.a -o target/trace && target/trace

@@ -1,5 +1,5 @@
 //! Finds the archive: the file that GROATPOCKET_LIB names, from where the person stands or, if there is none, from the
-//! project's root; with no name, target/staticlib/libgroatpocket.a of the project, which `rt staticlib groatpocket` writes.
+//! project's root; with no name, target/staticlib/libgroatpocket.a of the project, which `./archive` writes.
 //!
 //! With no name and no archive there, nothing is linked: `cargo doc` and `cargo check` still pass, and a warning says
 //! what a program would lack. On docs.rs no archive is looked for. An archive for another processor is not linked either: a
@@ -51,7 +51,7 @@ fn main() {
     }
     let Some(archive) = archive() else {
         println!(
-            "cargo:warning=no archive, so nothing is linked, and a program that calls anything won't link: run `rt staticlib groatpocket` in the project, or name an archive by GROATPOCKET_LIB"
+            "cargo:warning=no archive, so nothing is linked, and a program that calls anything won't link: run `./archive` in the project, or name an archive by GROATPOCKET_LIB"
         );
         // this file is never there: the next build looks again
         println!("cargo:rerun-if-changed=no-archive");

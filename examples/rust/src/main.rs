@@ -1,6 +1,6 @@
 //! A panel of three channels, a strip each, drawn in three calls: frame, command lists, pixels. A channel whose lines are
 //! refused gets a fault mark in its strip. examples/c/panel.c does the same in C, and both print examples/panel.out. Once
-//! `rt staticlib groatpocket` has written the archive: `cargo run`. Two numbers may follow: the references that there is
+//! `./archive` has written the archive: `cargo run`. Two numbers may follow: the references that there is
 //! room for at first, and the most that may be lent.
 use groatpocket::{
     fine, frame, outlines, words_needed, write_lists, Frame, FrameStopped, Outlines, Paint, Path, Refusal,

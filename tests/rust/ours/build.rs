@@ -1,5 +1,5 @@
 //! The crate groatpocket links the archive. Where that is for another processor, `server.c` is linked with it instead,
-//! to be run under the kit's emulator (cfg `bridge`). With no stage's feature on there is nothing to link.
+//! to be run under an emulator, qemu-x86_64 (cfg `bridge`). With no stage's feature on there is nothing to link.
 
 use std::env;
 use std::path::{Path, PathBuf};
@@ -12,13 +12,12 @@ fn linked(stage: &str) -> bool {
     env::var(format!("CARGO_FEATURE_{stage}")).is_ok()
 }
 
-/// The toolchain of the kit that `rt` belongs to: clang, ld.lld, and the emulator.
+/// The toolchain of the kit that `rt` belongs to: clang and ld.lld.
 fn kit() -> PathBuf {
     let path = env::var_os("PATH").unwrap_or_default();
     let rt = env::split_paths(&path).map(|p| p.join("rt")).find(|p| p.is_file());
     let rt = rt.and_then(|p| p.canonicalize().ok()).expect("rt is on the path");
-    let arch = env::var("CARGO_CFG_TARGET_ARCH").unwrap();
-    rt.parent().unwrap().join("../on").join(arch).join("toolchain/bin")
+    rt.parent().unwrap().join("../toolchain/bin")
 }
 
 fn make_server(archive: &Path) {
@@ -47,7 +46,7 @@ fn make_server(archive: &Path) {
     assert!(made.is_ok_and(|s| s.success()), "the server isn't linked");
     println!("cargo:rustc-cfg=bridge");
     println!("cargo:rustc-env=OURS_SERVER={}", server.display());
-    println!("cargo:rustc-env=OURS_EMULATOR={}", kit.join("qemu-x86_64").display());
+    println!("cargo:rustc-env=OURS_EMULATOR=qemu-x86_64");
 }
 
 fn main() {

@@ -1,6 +1,6 @@
 /* Runs the archive's calls for a runner on another kind of processor.
  *
- * The archive is for x86-64. Where the runner isn't, this program is linked with it and run under the kit's emulator;
+ * The archive is for x86-64. Where the runner isn't, this program is linked with it and run under an emulator;
  * it reads calls from standard input and writes the answers to standard output. It has no C library: only the two system calls.
  *
  * A call:   number, how many numbers, how many slices; the numbers; each slice's length in bytes; the slices' bytes.
@@ -13,7 +13,7 @@ typedef unsigned int uint32_t;
 typedef int int32_t;
 typedef unsigned long size_t;
 
-enum { NUMBERS = 16, SLICES = 8, GUARDS = 32, GUARD = 0xa5, MEMORY = 192u << 20 };
+enum { NUMBERS = 16, SLICES = 16, GUARDS = 32, GUARD = 0xa5, MEMORY = 192u << 20 };
 
 static unsigned char memory[MEMORY] __attribute__((aligned(16)));
 static u32 numbers[NUMBERS];

@@ -97,7 +97,7 @@ impl Stage for Draw {
     const NAME: &'static str = "draw";
     /// 5 takes a line over the limit, and 15 paths over one tile: the hostile runs have them.
     const REACHED: &'static [u32] = &[0, 1, 2, 3, 4, 6, 7, 9, 16];
-    const LEAST: u64 = if ours::BRIDGED { 1_500 } else { 4_000 };
+    const LEAST: u64 = if ours::BRIDGED { 1_500 } else { 40_000 };
 
     fn make(&self, rng: &mut Rng) -> Case {
         let mut case = picture::Picture.make(rng);

@@ -43,7 +43,7 @@ impl Stage for FineRows {
     type Case = Case;
     const NAME: &'static str = "fine_rows";
     const REACHED: &'static [u32] = &[0, 1, 2, 13, 14, 15, 16, 20];
-    const LEAST: u64 = 15_000;
+    const LEAST: u64 = 32_000;
 
     fn make(&self, rng: &mut Rng) -> Case {
         let of = fine::made(rng, 4);

@@ -285,7 +285,7 @@ impl Stage for Hostile {
     type Case = Call;
     const NAME: &'static str = "hostile";
     const REACHED: &'static [u32] = &[];
-    const LEAST: u64 = if ours::BRIDGED { 43_000 } else { 860_000 };
+    const LEAST: u64 = if ours::BRIDGED { 43_000 } else { 2_000_000 };
 
     fn make(&self, rng: &mut Rng) -> Call {
         let mut kind = rng.pick(&self.kinds);

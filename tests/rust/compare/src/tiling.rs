@@ -161,7 +161,7 @@ impl Stage for Tile {
     type Case = Case;
     const NAME: &'static str = "tile";
     const REACHED: &'static [u32] = &[0, 1, 2, 3, 4, 6, 7, 9, 10, 12];
-    const LEAST: u64 = 150_000;
+    const LEAST: u64 = 170_000;
 
     fn make(&self, rng: &mut Rng) -> Case {
         let most = if rng.one_in(60) { rng.pick(&[300, EDGE_MOST]) } else { rng.pick(&[4, 8, 24]) };

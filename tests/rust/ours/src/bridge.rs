@@ -1,4 +1,4 @@
-//! The archive's calls through `server.c` under the kit's emulator, a server for each thread: the same symbols, so that
+//! The archive's calls through `server.c` under an emulator, a server for each thread: the same symbols, so that
 //! the crate groatpocket stands on them as it does on the archive.
 
 use std::cell::RefCell;
@@ -18,7 +18,7 @@ impl Server {
             .stdin(Stdio::piped())
             .stdout(Stdio::piped())
             .spawn()
-            .expect("the kit's emulator runs");
+            .expect("qemu-x86_64 runs");
         let (to, from) = (child.stdin.take().unwrap(), child.stdout.take().unwrap());
         Server { child, to, from }
     }

@@ -1,4 +1,4 @@
-//! A call's parameters are typed by a person three times: in the export (crates/groatpocket/src), in the header
+//! A call's parameters are typed by a person three times: in the export (crates/groatpocket_c/src), in the header
 //! (include/groatpocket.h), and in the safe crate (rust/groatpocket). All else that lists them is made here.
 //!
 //!     cargo run -p signatures -- write       makes the files
@@ -60,7 +60,7 @@ fn texts(folder: &str, ending: &str) -> String {
 
 /// The header's calls in the order of their numbers, and its float helpers, all held against the exports.
 fn read(safe: &safe::Safe) -> (Vec<Call>, Vec<Helper>) {
-    let (exports, lists) = (parse::exports(&texts("crates/groatpocket/src", ".rt")), text("tests/rust/README.md"));
+    let (exports, lists) = (parse::exports(&texts("crates/groatpocket_c/src", ".rt")), text("tests/rust/README.md"));
     let declared = parse::header(&text("include/groatpocket.h"));
     if let Some(export) = exports.iter().find(|e| declared.iter().all(|d| d.call.name != e.name)) {
         fail(&format!("gp_{} is exported, but isn't in the header", export.name));

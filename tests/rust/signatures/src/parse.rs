@@ -188,7 +188,7 @@ pub fn header(text: &str) -> Vec<Declared> {
     declared
 }
 
-/// The functions that the crate groatpocket exports.
+/// The functions that the crate groatpocket_c exports.
 pub fn exports(text: &str) -> Vec<Export> {
     let found = text.split("pub extern \"C\" fn gp_").skip(1).map(|e| {
         let (name, rest) = e.split_once('(').unwrap();
@@ -227,9 +227,11 @@ pub fn agree(declared: &Declared, export: &Export) {
 
 /// A number behind a pointer goes on from what it held where the promise speaks of it at the call's entry.
 pub fn goes_on(call: &mut Call, export: &Export) {
+    let words: Vec<&str> = export.ensures.split(|c: char| c.is_whitespace() || "(){}".contains(c)).collect();
+    let stands = |word: String| words.contains(&word.as_str());
     for (param, exported) in call.params.iter_mut().zip(&export.params) {
-        let (plain, quoted) = (format!("({} .entry)", exported.name), format!("(«{}» .entry)", exported.name));
-        if param.how == How::Told && (export.ensures.contains(&plain) || export.ensures.contains(&quoted)) {
+        let name = &exported.name;
+        if param.how == How::Told && (stands(format!("{name}.old")) || stands(format!("«{name}».old"))) {
             param.how = How::GoesOn;
         }
     }
