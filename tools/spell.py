@@ -242,7 +242,9 @@ class Names:
 def library_names():
     """What the two modules that every file may import say, if the library is here."""
     found = set()
-    for top in ("/opt/rattle/rattle",):
+    # the toolchain's own library, beside its first page
+    page = subprocess.run(["rt", "doc"], capture_output=True, text=True).stdout.strip()
+    for top in (os.path.join(os.path.dirname(page), "rattle"),):
         for m in ("std/specs/Prelude.antt", "std/proofs/Common.antt"):
             p = os.path.join(top, m)
             if os.path.exists(p):
