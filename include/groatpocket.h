@@ -11,9 +11,9 @@
  * docs/RULES.md has the rules, docs/PROMISES.md what is proved of each call.
  *
  * NULL for no elements: the proofs speak of slices, and a slice of none has no element to read or
- * write; that a pointer which is never followed may be NULL is seen by inspection (the module that is
- * compiled calls no pointer nonnull or dereferenceable and compares none with NULL) and tried by the
- * runs, not proved.
+ * write; that a pointer which is never followed may be NULL is not proved: the compiled exports put an
+ * address that is never followed in the place of NULL as they begin, and the runs lend NULL for about
+ * half of the slices of none.
  *
  * Threads: the archive has no data of its own. Calls may run at once, on any threads, where no call
  * writes what another reads or writes: they may share what all of them only read. The slice of pixels
