@@ -13,7 +13,7 @@ typedef unsigned int uint32_t;
 typedef int int32_t;
 typedef unsigned long size_t;
 
-enum { NUMBERS = 16, SLICES = 16, GUARDS = 32, GUARD = 0xa5, MEMORY = 192u << 20 };
+enum { NUMBERS = 16, SLICES = 8, GUARDS = 32, GUARD = 0xa5, MEMORY = 192u << 20 };
 
 static unsigned char memory[MEMORY] __attribute__((aligned(16)));
 static u32 numbers[NUMBERS];
