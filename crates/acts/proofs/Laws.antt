@@ -9,44 +9,18 @@ use native.Mathlib.Nat.{mul-le-mul_right, suc-mul, mul_comm, zero-add, add-zero,
 use native.Mathlib.Numerals.{add-one}
 use native.Mathlib.Omega.{arith}
 use lib.Dec.{ltb}
-use lib.ListN.{length, get_or, set}
+use lib.ListN.{get_or, set}
 use lib.IntN.{ℤ, pos, ◌+ℤ◌}
 use borrow.Author.Tests.{lt-ltb, le-ltb, ltb-true}
-use Rattle.lists.specs.Run.{Step, taken, halted, Ran, done, refused, and_then, on_step, run_append}
-use Rattle.panel.specs.Limits.{most_steps, most_count}
+use Rattle.lists.specs.Run.{Ran, done, refused, and_then, on_step, run_append}
+use Rattle.panel.specs.Limits.{most_count}
 use Rattle.panel.specs.Refusals.{count_over, outside, sum_over}
 use Rattle.panel.specs.Refs.{put_ref}
-use Rattle.panel.specs.declared.kinds.Verdict.{Verdict}
-use Rattle.panel.specs.declared.kinds.Verdict.TheVariants.{Fine, Against}
+use Rattle.panel.specs.Verdict.{Verdict}
+use Rattle.panel.specs.Verdict.{Fine, Against}
 use Rattle.panel.specs.Signed.{in_i32}
 use Rattle.panel.proofs.BoolLaws.{both}
-use Rattle.acts.specs.Acts.{
-  St,
-  st_of,
-  Act,
-  mark,
-  visit,
-  stop,
-  Hit,
-  on,
-  off,
-  row_acts,
-  cross_acts,
-  step_acts,
-  steps_acts,
-  marked,
-  packed,
-  visited,
-  take_if,
-  act,
-  run_acts,
-  or_else,
-  fine_if,
-  act_no,
-  check_no,
-  is_done,
-  verdict_of,
-}
+use Rattle.acts.specs.Acts.{St, st_of, Act, mark, Hit, on, off, row_acts, cross_acts, step_acts, steps_acts, marked, packed, visited, take_if, act, run_acts, or_else, act_no, check_no, is_done}
 use Rattle.acts.specs.Rows.{RowsIn}
 use Rattle.acts.specs.declared.rows.Rows.{Rows}
 

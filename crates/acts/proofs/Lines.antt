@@ -2,7 +2,7 @@
 -- Assumes nothing.
 use mathlib.Core.Path.{◌≡◌, refl, sym, ap, ◌∙◌}
 use mathlib.Core.Bool.{Bool, true, false, ◌&&◌}
-use mathlib.Core.List.{List, ◌++◌}
+use mathlib.Core.List.{List}
 use Prim.Native.Nat.{ℕ, suc, ◌+◌, ◌-◌, ◌<◌, ◌≤◌, min}
 use native.Mathlib.Numerals.{add-one}
 use native.Mathlib.Omega.{arith}
@@ -12,10 +12,10 @@ use Rattle.lists.specs.Run.{Step, taken, halted, Ran, done, refused, and_then, o
 use Rattle.lists.specs.Sums.{from, from_add}
 use Rattle.panel.specs.Limits.{most_steps, most_slots}
 use Rattle.panel.specs.Refusals.{count_over, no_room_word}
-use Rattle.panel.specs.declared.kinds.Verdict.{Verdict}
-use Rattle.panel.specs.declared.kinds.Verdict.TheVariants.{Fine, Against}
+use Rattle.panel.specs.Verdict.{Verdict}
+use Rattle.panel.specs.Verdict.{Fine, Against}
 use Rattle.acts.specs.Acts.{St, run_acts, delta_of, check_no, is_done, verdict_of}
-use Rattle.acts.specs.Line.{Plan, plan_acts, halt_if, plan_step, Refusal, at_line, batch_of}
+use Rattle.acts.specs.Line.{Plan, plan_acts, plan_step, Refusal, at_line, batch_of}
 use Rattle.acts.proofs.Once.{marks_of, visits_of, Once, check_run, said_no, said_yes}
 
 -- ---- one line

@@ -13,8 +13,8 @@ use lib.IntN.{ℤ, pos, ◌+ℤ◌}
 use Rattle.lists.specs.Run.{Ran, done, refused, on_step}
 use Rattle.panel.specs.Limits.{most_count}
 use Rattle.panel.specs.Refusals.{count_over, sum_over}
-use Rattle.panel.specs.declared.kinds.Verdict.{Verdict}
-use Rattle.panel.specs.declared.kinds.Verdict.TheVariants.{Fine, Against}
+use Rattle.panel.specs.Verdict.{Verdict}
+use Rattle.panel.specs.Verdict.{Fine, Against}
 use Rattle.panel.specs.Signed.{in_i32}
 use Rattle.acts.specs.Acts.{St, Act, mark, visit, stop, marked, visited, take_if, run_acts, or_else, fine_if, check_no, is_done, verdict_of}
 

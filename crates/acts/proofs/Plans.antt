@@ -3,12 +3,11 @@
 use mathlib.Core.Path.{◌≡◌, refl, sym, ap, ◌∙◌, subst}
 use mathlib.Core.Logic.{◌≢◌}
 use mathlib.Core.Bool.{Bool, true, false}
-use mathlib.Core.List.{List, [], ◌∷◌, ◌++◌}
+use mathlib.Core.List.{List, ◌++◌}
 use Prim.Native.Nat.{ℕ, zero, suc, ◌+◌, ◌-◌, ◌*◌, ◌<◌, ◌≤◌}
 use native.Mathlib.Omega.{arith}
 use Rattle.panel.proofs.PathLaws.{cell_once}
-use Rattle.acts.specs.Acts.{Act, mark, visit, stop, Hit, on, off, row_acts, step_acts, steps_acts}
-use Rattle.acts.specs.Rows.{rows_acts}
+use Rattle.acts.specs.Acts.{Act, Hit, on, off, row_acts, step_acts, steps_acts}
 use Rattle.acts.specs.Line.{Plan, plan_acts}
 use Rattle.acts.proofs.Once.{marks_of, visits_of, Free, Once}
 

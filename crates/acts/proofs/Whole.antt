@@ -1,24 +1,23 @@
 -- What a run that goes through leaves: one reference for each visit, in order, each tile's count up by its visits.
 -- Assumes nothing.
-use mathlib.Core.Path.{◌≡◌, refl, sym, ap, ◌∙◌, subst}
+use mathlib.Core.Path.{◌≡◌, refl, ap, ◌∙◌}
 use mathlib.Core.Bool.{Bool, true, false}
 use mathlib.Core.List.{List, [], ◌∷◌, ◌++◌}
-use Prim.Native.Nat.{ℕ, zero, suc, ◌+◌, ◌-◌, ◌*◌, ◌<◌, ◌≤◌, min}
+use Prim.Native.Nat.{ℕ, zero, suc, ◌+◌, ◌-◌, ◌*◌, ◌≤◌, min}
 use native.Mathlib.Nat.{le_refl}
-use native.Mathlib.Numerals.{add-one}
 use native.Mathlib.Omega.{arith}
 use lib.Dec.{ltb}
-use lib.ListN.{length, get_or, set}
+use lib.ListN.{length, get_or}
 use lib.Seq.{sets}
 use lib.IntN.{ℤ, pos, ◌+ℤ◌}
 use borrow.Author.Tests.{ltb-false}
-use Rattle.lists.specs.Run.{Step, taken, halted, Ran, done, refused, on_step, all_or_none}
+use Rattle.lists.specs.Run.{Step, taken, Ran, done, refused, on_step, all_or_none}
 use Rattle.lists.specs.Tally.{tally, slices}
 use Rattle.panel.specs.Limits.{most_count, most_slots}
 use Rattle.panel.specs.Refusals.{count_over, no_room_word, sum_over}
 use Rattle.panel.specs.Widths.{ref_words}
 use Rattle.panel.specs.Signed.{in_i32}
-use Rattle.acts.specs.Acts.{St, Act, mark, visit, stop, Hit, on, off, row_acts, cross_acts, step_acts, steps_acts, marked, packed, visited, take_if, run_acts, delta_of}
+use Rattle.acts.specs.Acts.{St, Act, mark, visit, stop, Hit, on, off, row_acts, step_acts, steps_acts, marked, packed, visited, take_if, run_acts, delta_of}
 use Rattle.acts.specs.Rows.{rows_acts}
 use Rattle.acts.specs.Line.{Plan, plan_acts, Ref, refs_of, plan_refs, halt_if, too_far, plan_step}
 use Rattle.acts.proofs.Once.{visits_of}

@@ -7,8 +7,8 @@ use Rattle.panel.specs.Refusals.{count_over, outside, sum_over}
 pub use Rattle.panel.specs.Refs.{packed}
 use Rattle.panel.specs.Refs.{put_ref}
 use Rattle.panel.specs.Signed.{in_i32}
-use Rattle.panel.specs.declared.kinds.Verdict.{Verdict}
-use Rattle.panel.specs.declared.kinds.Verdict.TheVariants.{Fine, Against}
+use Rattle.panel.specs.Verdict.{Verdict}
+use Rattle.panel.specs.Verdict.{Fine, Against}
 
 -- what is lent, and the number of references so far
 pub record St : Type 0 where

@@ -1,6 +1,6 @@
 -- One line, all or nothing, and a batch of lines. What a line's walk comes to is handed in as a `Plan`, apart from memory; the room for
 -- references is a number, and the line's number need not be its place in a list. Definitions only.
-use Rattle.std.specs.Prelude.{Bool, true, false, ◌&&◌, List, [], ◌∷◌, ◌++◌, ℕ, ◌+◌, ◌-◌, min, ltb, leb}
+use Rattle.std.specs.Prelude.{Bool, true, false, ◌&&◌, List, [], ◌∷◌, ◌++◌, ℕ, ◌+◌, ◌-◌, min, ltb}
 use Rattle.lists.specs.Run.{Step, taken, halted, Ran, run, all_or_none}
 use Rattle.lists.specs.Sums.{from}
 use Rattle.panel.specs.Limits.{most_steps, most_slots}

@@ -7,11 +7,7 @@ ghost use Rattle.acts.specs.Acts.{delta_of};
 pub fn leaves(b: i32, up: bool) -> bool
     ensures { result ≡ not (in_i32 (b +ℤ delta_of up)) }
 {
-    if up {
-        b == 2147483647
-    } else {
-        b == -2147483648
-    }
+    if up { b == i32::MAX } else { b == i32::MIN }
 }
 
 // One mark, which is known to stay within i32.

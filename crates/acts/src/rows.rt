@@ -1,12 +1,12 @@
 // Row marks: the first column's tiles in the rows that a line passes left of its path's box.
 ghost use Rattle.std.specs.Prelude.{◌≡◌, true, [], length};
 ghost use Rattle.lists.specs.Run.{done};
+ghost use Rattle.panel.specs.Verdict.{verdict_told};
 ghost use Rattle.acts.specs.Acts.{st_of, run_acts, check_no, is_done, delta_of};
 ghost use Rattle.acts.specs.Rows.{rows_acts, RowsIn};
 
 use super::marks::{leaves, mark};
-use panel::kinds::Verdict;
-use panel::refusals::SUM_OVER;
+use panel::refusals::Refusal;
 
 // Rows low .. high of a box whose top row is top, with its first tile and its width.
 #[derive(Clone, Copy)]
@@ -19,23 +19,17 @@ pub struct Rows {
 }
 
 // The check of row marks, upward in y: it writes nothing.
-pub fn check_rows(rows: Rows, up: bool, backs: &[i32], counts: &[u32]) -> Verdict
+pub fn check_rows(rows: Rows, up: bool, backs: &[i32], counts: &[u32]) -> Result<(), Refusal>
     requires { RowsIn rows (length backs.now) }
-    ensures { result ≡ check_no (delta_of up) (rows_acts rows) backs.now counts.now }
+    ensures { verdict_told result ≡ check_no (delta_of up) (rows_acts rows) backs.now counts.now }
 {
-    let first = rows.first;
-    let top = rows.top;
-    let width = rows.width;
-    let high = rows.high;
-    let mut y = rows.low;
-    while y < high {
-        let t = (first + (y - top) * width) as usize;
+    for y in rows.low..rows.high {
+        let t = (rows.first + (y - rows.top) * rows.width) as usize;
         if leaves(backs[t], up) {
-            return Verdict::Against(SUM_OVER);
+            return Err(Refusal::SumOver);
         }
-        y += 1;
     }
-    Verdict::Fine
+    Ok(())
 }
 
 // Row marks that are known to go through.
@@ -43,14 +37,8 @@ pub fn write_rows(rows: Rows, up: bool, backs: &mut [i32])
     requires { RowsIn rows (length backs.old) × (is_done (run_acts (delta_of up) 0 (rows_acts rows) (st_of backs.old [] [] 0)) ≡ true) }
     ensures { done (st_of backs.new [] [] 0) ≡ run_acts (delta_of up) 0 (rows_acts rows) (st_of backs.old [] [] 0) }
 {
-    let first = rows.first;
-    let top = rows.top;
-    let width = rows.width;
-    let high = rows.high;
-    let mut y = rows.low;
-    while y < high {
-        let t = (first + (y - top) * width) as usize;
+    for y in rows.low..rows.high {
+        let t = (rows.first + (y - rows.top) * rows.width) as usize;
         mark(backs, t, up);
-        y += 1;
     }
 }

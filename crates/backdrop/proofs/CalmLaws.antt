@@ -1,6 +1,6 @@
 -- Small backdrops: a row that is no wider than a box may be keeps its sums in i32. Assumes nothing.
 use mathlib.Core.Path.{◌≡◌, refl}
-use mathlib.Core.Bool.{Bool, true, false, ◌&&◌}
+use mathlib.Core.Bool.{true, ◌&&◌}
 use mathlib.Core.List.{List}
 use Prim.Native.Nat.{ℕ, zero, suc, ◌+◌, ◌-◌, ◌*◌, ◌≤◌, ◌<◌, ◌^◌}
 use native.Mathlib.Nat.{add-mul, mul_comm, suc-add, zero-add, add-zero}
@@ -16,7 +16,6 @@ use Rattle.panel.specs.declared.kinds.Path.{Path}
 use Rattle.panel.proofs.LimitLaws.{small}
 use Rattle.panel.proofs.BoolLaws.{both}
 use Rattle.panel.proofs.SignLaws.{mag_in}
-use Rattle.panel.specs.Signed.{in_i32}
 use Rattle.backdrop.specs.Backdrop.{backdrop_at, row_fits, rows_fit, path_fits}
 use Rattle.backdrop.specs.Calm.{calm_one, calm_from}
 use Rattle.backdrop.proofs.RowLaws.{sum_mag}

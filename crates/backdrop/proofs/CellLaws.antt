@@ -12,8 +12,8 @@ use lib.Seq.{get_or-set_same, get_or-set_other}
 use Rattle.panel.specs.Refusals.{sum_over}
 use Rattle.panel.specs.Paths.{path_at, path_count, paths_answer, width_of, height_of, end_of, tile_of}
 use Rattle.panel.specs.declared.kinds.Path.{Path}
-use Rattle.panel.specs.declared.kinds.Answer.{Answer}
-use Rattle.panel.specs.declared.kinds.Answer.TheVariants.{Done, Refused}
+use Rattle.panel.specs.Answer.{Answer}
+use Rattle.panel.specs.Answer.{Done, Refused}
 use Rattle.panel.proofs.KindLaws.{paper_once}
 use Rattle.panel.proofs.PathLaws.{InBox, Holds, checked, cell_in, own_tile}
 use Rattle.backdrop.specs.Backdrop.{backdrop_at, row_sums, rows_sums, path_sums, path_fits, Out, out_of, sum_paths, on_done, backdrop_of}

@@ -10,8 +10,7 @@ use lib.ListN.{length}
 use Rattle.panel.specs.Refusals.{sum_over}
 use Rattle.panel.specs.Paths.{path_at, path_count, paths_answer, width_of, height_of}
 use Rattle.panel.specs.declared.kinds.Path.{Path}
-use Rattle.panel.specs.declared.kinds.Answer.{Answer}
-use Rattle.panel.specs.declared.kinds.Answer.TheVariants.{Done, Refused}
+use Rattle.panel.specs.Answer.{Done, Refused}
 use Rattle.backdrop.specs.Backdrop.{row_sums, rows_sums, path_sums, path_fits, out_of, sum_paths, backdrop_of}
 use Rattle.backdrop.proofs.RowLaws.{length_row}
 
@@ -45,7 +44,3 @@ module _ (ws : List ℕ) (bs : List ℤ) where
   pub call_done : paths_answer ws (length bs) ≡ Done → backdrop_of ws bs ≡ sum_paths ws (path_count ws) 0 bs
   unfolding backdrop_of
   call_done e = rw e
-
-  pub call_no : (a : Answer) {n item : ℕ} → a ≡ Refused n item → a ≡ paths_answer ws (length bs) → out_of a bs ≡ backdrop_of ws bs
-  unfolding backdrop_of
-  call_no a e q = rw (← q, e)

@@ -5,8 +5,8 @@ use Rattle.panel.specs.Refusals.{sum_over}
 use Rattle.panel.specs.Kinds.{paper_of}
 use Rattle.panel.specs.Paths.{path_at, path_count, width_of, height_of, paths_answer}
 use Rattle.panel.specs.declared.kinds.Path.{Path}
-use Rattle.panel.specs.declared.kinds.Answer.{Answer}
-use Rattle.panel.specs.declared.kinds.Answer.TheVariants.{Done, Refused}
+use Rattle.panel.specs.Answer.{Answer}
+use Rattle.panel.specs.Answer.{Done, Refused}
 use Rattle.panel.specs.Signed.{in_i32}
 
 -- what stands at tile t

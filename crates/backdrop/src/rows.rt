@@ -9,9 +9,9 @@ ghost use Rattle.backdrop.specs.Backdrop.{row_fits, row_sums, rows_fit, path_fit
 use panel::kinds::Path;
 
 // The ends of i32, in 64 bits.
-const LEAST: i64 = -2147483648;
+const LEAST: i64 = i32::MIN as i64;
 
-const MOST: i64 = 2147483647;
+const MOST: i64 = i32::MAX as i64;
 
 fn in_i32(x: i64) -> bool
     ensures { result ≡ in_i32 x }
@@ -30,11 +30,9 @@ fn calm(backdrops: &[i32], at: usize, end: usize) -> bool
     ensures { result ≡ calm_from (end - at) at backdrops.now }
 {
     let mut ok = true;
-    let mut i = at;
-    while i < end {
+    for i in at..end {
         let b = backdrops[i];
         ok = ok & ((CALM_LEAST <= b) & (b <= CALM_MOST));
-        i += 1;
     }
     ok
 }
@@ -45,13 +43,11 @@ fn row_fits(backdrops: &[i32], at: usize, end: usize) -> bool
     ensures { result ≡ row_fits (end - at) at (pos 0) backdrops.now }
 {
     let mut sum: i64 = 0;
-    let mut i = at;
-    while i < end {
+    for i in at..end {
         sum = sum + backdrops[i] as i64;
         if !in_i32(sum) {
             return false;
         }
-        i += 1;
     }
     true
 }
@@ -62,11 +58,9 @@ fn sum_row(backdrops: &mut [i32], at: usize, end: usize)
     ensures { backdrops.new ≡ row_sums (end - at) at (pos 0) backdrops.old }
 {
     let mut sum: i32 = 0;
-    let mut i = at;
-    while i < end {
+    for i in at..end {
         sum = sum + backdrops[i];
         backdrops[i] = sum;
-        i += 1;
     }
 }
 
@@ -76,14 +70,12 @@ fn rows_fit(backdrops: &[i32], first: usize, width: usize, height: usize) -> boo
     ensures { result ≡ rows_fit height width first backdrops.now }
 {
     let mut at = first;
-    let mut y: usize = 0;
-    while y < height {
+    for _y in 0..height {
         let end = at + width;
         if !row_fits(backdrops, at, end) {
             return false;
         }
         at = end;
-        y += 1;
     }
     true
 }
@@ -111,11 +103,9 @@ pub fn sum_path(p: Path, backdrops: &mut [i32])
     let width = (p.x1 - p.x0) as usize;
     let height = (p.y1 - p.y0) as usize;
     let mut at = p.first as usize;
-    let mut y: usize = 0;
-    while y < height {
+    for _y in 0..height {
         let end = at + width;
         sum_row(backdrops, at, end);
         at = end;
-        y += 1;
     }
 }

@@ -1,7 +1,7 @@
 -- A band's tiles: none, the first and then the rest; and that a band whose checks pass has its tiles on the screen. Assumes nothing.
-use mathlib.Core.Path.{◌≡◌, refl, sym, ap, subst, ◌∙◌}
+use mathlib.Core.Path.{◌≡◌, refl, sym, ap, ◌∙◌}
 use mathlib.Core.List.{List}
-use Prim.Native.Nat.{ℕ, zero, suc, ◌+◌, ◌-◌, ◌*◌, ◌/◌, ◌%◌, ◌<◌, ◌≤◌}
+use Prim.Native.Nat.{ℕ, suc, ◌+◌, ◌-◌, ◌*◌, ◌/◌, ◌%◌, ◌<◌, ◌≤◌}
 use native.Mathlib.Nat.{le_trans, le_of_eq, mul-add, mul-le-mul_left}
 use native.Mathlib.Numerals.{add-one}
 use native.Mathlib.Omega.{arith}
@@ -10,8 +10,8 @@ use lib.Ieee.{Float}
 use Rattle.lists.specs.Run.{taken, done, refused, left, on_step, run, run_keeps}
 use Rattle.lists.specs.Sums as Numbers
 use Rattle.panel.specs.Limits.{most_tiles}
-use Rattle.panel.specs.declared.kinds.Verdict.{Verdict}
-use Rattle.panel.specs.declared.kinds.Verdict.TheVariants.{Fine, Against}
+use Rattle.panel.specs.Verdict.{Verdict}
+use Rattle.panel.specs.Verdict.{Fine, Against}
 use Rattle.screen_tile.specs.Tile.{ends_at, tile_pixels}
 use Rattle.fine.specs.Fine.{on_end}
 use Rattle.fine.proofs.Screens.{tile_length}

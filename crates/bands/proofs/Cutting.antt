@@ -1,8 +1,8 @@
 -- A screen cut into bands: wherever its rows are cut, fine over the whole screen answers and leaves what the bands do, one below the other, each drawn by
 -- itself on its own pixels. Assumes nothing.
-use mathlib.Core.Path.{◌≡◌, refl, sym, ap, subst, ◌∙◌}
+use mathlib.Core.Path.{◌≡◌, refl, sym, ap, ◌∙◌}
 use mathlib.Core.List.{List, [], ◌∷◌, ◌++◌, append_assoc, append-nil}
-use Prim.Native.Nat.{ℕ, zero, suc, ◌+◌, ◌-◌, ◌*◌, ◌%◌, ◌<◌, ◌≤◌}
+use Prim.Native.Nat.{ℕ, ◌+◌, ◌-◌, ◌*◌, ◌%◌, ◌≤◌}
 use native.Mathlib.Nat.{le_refl, le_trans, le_of_eq, mul-add, mul-zero, mul-le-mul_left}
 use native.Mathlib.Omega.{arith}
 use lib.Dec.{eqb, leb}
@@ -15,9 +15,9 @@ use Rattle.panel.specs.Limits.{most_tiles}
 use Rattle.panel.specs.Refusals.{not_whole, too_many, bad_screen}
 use Rattle.panel.specs.Widths.{segment_floats}
 use Rattle.panel.proofs.CheckLaws.{all_ok}
-use Rattle.panel.specs.declared.kinds.Answer.TheVariants.{Done, Refused}
-use Rattle.panel.specs.declared.kinds.Verdict.{Verdict}
-use Rattle.panel.specs.declared.kinds.Verdict.TheVariants.{Fine, Against}
+use Rattle.panel.specs.Answer.{Done, Refused}
+use Rattle.panel.specs.Verdict.{Verdict}
+use Rattle.panel.specs.Verdict.{Fine, Against}
 use Rattle.sides.specs.Tile.{tile_width, tile_height}
 use Rattle.fine.specs.Fine.{fine_checks, Shown, shown, No, tiles_of, shown_of, unless_no, fine_of}
 use Rattle.fine.proofs.Ranges.{two_ranges}

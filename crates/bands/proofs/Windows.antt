@@ -3,20 +3,7 @@ use mathlib.Core.Path.{◌≡◌, refl, sym, ap, subst, ◌∙◌}
 use mathlib.Core.Bool.{Bool, true, false, cond, ◌&&◌, false≢true}
 use mathlib.Core.List.{List, [], ◌∷◌, ◌++◌}
 use Prim.Native.Nat.{ℕ, zero, suc, ◌+◌, ◌-◌, ◌*◌, ◌/◌, ◌%◌, ◌<◌, ◌≤◌}
-use native.Mathlib.Nat.{
-  le_trans,
-  le_of_eq,
-  add-zero,
-  add-suc,
-  add_comm,
-  mul_comm,
-  mul-add,
-  mul-le-mul_left,
-  not-le_of_lt,
-  div-lt_iff_lt-mul,
-  add-mul-div_right,
-  add-mul-mod_self_right,
-}
+use native.Mathlib.Nat.{le_trans, add-zero, add-suc, add_comm, mul_comm, mul-add, mul-le-mul_left, not-le_of_lt, div-lt_iff_lt-mul, add-mul-div_right, add-mul-mod_self_right}
 use native.Mathlib.Omega.{arith}
 use lib.Dec.{eqb}
 use lib.ListN.{length}
@@ -25,14 +12,12 @@ use borrow.Author.Tests.{eq-eqb, ne_eqb, eqb-true}
 use Rattle.lists.specs.Run.{Step, taken, halted, Ran, done, refused, on_step, run}
 use Rattle.lists.specs.Sums as Numbers
 use Rattle.lists.specs.Grid.{map_from, mapi}
-use Rattle.lists.specs.GridLaws.{le_or_lt}
-use Rattle.panel.specs.declared.kinds.Verdict.{Verdict}
-use Rattle.panel.specs.declared.kinds.Verdict.TheVariants.{Fine, Against}
-use Rattle.colours.specs.Colour.{pack_of}
+use Rattle.panel.specs.Verdict.{Verdict}
+use Rattle.panel.specs.Verdict.{Fine, Against}
 use Rattle.sides.specs.Tile.{tile_width, tile_height}
 use Rattle.screen_rows.specs.Rows.{in_tile, place_of, put_tile, packed}
 use Rattle.screen_tile.specs.Tile.{ends_at, colour_at, if_fine, tile_pixels}
-use Rattle.fine.specs.Fine.{No, on_end, tile_step, tiles_of}
+use Rattle.fine.specs.Fine.{on_end, tile_step, tiles_of}
 use Rattle.fine.proofs.Ranges.{some}
 use Rattle.bands.specs.Bands.{band_step, band_tiles}
 use Rattle.bands.proofs.BandLaws.{step_length}

@@ -7,7 +7,7 @@ use Rattle.panel.specs.Checks.{Check, check, first_no}
 use Rattle.panel.specs.Limits.{most_tiles}
 use Rattle.panel.specs.Refusals.{not_whole, too_many, bad_screen}
 use Rattle.panel.specs.Widths.{segment_floats}
-use Rattle.panel.specs.declared.kinds.Answer.{Answer}
+use Rattle.panel.specs.Answer.{Answer}
 use Rattle.sides.specs.Tile.{tile_width, tile_height}
 use Rattle.screen_tile.specs.Tile.{ends_at, tile_pixels}
 use Rattle.fine.specs.Fine.{Shown, shown, shown_of, No, on_end, unless_no}

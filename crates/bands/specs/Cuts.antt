@@ -1,7 +1,7 @@
 -- A screen cut into bands, one below the other, each with its own slice of the pixels; and what the whole screen shows of what they leave.
 -- Definitions only.
 use Rattle.std.specs.Prelude.{◌≡◌, List, [], ◌∷◌, ◌++◌, ℕ, ◌-◌, ◌*◌, ◌≤◌, length, Float}
-use Rattle.panel.specs.declared.kinds.Answer.TheVariants.{Done}
+use Rattle.panel.specs.Answer.{Done}
 use Rattle.sides.specs.Tile.{tile_height}
 use Rattle.fine.specs.Fine.{Shown, shown}
 use Rattle.bands.specs.Bands.{band_of}

@@ -5,21 +5,23 @@
 
 ghost use Rattle.std.specs.Prelude.{◌≡◌, ◌+◌, ◌*◌, ◌≤◌, length};
 ghost use Rattle.panel.specs.Checks.{first_no};
+ghost use Rattle.panel.specs.Verdict.{verdict_told};
+ghost use Rattle.panel.specs.Answer.{answer_told};
 ghost use Rattle.panel.specs.Limits.{most_tiles};
 ghost use Rattle.sides.specs.Tile.{tile_width, tile_height};
 ghost use Rattle.fine.specs.Fine.{shown, shown_of};
 ghost use Rattle.bands.specs.Bands.{band_checks, band_tiles, BandMet};
 
-use panel::kinds::{Answer, Verdict};
+use panel::kinds::Refused;
 use panel::limits::MOST_TILES;
-use panel::refusals::{BAD_SCREEN, NOT_WHOLE, TOO_MANY};
+use panel::refusals::Refusal;
 use panel::widths::SEGMENT_FLOATS;
 use screen_tile::{no_colour, tile};
 use sides::{TILE_HEIGHT, TILE_WIDTH};
 
 // What is checked first: whole segments and a range of rows (1), not too many tiles on the whole
 // screen (2), then the width and the band's pixels (16), which are divided: 16 * width * rows can
-// pass 64 bits.
+// pass 64 bits. Apart from fine's own check, whose range is of tiles: one for both would take nine numbers.
 fn check_rows(
     segments: usize,
     width: u32,
@@ -28,34 +30,34 @@ fn check_rows(
     first: u32,
     end: u32,
     pixels: usize,
-) -> Verdict
-    ensures { result ≡ first_no (band_checks segments width cols rows first end pixels) }
+) -> Result<(), Refusal>
+    ensures { verdict_told result ≡ first_no (band_checks segments width cols rows first end pixels) }
 {
     if segments % SEGMENT_FLOATS != 0 {
-        return Verdict::Against(NOT_WHOLE);
+        return Err(Refusal::NotWhole);
     }
     if first > end {
-        return Verdict::Against(NOT_WHOLE);
+        return Err(Refusal::NotWhole);
     }
     if end > rows {
-        return Verdict::Against(NOT_WHOLE);
+        return Err(Refusal::NotWhole);
     }
     let n = (cols as u64) * (rows as u64);
     if n > MOST_TILES as u64 {
-        return Verdict::Against(TOO_MANY);
+        return Err(Refusal::TooMany);
     }
     if TILE_WIDTH * (cols as usize) > width as usize {
-        return Verdict::Against(BAD_SCREEN);
+        return Err(Refusal::BadScreen);
     }
     let own = end - first;
     if (width as usize) * (own as usize) > pixels / TILE_HEIGHT {
-        return Verdict::Against(BAD_SCREEN);
+        return Err(Refusal::BadScreen);
     }
-    Verdict::Fine
+    Ok(())
 }
 
 // The band's tiles in order, of cols times rows, up to the first that is refused: its tile k is the
-// screen's tile base + k.
+// screen's tile base + k. Apart from fine's own loop, where a tile's place and its list have one number.
 fn tiles(
     words: &[u32],
     segments: &[f32],
@@ -64,25 +66,21 @@ fn tiles(
     rows: usize,
     base: usize,
     pixels: &mut [u32],
-) -> Answer
+) -> Result<(), Refused>
     requires { (base + cols * rows ≤ most_tiles) × (tile_width * cols ≤ width) × (width * (tile_height * rows) ≤ length pixels.old) }
-    ensures { shown result pixels.new ≡ shown_of (band_tiles words.now segments.now width cols base 0 (cols * rows) pixels.old) }
+    ensures { shown (answer_told result) pixels.new ≡ shown_of (band_tiles words.now segments.now width cols base 0 (cols * rows) pixels.old) }
 {
     let n = cols * rows;
     let mut rgba = no_colour();
-    let mut k = 0usize;
-    while k < n {
+    for k in 0..n {
         let t = base + k;
         let tx = k % cols;
         let ty = k / cols;
-        let v = tile(words, segments, t, width, tx, ty, &mut rgba, pixels);
-        if let Verdict::Against(no) = v {
-            let at = t as u32;
-            return Answer::Refused(no, at);
+        if let Err(why) = tile(words, segments, t, width, tx, ty, &mut rgba, pixels) {
+            return Err(why.at(t as u32));
         }
-        k += 1;
     }
-    Answer::Done
+    Ok(())
 }
 
 // The public call: the rows of tiles from `first` up to `end` of a screen of cols times rows, `width`
@@ -97,13 +95,10 @@ pub fn fine_rows(
     first: u32,
     end: u32,
     pixels: &mut [u32],
-) -> Answer
-    ensures { BandMet words.now segments.now width cols rows first end pixels.old result pixels.new }
+) -> Result<(), Refused>
+    ensures { BandMet words.now segments.now width cols rows first end pixels.old (answer_told result) pixels.new }
 {
-    let v = check_rows(segments.len(), width, cols, rows, first, end, pixels.len());
-    if let Verdict::Against(no) = v {
-        return Answer::Refused(no, 0);
-    }
+    check_rows(segments.len(), width, cols, rows, first, end, pixels.len())?;
     let own = end - first;
     let base = (cols as usize) * (first as usize);
     tiles(

@@ -10,9 +10,9 @@ ghost use Rattle.walk.specs.Num.{float};
 ghost use Rattle.walk.specs.Step.{Boxed, z_at, step_of};
 ghost use Rattle.box_edges.specs.Edges.{edges_of};
 
-use panel::kinds::Path;
+use panel::kinds::{Path, TileNo};
 use walk::kinds::Pace;
-use walk::step::{Step, tile_at, z_at};
+use walk::step::{tile_at, z_at};
 
 #[derive(Clone, Copy)]
 pub struct Edges {
@@ -35,7 +35,7 @@ pub fn edges_of(b: Path) -> Edges
 }
 
 // The step whose z is at hand. 0 is added before a cast, since -0 isn't cast without loss; a tile's corner is made of the same sum.
-pub fn step_with(p: Pace, b: Path, g: Edges, i: u32, z: f32) -> Step
+pub fn step_with(p: Pace, b: Path, g: Edges, i: u32, z: f32) -> Option<(TileNo, u32, u32, f32)>
     requires { Boxed b × (i < step_range) × Starts p.sign p.x0 p.y0 × (g ≡ edges_of b) × (z ≡ z_at p.a p.b (float i)) }
     ensures { result ≡ step_of p b i }
 {
@@ -45,13 +45,13 @@ pub fn step_with(p: Pace, b: Path, g: Edges, i: u32, z: f32) -> Step
     if (!(x < g.left) & (x < g.right)) & (!(y < g.top) & (y < g.bottom)) {
         let col = (x + 0.0) as u32;
         let row = (y + 0.0) as u32;
-        Step::Tile(tile_at(b, col, row), col, row, z)
+        Some((tile_at(b, col, row), col, row, z))
     } else {
-        Step::Refused
+        None
     }
 }
 
-pub fn step_by(p: Pace, b: Path, g: Edges, i: u32) -> Step
+pub fn step_by(p: Pace, b: Path, g: Edges, i: u32) -> Option<(TileNo, u32, u32, f32)>
     requires { Boxed b × (i < step_range) × Starts p.sign p.x0 p.y0 × (g ≡ edges_of b) }
     ensures { result ≡ step_of p b i }
 {

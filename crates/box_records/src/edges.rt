@@ -1,5 +1,5 @@
 // A path's box, from the words that say how far its ends reach; and the tiles of all boxes.
-ghost use Rattle.std.specs.Prelude.{◌≡◌, map, ◌+◌, ◌*◌, ◌≤◌, min, length};
+ghost use Rattle.std.specs.Prelude.{◌≡◌, map, ◌+◌, ◌-◌, ◌*◌, ◌≤◌, min, length};
 ghost use Rattle.lists.specs.Sums.{sum, from};
 ghost use Rattle.panel.specs.Limits.{most_paths, edge_most};
 ghost use Rattle.path_reach.specs.Room.{box_words};
@@ -8,18 +8,20 @@ ghost use Rattle.box_records.specs.Told.{box_in};
 
 use panel::kinds::Path;
 use panel::limits::EDGE_MOST;
-use path_reach::{BOX_WORDS, less};
+use path_reach::BOX_WORDS;
+
+// An inner edge, that word before the limit, m tiles further as far as 0 lets it.
+fn before(word: u32, m: u32) -> u32
+    ensures { result ≡ edge_most - word - m }
+{
+    EDGE_MOST.saturating_sub(word).saturating_sub(m)
+}
 
 // An outer edge, m tiles further as far as the limit lets it.
 fn further(a: u32, m: u32) -> u32
     ensures { result ≡ min (a + m) edge_most }
 {
-    let far = (a as u64) + (m as u64);
-    if far < (EDGE_MOST as u64) {
-        far as u32
-    } else {
-        EDGE_MOST
-    }
+    a.saturating_add(m).min(EDGE_MOST)
 }
 
 // Path k's box, m tiles larger on every side as far as 0 and the limit let it; with no line an empty one.
@@ -38,8 +40,8 @@ pub fn box_at(work: &[u32], k: u32, m: u32, first: u32) -> Path
             first,
         };
     }
-    let x0 = less(less(EDGE_MOST, work[at]), m);
-    let y0 = less(less(EDGE_MOST, work[at + 1]), m);
+    let x0 = before(work[at], m);
+    let y0 = before(work[at + 1], m);
     let x1 = further(right, m);
     let y1 = further(work[at + 3], m);
     Path {
@@ -55,7 +57,7 @@ pub fn box_at(work: &[u32], k: u32, m: u32, first: u32) -> Path
 pub fn area(p: Path) -> u64
     ensures { result ≡ area_of_word p }
 {
-    (less(p.x1, p.x0) as u64) * (less(p.y1, p.y0) as u64)
+    (p.x1.saturating_sub(p.x0) as u64) * (p.y1.saturating_sub(p.y0) as u64)
 }
 
 // How many the boxes of the first n paths have.
@@ -64,11 +66,8 @@ pub fn total(work: &[u32], n: u32, m: u32) -> u64
     ensures { result ≡ sum (map (λ k. area_of_word (box_in work.now m k 0)) (from 0 n)) }
 {
     let mut tiles: u64 = 0;
-    let mut k: u32 = 0;
-    while k < n {
-        let p = box_at(work, k, m, 0);
-        tiles = tiles + area(p);
-        k += 1;
+    for k in 0..n {
+        tiles += area(box_at(work, k, m, 0));
     }
     tiles
 }

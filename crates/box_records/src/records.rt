@@ -17,13 +17,11 @@ pub fn put_records(work: &[u32], beams: &[u32], n: u32, m: u32, paths: &mut [u32
     ensures { paths.new ≡ sets paths.old 0 (records_from (box_in work.now m) beams.now n 0 0) }
 {
     let mut first: u32 = 0;
-    let mut k: u32 = 0;
-    while k < n {
+    for k in 0..n {
         let p = box_at(work, k, m, first);
         let beam = beams[k as usize];
         put_path(paths, k, p, beam);
         let tiles = area(p);
-        first = first + tiles as u32;
-        k += 1;
+        first += tiles as u32;
     }
 }

@@ -1,15 +1,13 @@
 -- The box around points: it fits, it holds them, and with a margin it reaches further than they do. Assumes nothing.
-use mathlib.Core.Path.{◌≡◌, refl, sym, ◌∙◌}
-use mathlib.Core.Bool.{true, ◌&&◌}
-use mathlib.Core.List.{List, [], ◌∷◌, map}
-use Prim.Native.Nat.{ℕ, suc, ◌+◌, ◌-◌, ◌≤◌, ◌<◌, min, max}
+use mathlib.Core.Path.{◌≡◌, refl}
+use mathlib.Core.Bool.{true}
+use mathlib.Core.List.{List, [], ◌∷◌}
+use Prim.Native.Nat.{ℕ, ◌+◌, ◌-◌, ◌≤◌, ◌<◌, min}
 use native.Mathlib.Omega.{arith}
-use lib.Dec.{leb}
 use borrow.Author.Tests.{le-leb}
 use Rattle.util.specs.declared.Vec2.{Vec2}
 use Rattle.panel.specs.Limits.{edge_most}
 use Rattle.panel.specs.Paths.{box_fits, path_of}
-use Rattle.panel.specs.declared.kinds.Path.{Path}
 use Rattle.margin.specs.Room.{Inside}
 use Rattle.end_tiles.specs.Lines.{tile_at}
 use Rattle.box_records.specs.Records.{area_of_word}

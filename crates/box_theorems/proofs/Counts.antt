@@ -2,19 +2,19 @@
 -- for references ends. Assumes nothing.
 --     count_called   the count's first checks pass
 --     boxes_count    all lines are counted, or 9 is answered where the room ends
-use mathlib.Core.Path.{◌≡◌, refl, ap, ◌∙◌}
-use mathlib.Core.List.{List, [], ◌∷◌}
+use mathlib.Core.Path.{◌≡◌, ap, ◌∙◌}
+use mathlib.Core.List.{List}
 use Prim.Native.Nat.{ℕ, ◌/◌, ◌%◌, ◌≤◌, ◌<◌}
 use native.Mathlib.Omega.{arith}
 use lib.ListN.{length, replicate, length-replicate}
-use lib.IntN.{ℤ, pos}
+use lib.IntN.{pos}
 use lib.Ieee.{Float}
 use borrow.Author.Tests.{eq-eqb, le-leb, eqb-true}
 use Rattle.lists.specs.Tally.{zeros}
 use Rattle.panel.specs.Limits.{most_tiles}
 use Rattle.panel.specs.Widths.{line_floats, ref_words}
 use Rattle.panel.specs.Paths.{paths_answer}
-use Rattle.panel.specs.declared.kinds.Answer.TheVariants as Answer
+use Rattle.panel.specs.Answer as Answer
 use Rattle.panel.proofs.CheckLaws.{all_ok, none_fails, unless_fine}
 use Rattle.path_count.specs.Count.{lent_checks, call_answer}
 use Rattle.theorems.proofs.SumLaws.{start_of}
@@ -22,7 +22,7 @@ use Rattle.margin_theorems.specs.Fit.{FitCount}
 use Rattle.margin_theorems.proofs.Counts.{count_fit}
 use Rattle.boxes.specs.Boxes as Boxes
 use Rattle.boxes.specs.Boxes.{BoxesMet}
-use Rattle.boxes.specs.declared.kinds.Boxed.TheVariants.{Done}
+use Rattle.boxes.specs.Boxed.{Done}
 use Rattle.box_theorems.specs.Made.{InnerLine}
 use Rattle.box_theorems.proofs.Ways.{made_told}
 use Rattle.box_theorems.proofs.Paths.{paths_checked}

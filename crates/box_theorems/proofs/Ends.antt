@@ -2,9 +2,9 @@
 -- Assumes nothing.
 --     ends_within   every end of a path's lines lies in its box
 --     lines-fit     the premise of margin_theorems
-use mathlib.Core.Path.{◌≡◌, refl, sym, ap, subst, ◌∙◌}
+use mathlib.Core.Path.{◌≡◌, refl, ap, ◌∙◌}
 use mathlib.Core.Bool.{cond}
-use mathlib.Core.List.{List, [], ◌∷◌, map}
+use mathlib.Core.List.{List, ◌∷◌, map}
 use Prim.Native.Nat.{ℕ, zero, suc, ◌+◌, ◌≤◌, ◌<◌, min, max}
 use native.Mathlib.Decide.{ℕ_discrete}
 use native.Mathlib.Omega.{arith}
@@ -13,15 +13,12 @@ use lib.ListN.{length, get_or}
 use lib.Ieee.{Float}
 use borrow.Author.Tests.{eq-eqb, ne_eqb}
 use Rattle.util.specs.declared.Vec2.{Vec2}
-use Rattle.panel.specs.Limits.{edge_most}
 use Rattle.panel.specs.Lines.{line_at}
-use Rattle.panel.specs.Paths.{path_at, path_count}
-use Rattle.panel.specs.declared.kinds.Path.{Path}
-use Rattle.margin.specs.Room.{Inside}
+use Rattle.panel.specs.Paths.{path_at}
 use Rattle.margin_theorems.specs.Fit.{Fit}
 use Rattle.end_tiles.specs.Lines.{tile_at, LineOk}
-use Rattle.boxes.specs.Boxes.{ends_from, box_of, tiles_of, least, past, columns, rows, BoxesMet}
-use Rattle.boxes.specs.declared.kinds.Boxed.TheVariants.{Done}
+use Rattle.boxes.specs.Boxes.{ends_from, box_of, tiles_of, BoxesMet}
+use Rattle.boxes.specs.Boxed.{Done}
 use Rattle.end_tiles.proofs.LineLaws.{each_line}
 use Rattle.box_theorems.specs.Made.{Within, InnerLine}
 use Rattle.box_theorems.proofs.Ways.{made_told}

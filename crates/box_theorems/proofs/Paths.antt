@@ -3,7 +3,7 @@
 --     paths_checked   never 1, 2, 3 or 4
 use mathlib.Core.Path.{◌≡◌, refl, sym, ap, ap₂, ◌∙◌}
 use mathlib.Core.Bool.{true}
-use mathlib.Core.List.{List, [], ◌∷◌, map}
+use mathlib.Core.List.{List, map}
 use Prim.Native.Nat.{ℕ, zero, suc, ◌+◌, ◌*◌, ◌/◌, ◌%◌, ◌≤◌, ◌<◌}
 use native.Mathlib.Nat.{zero-add}
 use native.Mathlib.Omega.{arith}
@@ -13,15 +13,14 @@ use borrow.Author.Tests.{le-leb, eq-eqb}
 use Rattle.lists.specs.Sums.{sum, from}
 use Rattle.panel.specs.Limits.{most_paths, most_tiles}
 use Rattle.panel.specs.Widths.{path_words}
-use Rattle.panel.specs.Checks.{first_no}
 use Rattle.panel.specs.Paths.{path_at, beam_at, path_count, box_fits, end_of, path_checks, paths_from, paths_answer}
 use Rattle.panel.specs.Paths as Paths
 use Rattle.panel.specs.declared.kinds.Path.{Path}
-use Rattle.panel.specs.declared.kinds.Answer.TheVariants as Answer
+use Rattle.panel.specs.Answer as Answer
 use Rattle.panel.proofs.CheckLaws.{none_fails, unless_fine}
 use Rattle.box_records.specs.Records.{area_of_word}
 use Rattle.boxes.specs.Boxes.{ends_from, box_of, tiles_of, BoxesMet}
-use Rattle.boxes.specs.declared.kinds.Boxed.TheVariants.{Done}
+use Rattle.boxes.specs.Boxed.{Done}
 use Rattle.box_records.proofs.RowLaws.{length_records}
 use Rattle.boxes.proofs.CallLaws.{lent_told}
 use Rattle.box_theorems.proofs.Ways.{MadeTold, made_told}

@@ -1,11 +1,11 @@
 -- What a record that was made reads back as: its path's box, the first tile past those before it, its beam number. Assumes nothing.
-use mathlib.Core.Path.{◌≡◌, refl, sym, ap, ap₂, ◌∙◌}
-use mathlib.Core.List.{List, [], ◌∷◌, ◌++◌, map}
-use Prim.Native.Nat.{ℕ, zero, suc, ◌+◌, ◌-◌, ◌*◌, ◌≤◌, ◌<◌}
+use mathlib.Core.Path.{◌≡◌, ap, ap₂, ◌∙◌}
+use mathlib.Core.List.{List, map}
+use Prim.Native.Nat.{ℕ, zero, suc, ◌+◌, ◌<◌}
 use native.Mathlib.Omega.{arith}
-use lib.ListN.{length, get_or}
+use lib.ListN.{get_or}
 use Rattle.lists.specs.Sums.{sum, from}
-use Rattle.panel.specs.Paths.{path_at, beam_at, path_record, end_of}
+use Rattle.panel.specs.Paths.{path_at, beam_at, end_of}
 use Rattle.panel.specs.declared.kinds.Path.{Path}
 use Rattle.panel.proofs.RecordLaws.{path_first, beam_first, path_next, beam_next}
 use Rattle.box_records.specs.Records.{area_of_word, records_from}

@@ -6,7 +6,7 @@
 use mathlib.Core.Path.{◌≡◌, refl, sym, ap, ◌∙◌}
 use mathlib.Core.Bool.{Bool, true, false}
 use mathlib.Core.List.{List}
-use Prim.Native.Nat.{ℕ, ◌*◌, ◌≤◌, ◌<◌}
+use Prim.Native.Nat.{ℕ, ◌*◌, ◌≤◌}
 use native.Mathlib.Omega.{arith}
 use lib.Dec.{leb}
 use lib.ListN.{length}
@@ -16,16 +16,13 @@ use Rattle.ranges.specs.Ranges.{cleared_of}
 use Rattle.panel.specs.Limits.{most_tiles}
 use Rattle.panel.specs.Refusals.{too_many}
 use Rattle.panel.specs.Checks.{first_no}
-use Rattle.panel.specs.declared.kinds.Verdict.{Verdict}
-use Rattle.panel.specs.declared.kinds.Verdict.TheVariants.{Fine, Against}
-use Rattle.panel.specs.declared.kinds.Answer.{Answer}
-use Rattle.panel.specs.declared.kinds.Answer.TheVariants as Answer
+use Rattle.panel.specs.Verdict.{Verdict, Fine, Against}
+use Rattle.panel.specs.Answer.{Answer}
 use Rattle.end_tiles.specs.Lines.{lines_from}
 use Rattle.path_reach.specs.Room.{box_words}
 use Rattle.box_records.specs.Records.{records_from}
-use Rattle.boxes.specs.Boxes.{lent_checks, tiles_of, box_of, Out, out_of, asked_of, asked_out, made_of, boxes_of, BoxesMet}
-use Rattle.boxes.specs.declared.kinds.Boxed.{Boxed}
-use Rattle.boxes.specs.declared.kinds.Boxed.TheVariants.{Done, Refused}
+use Rattle.boxes.specs.Boxes.{lent_checks, tiles_of, box_of, Out, out_of, asked_of, boxes_of, BoxesMet}
+use Rattle.boxes.specs.Boxed.{Boxed, Done, Refused}
 use Rattle.box_theorems.specs.Made.{BoxesWay, lent_refused, line_refused, tiles_refused, made}
 
 -- the promise admits one answer only, and one list each

@@ -1,20 +1,19 @@
 -- Boxes made from lines: what the theorems are about. docs/THEOREMS.md, 19. Definitions only.
-use Rattle.std.specs.Prelude.{◌≡◌, true, List, ℕ, ◌+◌, ◌*◌, ◌≤◌, ◌<◌, length, get_or, Float}
+use Rattle.std.specs.Prelude.{◌≡◌, List, ℕ, ◌+◌, ◌*◌, ◌≤◌, ◌<◌, length, Float}
 use Rattle.util.specs.declared.Vec2.{Vec2}
 use Rattle.panel.specs.Limits.{most_tiles, edge_most}
 use Rattle.panel.specs.Refusals.{too_many}
 use Rattle.panel.specs.Checks.{first_no}
 use Rattle.panel.specs.Lines.{line_at}
 use Rattle.panel.specs.declared.kinds.Path.{Path}
-use Rattle.panel.specs.declared.kinds.Verdict.TheVariants.{Fine, Against}
-use Rattle.panel.specs.declared.kinds.Answer.TheVariants as Answer
+use Rattle.panel.specs.Verdict.{Fine, Against}
+use Rattle.panel.specs.Answer as Answer
 use Rattle.ranges.specs.Ranges.{cleared_of}
 use Rattle.end_tiles.specs.Lines.{tile_at, lines_from}
 use Rattle.path_reach.specs.Room.{box_words}
 use Rattle.box_records.specs.Records.{records_from}
-use Rattle.boxes.specs.Boxes.{lent_checks, box_of, tiles_of, BoxesMet}
-use Rattle.boxes.specs.declared.kinds.Boxed.{Boxed}
-use Rattle.boxes.specs.declared.kinds.Boxed.TheVariants.{Done, Refused}
+use Rattle.boxes.specs.Boxes.{lent_checks, box_of, tiles_of}
+use Rattle.boxes.specs.Boxed.{Boxed, Done, Refused}
 
 -- a point in a box: the tile that it lies in is one of the box's
 pub record Within (b : Path) (p : Vec2) : Type 0 where

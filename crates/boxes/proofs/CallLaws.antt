@@ -1,7 +1,6 @@
 -- The call, by what its checks find; and that the working room tells the boxes of the definition. Assumes nothing.
-use mathlib.Core.Path.{◌≡◌, refl, sym, ap, ◌∙◌}
-use mathlib.Core.Bool.{true, false}
-use mathlib.Core.Logic.{inl, inr}
+use mathlib.Core.Path.{◌≡◌, sym, ap, ◌∙◌}
+use mathlib.Core.Logic.{inr}
 use mathlib.Core.List.{List, map}
 use Prim.Native.Nat.{ℕ, ◌+◌, ◌*◌, ◌/◌, ◌%◌, ◌≤◌, ◌<◌}
 use native.Mathlib.Decide.{dec_lt}
@@ -17,8 +16,8 @@ use Rattle.panel.specs.Limits.{most_paths, most_tiles}
 use Rattle.panel.specs.Refusals.{too_many}
 use Rattle.panel.specs.Widths.{path_words, line_floats}
 use Rattle.panel.specs.Checks.{first_no}
-use Rattle.panel.specs.declared.kinds.Verdict.TheVariants.{Fine, Against}
-use Rattle.panel.specs.declared.kinds.Answer.TheVariants as Answer
+use Rattle.panel.specs.Verdict.{Fine, Against}
+use Rattle.panel.specs.Answer as Answer
 use Rattle.panel.proofs.CheckLaws.{all_ok, unless_no, unless_fine}
 use Rattle.end_tiles.specs.Lines.{lines_from}
 use Rattle.end_tiles.proofs.LineLaws.{each_line}
@@ -28,8 +27,8 @@ use Rattle.path_reach.proofs.WordLaws.{length_gather, gather_out}
 use Rattle.box_records.specs.Records.{area_of_word, records_from}
 use Rattle.box_records.specs.Told.{box_in}
 use Rattle.box_records.proofs.RowLaws.{length_records, records_same, sets_whole, sum_same}
-use Rattle.boxes.specs.Boxes.{ends_from, box_of, tiles_of, lent_checks, out_of, asked_of, asked_out, made_of, boxes_of, BoxesMet}
-use Rattle.boxes.specs.declared.kinds.Boxed.TheVariants.{Done, Refused}
+use Rattle.boxes.specs.Boxes.{ends_from, box_of, tiles_of, lent_checks, asked_of, boxes_of, BoxesMet}
+use Rattle.boxes.specs.Boxed.{Done, Refused}
 use Rattle.boxes.proofs.WordLaws.{gather_told, box_told}
 
 -- what the lengths tell where none is refused

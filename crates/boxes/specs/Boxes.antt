@@ -11,13 +11,11 @@ use Rattle.panel.specs.Checks.{Check, check, first_no, unless}
 use Rattle.panel.specs.Lines.{line_at}
 use Rattle.panel.specs.Paths.{path_of}
 use Rattle.panel.specs.declared.kinds.Path.{Path}
-use Rattle.panel.specs.declared.kinds.Answer.{Answer}
-use Rattle.panel.specs.declared.kinds.Answer.TheVariants as Answer
+use Rattle.panel.specs.Answer.{Answer}
 use Rattle.end_tiles.specs.Lines.{tile_at, lines_from}
 use Rattle.path_reach.specs.Room.{box_words}
 use Rattle.box_records.specs.Records.{area_of_word, records_from}
-use Rattle.boxes.specs.declared.kinds.Boxed.{Boxed}
-use Rattle.boxes.specs.declared.kinds.Boxed.TheVariants.{Done, Refused}
+use Rattle.boxes.specs.Boxed.{Boxed, Done, Refused}
 
 -- ---- boxes
 

@@ -5,4 +5,3 @@
 
 pub mod call;
 pub mod checks;
-pub mod kinds;

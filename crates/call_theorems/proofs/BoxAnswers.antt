@@ -11,8 +11,7 @@ use Rattle.panel.specs.Refusals.{not_whole}
 use Rattle.end_tiles.specs.Lines.{in_tiles, line_answer, lines_from}
 use Rattle.path_reach.specs.Room.{box_words}
 use Rattle.boxes.specs.Boxes.{ends_from, asked_of, boxes_of, BoxesMet}
-use Rattle.boxes.specs.declared.kinds.Boxed.{Boxed}
-use Rattle.boxes.specs.declared.kinds.Boxed.TheVariants.{Done, Refused}
+use Rattle.boxes.specs.Boxed.{Boxed, Done, Refused}
 use Rattle.box_theorems.proofs.Ways.{one_boxes}
 use Rattle.groatpocket.specs.CallBoxes.{BoxesSeen, GpBoxesMet}
 use Rattle.theorems.specs.Starred.{floats_of}

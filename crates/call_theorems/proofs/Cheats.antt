@@ -2,7 +2,7 @@
 -- computed. Assumes nothing.
 use mathlib.Core.Path.{◌≡◌, refl, sym, ap, subst, ◌∙◌}
 use mathlib.Core.Logic.{◌≢◌}
-use mathlib.Core.Bool.{Bool, true, false, false≢true}
+use mathlib.Core.Bool.{true, false, false≢true}
 use mathlib.Core.List.{List, [], ◌∷◌, ◌++◌}
 use Prim.Native.Nat.{ℕ}
 use native.Mathlib.Omega.{arith}
@@ -14,13 +14,11 @@ use Rattle.panel.specs.Widths.{segment_floats}
 use Rattle.util.specs.Constants as Number
 use Rattle.lists.specs.Grid.{tab_from}
 use Rattle.panel.specs.Paths.{boxed, stamped}
-use Rattle.panel.specs.Refusals.{done_no, not_whole, no_room_word, no_such, bad_size, bad_file, off_tile}
+use Rattle.panel.specs.Refusals.{done_no, not_whole, no_room_word, no_such, bad_size, bad_file, off_tile, bad_text}
 use Rattle.panel.specs.Kinds.{running_of}
-use Rattle.panel.specs.declared.kinds.Answer.{Answer}
-use Rattle.panel.specs.declared.kinds.Answer.TheVariants.{Done, Refused}
+use Rattle.panel.specs.Answer.{Answer, Done, Refused}
 use Rattle.path_count.specs.Count.{CountMet}
-use Rattle.path_count.specs.declared.kinds.Counted.{Counted}
-use Rattle.path_count.specs.declared.kinds.Counted.TheVariants as Counted
+use Rattle.path_count.specs.Counted.{Counted}
 use Rattle.backdrop.specs.Backdrop.{row_sums, row_fits, rows_sums, rows_fit, sum_paths, backdrop_of, BackdropMet}
 use Rattle.hand_out.specs.HandOut.{HandMet}
 use Rattle.looks.specs.Look.{lent}
@@ -34,23 +32,18 @@ use Rattle.commands.specs.declared.steps.Act.TheVariants.{Solid, Color}
 use Rattle.fine.specs.Fine.{FineMet}
 use Rattle.frame.specs.Frame.{placed_of, drawn_of, checks_of, frame_of, FrameMet}
 use Rattle.frame.specs.declared.kinds.Stage.TheVariants as Stage
-use Rattle.frame.specs.declared.kinds.Framed.{Framed}
-use Rattle.frame.specs.declared.kinds.Framed.TheVariants as Framed
+use Rattle.frame.specs.Framed.{Framed}
 use Rattle.pairs.specs.Pairs.{tables, on_tile, on_path, tile_pairs}
 use Rattle.write_lists.specs.Lists.{call_answer, regions_of, answer_of, lists_of, write_lists_of, ListsMet}
 use Rattle.ppm_write.specs.File.{digits_of, decimal, head_of, file_of}
 use Rattle.ppm_write.specs.Write.{write_of, WriteMet}
-use Rattle.ppm_write.specs.declared.Written.{Written}
-use Rattle.ppm_write.specs.declared.Written.TheVariants as Written
+use Rattle.ppm_write.specs.Written.{Written}
 use Rattle.ppm_read.specs.Bytes.{kind_of}
 use Rattle.ppm_read.specs.Header.{number_from, header_of}
 use Rattle.ppm_read.specs.Read.{read_of, ReadMet}
-use Rattle.ppm_read.specs.declared.Answer as Read
-use Rattle.ppm_read.specs.declared.Answer.TheVariants as Reading
-use Rattle.panel.specs.Refusals.{bad_text}
+use Rattle.ppm_read.specs.Answer as Read
 use Rattle.svg.specs.Lines.{LinesMet}
-use Rattle.svg.specs.declared.Answer as Svg
-use Rattle.svg.specs.declared.Answer.TheVariants as Drawing
+use Rattle.svg.specs.Answer as Svg
 use Rattle.svg.proofs.Exact.{one_lines}
 use Rattle.svg.proofs.Examples.{drawing}
 use Rattle.ranges.specs.Ranges.{cleared_of, copied_of}
@@ -66,8 +59,7 @@ use Rattle.theorems.proofs.StarredTable.{computing}
 use Rattle.theorems.proofs.OneAnswer.{one_count, one_backdrop, one_hand, one_tile, one_fill, one_fine}
 use Rattle.theorems.proofs.Framing.{one_frame}
 use Rattle.list_theorems.proofs.Written.{one_lists}
-use Rattle.call_theorems.specs.Cheats.{Once, Shut, Refuses, RefusesCount, RefusesFrame, RefusesWrite, RefusesRead, RefusesSvg}
-use Rattle.call_theorems.specs.Cheats.{RecountTold, recount_told, RefusesNo, RefusesRecount}
+use Rattle.call_theorems.specs.Cheats.{Once, Shut, Refuses, RefusesCount, RefusesFrame, RefusesWrite, RefusesRead, RefusesSvg, RecountTold, recount_told, RefusesNo, RefusesRecount}
 use Rattle.call_theorems.proofs.OneAnswer.{one_write, one_read, one_gp_recount, one_gp_pixel_area, one_gp_pixel}
 
 -- ---- the law: an input whose answer a is no refusal and which leaves another content than before, and one whose answer b is a refusal
@@ -259,7 +251,7 @@ pub read_shut : Shut Read.Answer (List ℕ) RefusesRead (ReadAt file) (ReadAt []
 unfolding read_of header_of number_from kind_of
 read_shut =
     shut Read.Answer (List ℕ) RefusesRead (ReadAt file) (ReadAt []) (replicate 3 9)
-    (Reading.Done 1 1) (Reading.Refused bad_file) (0x20 ∷ 0x40 ∷ 0x60 ∷ []) (replicate 3 9)
+    (Read.Done 1 1) (Read.Refused bad_file) (0x20 ∷ 0x40 ∷ 0x60 ∷ []) (replicate 3 9)
     (λ a b m n p q. one_read file (replicate 3 9) a b m n p q) (λ a b m n p q. one_read [] (replicate 3 9) a b m n p q)
     refl refl (λ h. h) tt (apart (0x20 ∷ 0x40 ∷ 0x60 ∷ []) (replicate 3 9) 0 (λ z. omega arith))
 
@@ -284,7 +276,7 @@ pub svg_shut : Shut Svg.Answer SvgMemory RefusesSvg (SvgAt move_close) (SvgAt (7
 unfolding computing drawing
 svg_shut =
     shut Svg.Answer SvgMemory RefusesSvg (SvgAt move_close) (SvgAt (77 ∷ [])) (9 ∷ [], replicate 4 nan)
-    (Drawing.Done 1) (Drawing.Refused bad_text 1) (3 ∷ [], no_length) (9 ∷ [], replicate 4 nan) (once_svg move_close) (once_svg (77 ∷ []))
+    (Svg.Done 1) (Svg.Refused bad_text 1) (3 ∷ [], no_length) (9 ∷ [], replicate 4 nan) (once_svg move_close) (once_svg (77 ∷ []))
     refl refl (λ h. h) tt (λ e. apart (3 ∷ []) (9 ∷ []) 0 (λ z. omega arith) (ap (λ (m : SvgMemory). m.0) e))
 
 -- ---- a recount, as a caller sees it: (8,8)-(8,24) as line 7 into the box 0,0,2,2, whose tiles held 5 and 3; and a path that isn't there

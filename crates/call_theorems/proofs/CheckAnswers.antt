@@ -10,8 +10,7 @@ use lib.Ieee.{Float}
 use Rattle.panel.specs.Paths.{boxed}
 use Rattle.panel.specs.Refusals.{not_whole}
 use Rattle.tile_check.specs.Tables.{work_words, CheckMet}
-use Rattle.tile_check.specs.declared.kinds.Checked.{Checked}
-use Rattle.tile_check.specs.declared.kinds.Checked.TheVariants.{Yes, Reference, Refused}
+use Rattle.tile_check.specs.Checked.{Checked, Yes, Reference, Refused}
 use Rattle.groatpocket.specs.CallCheck.{CheckSeen, GpCheckMet}
 use Rattle.theorems.specs.Starred.{floats_of}
 use Rattle.check_theorems.proofs.Call.{one_check}

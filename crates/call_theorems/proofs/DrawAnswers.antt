@@ -12,8 +12,7 @@ use Rattle.backdrop.specs.Backdrop.{backdrop_of, sum_paths}
 use Rattle.frame.specs.Frame.{frame_of, checks_of, drawn_of, placed_of}
 use Rattle.write_lists.specs.Lists.{call_answer, regions_of, answer_of, lists_of, write_lists_of}
 use Rattle.paint.specs.Paint.{paper_of, painted_of}
-use Rattle.paint.specs.declared.kinds.Drawn.{Drawn}
-use Rattle.paint.specs.declared.kinds.Drawn.TheVariants.{Done, Refused}
+use Rattle.paint.specs.Drawn.{Drawn, Done, Refused}
 use Rattle.draw.specs.Draw.{Out, lent_no, framed_of, draw_of, DrawMet}
 use Rattle.theorems.proofs.StarredTable.{computing}
 use Rattle.call_theorems.specs.Cheats.{Once, Shut}

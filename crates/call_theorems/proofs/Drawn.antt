@@ -4,15 +4,13 @@
 use mathlib.Core.Path.{◌≡◌, sym, ap, subst, ◌∙◌}
 use mathlib.Core.List.{List}
 use Prim.Native.Nat.{ℕ, ◌/◌, ◌%◌, ◌≤◌, ◌<◌}
-use native.Mathlib.Omega.{arith}
 use lib.IntN.{ℤ}
 use lib.ListN.{length}
 use lib.Ieee.{Float}
 use Rattle.panel.specs.Pieces.{Pieces}
 use Rattle.lists.specs.Sums.{sum}
-use Rattle.panel.specs.Segments.{segment_at, Straight}
 use Rattle.panel.specs.Widths.{segment_floats}
-use Rattle.panel.specs.declared.kinds.Answer.TheVariants.{Done}
+use Rattle.panel.specs.Answer.{Done}
 use Rattle.hand_out.specs.HandOut.{out_of, hand_out_of}
 use Rattle.looks.specs.Look.{lent}
 use Rattle.path_tiling.specs.Tiling.{applied, call_of}

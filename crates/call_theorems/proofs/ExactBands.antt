@@ -1,22 +1,19 @@
 -- Exact at the call: a band of the screen. Its promise is met where one of its ways holds, and nowhere else; it leaves one answer only, and no cheat
 -- meets it. Assumes nothing.
 use mathlib.Core.Path.{◌≡◌, refl, sym, ap, ◌∙◌}
-use mathlib.Core.Logic.{◌↔◌, ◌≢◌}
-use mathlib.Core.List.{List, [], ◌∷◌, ◌++◌}
+use mathlib.Core.Logic.{◌↔◌}
+use mathlib.Core.List.{List, []}
 use Prim.Native.Nat.{ℕ, zero, suc, ◌+◌, ◌-◌, ◌*◌, ◌%◌, ◌/◌, ◌<◌}
 use native.Mathlib.Omega.{arith}
-use lib.ListN.{length, replicate, get_or}
+use lib.ListN.{replicate}
 use lib.Ieee.{Float}
 use Rattle.lists.specs.Run.{Step, taken, halted, Ran, done, refused, run, on_step, and_then, run_append}
 use Rattle.lists.specs.Sums.{from, from_add}
 use Rattle.panel.specs.Checks.{first_no}
 use Rattle.panel.specs.Refusals.{not_whole}
-use Rattle.panel.specs.declared.kinds.Answer.{Answer}
-use Rattle.panel.specs.declared.kinds.Answer.TheVariants.{Done, Refused}
-use Rattle.panel.specs.declared.kinds.Verdict.{Verdict}
-use Rattle.panel.specs.declared.kinds.Verdict.TheVariants.{Fine, Against}
+use Rattle.panel.specs.Answer.{Answer, Done, Refused}
+use Rattle.panel.specs.Verdict.{Verdict, Fine, Against}
 use Rattle.sides.specs.Tile.{tile_width, tile_size}
-use Rattle.commands.specs.Numbers.{start_of}
 use Rattle.screen_tile.specs.Tile.{ends_at, tile_pixels}
 use Rattle.fine.specs.Fine.{No, Shown, on_end}
 use Rattle.bands.specs.Bands.{band_step, band_tiles, band_of, BandMet}

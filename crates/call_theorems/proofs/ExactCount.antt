@@ -12,15 +12,13 @@ use Rattle.panel.specs.Kinds.{running_of}
 use Rattle.panel.specs.Checks.{first_no}
 use Rattle.panel.specs.Paths.{paths_answer}
 use Rattle.panel.specs.declared.kinds.Running.{Running}
-use Rattle.panel.specs.declared.kinds.Answer.{Answer}
-use Rattle.panel.specs.declared.kinds.Answer.TheVariants.{Done, Refused}
+use Rattle.panel.specs.Answer.{Answer, Done, Refused}
 use Rattle.panel.proofs.CheckLaws.{unless_fine, unless_done}
 use Rattle.acts.specs.Acts.{St, st_of}
 use Rattle.acts.specs.Line.{Refusal}
 use Rattle.walked_lines.specs.Line.{line_step}
 use Rattle.path_count.specs.Count.{batch, call_answer, counted, CountMet}
-use Rattle.path_count.specs.declared.kinds.Counted.{Counted}
-use Rattle.path_count.specs.declared.kinds.Counted.TheVariants as Counted
+use Rattle.path_count.specs.Counted.{Counted}
 use Rattle.theorems.proofs.OneAnswer.{one_count}
 use Rattle.theorems.proofs.Exact.{line_exact}
 use Rattle.theorems.proofs.ExactPaths.{call_exact}

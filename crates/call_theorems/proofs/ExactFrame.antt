@@ -1,7 +1,7 @@
 -- Exact at the call: a frame. Its promise is met where one of its ways holds, each told by its stages' ways, and nowhere else. Assumes nothing.
 use mathlib.Core.Path.{◌≡◌, refl, sym, ap, subst, ◌∙◌}
-use mathlib.Core.Logic.{◌↔◌, ◌⊎◌, inl, inr}
-use mathlib.Core.List.{List, [], ◌∷◌}
+use mathlib.Core.Logic.{◌↔◌, inl, inr}
+use mathlib.Core.List.{List}
 use Prim.Native.Nat.{ℕ, ◌/◌, ◌≤◌, ◌<◌}
 use native.Mathlib.Omega.{arith}
 use lib.ListN.{length, replicate}
@@ -10,7 +10,6 @@ use lib.Ieee.{Float}
 use Rattle.panel.specs.Pieces.{Pieces}
 use Rattle.lists.specs.Sums.{sum}
 use Rattle.lists.specs.Tally.{zeros}
-use Rattle.lists.specs.Run.{refused}
 use Rattle.panel.specs.Refusals.{no_room_word}
 use Rattle.panel.specs.Limits.{most_tiles}
 use Rattle.panel.specs.Widths.{ref_words}
@@ -18,16 +17,13 @@ use Rattle.panel.specs.Kinds.{running_of}
 use Rattle.panel.specs.Checks.{Check, first_no, unless}
 use Rattle.panel.specs.Paths.{paths_answer}
 use Rattle.panel.specs.declared.kinds.Running.{Running}
-use Rattle.panel.specs.declared.kinds.Answer.{Answer}
-use Rattle.panel.specs.declared.kinds.Answer.TheVariants as Answer
-use Rattle.panel.specs.declared.kinds.Verdict.{Verdict}
-use Rattle.panel.specs.declared.kinds.Verdict.TheVariants.{Fine, Against}
+use Rattle.panel.specs.Answer.{Answer}
+use Rattle.panel.specs.Verdict.{Verdict, Fine, Against}
 use Rattle.panel.proofs.CheckLaws.{unless_fine, unless_done}
 use Rattle.panel.proofs.PathLaws.{checked}
 use Rattle.acts.specs.Acts.{st_of}
-use Rattle.path_count.specs.Count.{told_of, paper_of, counted, CountMet}
-use Rattle.path_count.specs.declared.kinds.Counted.{Counted}
-use Rattle.path_count.specs.declared.kinds.Counted.TheVariants as Counted
+use Rattle.path_count.specs.Count.{CountMet}
+use Rattle.path_count.specs.Counted.{Counted}
 use Rattle.backdrop.specs.Backdrop as Backdrop
 use Rattle.hand_out.specs.HandOut as HandOut
 use Rattle.hand_out.specs.HandOut.{hand}
@@ -35,8 +31,7 @@ use Rattle.looks.specs.Look.{lent}
 use Rattle.path_tiling.specs.Tiling.{Tiled, slots_of, tiled, tiled_of}
 use Rattle.frame.specs.Frame.{out_of, answer_on, go_on, placed_of, drawn_of, checks_of, frame_of, FrameMet}
 use Rattle.frame.specs.declared.kinds.Stage.TheVariants as Stage
-use Rattle.frame.specs.declared.kinds.Framed.{Framed}
-use Rattle.frame.specs.declared.kinds.Framed.TheVariants as Framed
+use Rattle.frame.specs.Framed.{Framed}
 use Rattle.frame.proofs.FrameLaws.{answer_on_lem}
 use Rattle.theorems.specs.Refs.{AllCounted}
 use Rattle.theorems.specs.Framing.{Counts, tiled_as, cleared, refusal, Way}
@@ -47,7 +42,7 @@ use Rattle.theorems.proofs.Exact as Cases
 use Rattle.theorems.proofs.ExactPaths.{paths_exact}
 use Rattle.theorems.proofs.ExactRuns.{batch_exact}
 use Rattle.theorems.proofs.Framing.{counts_long, row, paired, kept, call_ok, ways, one_frame}
-use Rattle.call_theorems.specs.Ways.{FirstWhy, Passes, frame_row, FrameCounts, FrameWay, frame_refused, count_refused, slots_refused, frame_tiled, BackdropWay, TileWay}
+use Rattle.call_theorems.specs.Ways.{FirstWhy, Passes, frame_row, FrameCounts, FrameWay, frame_refused, count_refused, slots_refused, frame_tiled, TileWay}
 use Rattle.call_theorems.proofs.ExactCount.{met_line, count_exact}
 use Rattle.call_theorems.proofs.ExactStages.{backdrop_call_exact}
 use Rattle.call_theorems.proofs.ExactTile.{tile_call_exact}

@@ -11,10 +11,8 @@ use Rattle.panel.specs.Limits.{most_commands}
 use Rattle.panel.specs.Kinds.{paper_of}
 use Rattle.panel.specs.Checks.{check, first_no, unless}
 use Rattle.panel.specs.Paths.{paths_answer}
-use Rattle.panel.specs.declared.kinds.Answer.{Answer}
-use Rattle.panel.specs.declared.kinds.Answer.TheVariants.{Done, Refused}
-use Rattle.panel.specs.declared.kinds.Verdict.{Verdict}
-use Rattle.panel.specs.declared.kinds.Verdict.TheVariants.{Fine, Against}
+use Rattle.panel.specs.Answer.{Answer, Done, Refused}
+use Rattle.panel.specs.Verdict.{Verdict, Fine, Against}
 use Rattle.panel.proofs.CheckLaws.{unless_fine, unless_done}
 use Rattle.panel.proofs.KindLaws.{paper_once}
 use Rattle.commands.specs.Numbers.{tile_words}

@@ -8,8 +8,7 @@ use lib.ListN.{length}
 use lib.IntN.{ℤ}
 use lib.Ieee.{Float}
 use Rattle.panel.specs.Checks.{first_no}
-use Rattle.panel.specs.declared.kinds.Verdict.{Verdict}
-use Rattle.panel.specs.declared.kinds.Verdict.TheVariants.{Fine, Against}
+use Rattle.panel.specs.Verdict.{Verdict, Fine, Against}
 use Rattle.sides.specs.Tile.{tile_size}
 use Rattle.coverage.specs.Coverage.{pixel_of}
 use Rattle.coverage.specs.Fill.{fill_checks}
@@ -18,10 +17,8 @@ use Rattle.screen_tile.specs.Tile.{ends_at, colour_at}
 use Rattle.pixel.specs.Place.{place_at, place_checks}
 use Rattle.pixel.specs.Coverage.{coverage_at_of, CoverageAtMet}
 use Rattle.pixel.specs.Colour.{whole_checks, under_list, colour_at_of, ColourAtMet}
-use Rattle.pixel.specs.declared.kinds.Covered.{Covered}
-use Rattle.pixel.specs.declared.kinds.Covered.TheVariants as Covered
-use Rattle.pixel.specs.declared.kinds.Coloured.{Coloured}
-use Rattle.pixel.specs.declared.kinds.Coloured.TheVariants as Coloured
+use Rattle.pixel.specs.Covered.{Covered}
+use Rattle.pixel.specs.Coloured.{Coloured}
 use Rattle.pixel.proofs.Once.{one_coverage, one_colour}
 use Rattle.theorems.proofs.Exact.{row_exact}
 use Rattle.theorems.proofs.ExactCommands.{tile_exact}

@@ -1,30 +1,27 @@
 -- Exact at the call: the picture's writer and reader. A promise is met where one of the call's ways holds, and nowhere else. Assumes nothing.
-use mathlib.Core.Path.{◌≡◌, refl, sym, ap, ◌∙◌}
+use mathlib.Core.Path.{◌≡◌, refl, sym, ◌∙◌}
 use mathlib.Core.Logic.{◌↔◌, ◌⊎◌, inl, inr}
-use mathlib.Core.Bool.{Bool, true, false, cond, ◌&&◌, false≢true}
+use mathlib.Core.Bool.{Bool, true, false, ◌&&◌, false≢true}
 use mathlib.Core.List.{List, ◌++◌}
 use Prim.Native.Nat.{ℕ, ◌*◌, ◌≤◌, ◌<◌}
 use native.Mathlib.Decide.{dec_lt, ℕ_discrete}
 use native.Mathlib.Omega.{arith}
-use lib.Dec.{leb, eqb}
+use lib.Dec.{leb}
 use lib.ListN.{length, drop}
-use borrow.Author.Tests.{le-leb, lt-leb, leb-true, leb-false, eq-eqb, ne_eqb}
+use borrow.Author.Tests.{le-leb, lt-leb, leb-false, eq-eqb, ne_eqb}
 use Rattle.panel.specs.Limits.{side_most}
 use Rattle.panel.specs.Refusals.{not_whole, no_room_word, bad_size, bad_file}
 use Rattle.ppm_write.specs.Bytes.{pixel_bytes}
 use Rattle.ppm_write.specs.File.{file_of}
 use Rattle.ppm_write.specs.Write.{side_ok, write_of, WriteMet}
-use Rattle.ppm_write.specs.declared.Written.{Written}
-use Rattle.ppm_write.specs.declared.Written.TheVariants as Written
+use Rattle.ppm_write.specs.Written.{Written}
 use Rattle.ppm_read.specs.Header.{Header, size, no_header, header_of}
 use Rattle.ppm_read.specs.Grammar.{IsHeader}
 use Rattle.ppm_read.specs.Read.{read_of, ReadMet}
-use Rattle.ppm_read.specs.declared.Answer as Read
-use Rattle.ppm_read.specs.declared.Answer.TheVariants as Reading
+use Rattle.ppm_read.specs.Answer as Read
 use Rattle.ppm_read.proofs.Language.{sound, complete}
 use Rattle.theorems.proofs.Exact.{no_clash}
-use Rattle.call_theorems.specs.Ways.{BadSide, BadSides, WriteWay, bad_size_lem, miscounted, no_place, file_written}
-use Rattle.call_theorems.specs.Ways.{ReadWay, no_header_lem, bad_sides, bad_raster, no_bytes, picture_read}
+use Rattle.call_theorems.specs.Ways.{BadSide, BadSides, WriteWay, bad_size_lem, miscounted, no_place, file_written, ReadWay, no_header_lem, bad_sides, bad_raster, no_bytes, picture_read}
 use Rattle.call_theorems.proofs.OneAnswer.{one_write, one_read}
 
 -- ---- the test of a side
@@ -121,25 +118,25 @@ module _ (pixels : List ℕ) (w h : ℕ) (out : List ℕ) where
 -- ---- the reader
 
 module _ (file out : List ℕ) where
-  met_none : header_of file ≡ no_header → ReadMet file out (Reading.Refused bad_file) out
+  met_none : header_of file ≡ no_header → ReadMet file out (Read.Refused bad_file) out
   unfolding read_of
   met_none e = rw e
 
   module _ (w h : ℕ) (raster : List ℕ) (found : header_of file ≡ size w h raster) where
-    met_sides : (side_ok w && side_ok h) ≡ false → ReadMet file out (Reading.Refused bad_size) out
+    met_sides : (side_ok w && side_ok h) ≡ false → ReadMet file out (Read.Refused bad_size) out
     unfolding read_of
     met_sides e = rw (found, e)
 
-    met_raster : (side_ok w && side_ok h) ≡ true → (length raster ≡ w * h * pixel_bytes → ⊥) → ReadMet file out (Reading.Refused bad_file) out
+    met_raster : (side_ok w && side_ok h) ≡ true → (length raster ≡ w * h * pixel_bytes → ⊥) → ReadMet file out (Read.Refused bad_file) out
     unfolding read_of
     met_raster e n = rw (found, e, ne_eqb (length raster) (w * h * pixel_bytes) n)
 
-    met_bytes : (side_ok w && side_ok h) ≡ true → length raster ≡ w * h * pixel_bytes → length out < length raster → ReadMet file out (Reading.Refused no_room_word) out
+    met_bytes : (side_ok w && side_ok h) ≡ true → length raster ≡ w * h * pixel_bytes → length out < length raster → ReadMet file out (Read.Refused no_room_word) out
     unfolding read_of
     met_bytes e n r = rw (found, e, eq-eqb (length raster) (w * h * pixel_bytes) n, lt-leb (length raster) (length out) r)
 
     met_picture : (side_ok w && side_ok h) ≡ true → length raster ≡ w * h * pixel_bytes → length raster ≤ length out
-        → ReadMet file out (Reading.Done w h) (raster ++ drop (length raster) out)
+        → ReadMet file out (Read.Done w h) (raster ++ drop (length raster) out)
     unfolding read_of
     met_picture e n r = rw (found, e, eq-eqb (length raster) (w * h * pixel_bytes) n, le-leb (length raster) (length out) r)
 
@@ -157,7 +154,7 @@ module _ (file out : List ℕ) where
       where
         go : (v : Header) → header_of file ≡ v → ReadWay file out x out'
         go no_header q =
-            let e = one_read file out x (Reading.Refused bad_file) out' out p (met_none q) in
+            let e = one_read file out x (Read.Refused bad_file) out' out p (met_none q) in
             no_header_lem e.0 (λ w h raster i. let z : no_header ≡ size w h raster = sym q ∙ complete file w h raster i in no_clash cc) e.1
         go (size w h raster) q = at (side_ok w && side_ok h) refl (ℕ_discrete (length raster) (w * h * pixel_bytes)) (dec_lt (length out) (length raster))
           where
@@ -165,13 +162,13 @@ module _ (file out : List ℕ) where
             is = sound file w h raster q
 
             at : (b : Bool) → (side_ok w && side_ok h) ≡ b → Dec (length raster ≡ w * h * pixel_bytes) → Dec (length out < length raster) → ReadWay file out x out'
-            at false s d r = let e = one_read file out x (Reading.Refused bad_size) out' out p (met_sides w h raster q s) in bad_sides w h raster is e.0 (sides_bad w h s) e.1
-            at true s (no d) r = let e = one_read file out x (Reading.Refused bad_file) out' out p (met_raster w h raster q s d) in bad_raster w h raster is e.0 (sides_good w h s) d e.1
+            at false s d r = let e = one_read file out x (Read.Refused bad_size) out' out p (met_sides w h raster q s) in bad_sides w h raster is e.0 (sides_bad w h s) e.1
+            at true s (no d) r = let e = one_read file out x (Read.Refused bad_file) out' out p (met_raster w h raster q s d) in bad_raster w h raster is e.0 (sides_good w h s) d e.1
             at true s (yes d) (yes r) =
-                let e = one_read file out x (Reading.Refused no_room_word) out' out p (met_bytes w h raster q s d r) in
+                let e = one_read file out x (Read.Refused no_room_word) out' out p (met_bytes w h raster q s d r) in
                 no_bytes w h raster is e.0 (sides_good w h s) d r e.1
             at true s (yes d) (no r) =
-                let e = one_read file out x (Reading.Done w h) out' (raster ++ drop (length raster) out) p (met_picture w h raster q s d (omega arith)) in
+                let e = one_read file out x (Read.Done w h) out' (raster ++ drop (length raster) out) p (met_picture w h raster q s d (omega arith)) in
                 picture_read w h raster is e.0 (sides_good w h s) d (omega arith) e.1
 
     read_back : ReadWay file out x out' → ReadMet file out x out'

@@ -12,10 +12,8 @@ use Rattle.lists.specs.Run.{Ran, done, refused}
 use Rattle.panel.specs.Refusals.{not_whole, too_many, no_room_word, sum_over}
 use Rattle.panel.specs.Checks.{first_no}
 use Rattle.panel.specs.Paths.{path_at, path_count, paths_answer}
-use Rattle.panel.specs.declared.kinds.Answer.{Answer}
-use Rattle.panel.specs.declared.kinds.Answer.TheVariants.{Done, Refused}
-use Rattle.panel.specs.declared.kinds.Verdict.{Verdict}
-use Rattle.panel.specs.declared.kinds.Verdict.TheVariants.{Fine, Against}
+use Rattle.panel.specs.Answer.{Answer, Done, Refused}
+use Rattle.panel.specs.Verdict.{Verdict, Fine, Against}
 use Rattle.backdrop.specs.Backdrop.{out_of, path_fits, path_sums, sum_paths, backdrop_of, BackdropMet}
 use Rattle.hand_out.specs.HandOut.{hand, HandMet}
 use Rattle.coverage.specs.Coverage.{coverage_of}
@@ -27,8 +25,7 @@ use Rattle.theorems.proofs.Exact as Cases
 use Rattle.theorems.proofs.ExactPaths.{paths_exact}
 use Rattle.theorems.proofs.ExactStops.{backdrop_exact, tiles_exact}
 use Rattle.theorems.proofs.ExactCommands.{tile_exact}
-use Rattle.call_theorems.specs.Ways.{BackdropWay, paths_refused, path_refused, all_summed, HandWay, unpaired, many, over, handed}
-use Rattle.call_theorems.specs.Ways.{FillWay, fill_refused, filled, fine_row, FineWay, screen_refused, tile_refused, all_shown}
+use Rattle.call_theorems.specs.Ways.{BackdropWay, paths_refused, path_refused, all_summed, HandWay, unpaired, many, over, handed, FillWay, fill_refused, filled, fine_row, FineWay, screen_refused, tile_refused, all_shown}
 
 -- ---- backdrop
 

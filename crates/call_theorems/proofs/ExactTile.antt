@@ -1,31 +1,28 @@
 -- Exact at the call: tiling. Its promise is met where one of its ways holds, and nowhere else; the segments left are those of the references before the one
 -- refused. Assumes nothing.
 use mathlib.Core.Path.{◌≡◌, refl, sym, ap, ◌∙◌}
-use mathlib.Core.Logic.{◌≢◌, ◌↔◌, ◌⊎◌, inl, inr}
+use mathlib.Core.Logic.{◌≢◌, ◌↔◌}
 use mathlib.Core.Bool.{Bool, true, false}
-use mathlib.Core.List.{List, []}
 use Prim.Native.Nat.{ℕ, zero, suc, ◌+◌, ◌-◌, ◌≤◌, ◌<◌}
 use native.Mathlib.Decide.{ℕ_discrete}
 use native.Mathlib.Omega.{arith}
 use lib.ListN.{length}
-use lib.Ieee.{Float}
 use Rattle.panel.specs.Pieces.{Pieces}
 use Rattle.panel.specs.Refusals.{not_whole}
 use Rattle.panel.specs.Paths.{paths_answer}
-use Rattle.panel.specs.declared.kinds.Answer.{Answer}
-use Rattle.panel.specs.declared.kinds.Answer.TheVariants.{Done, Refused}
+use Rattle.panel.specs.Answer.{Answer, Done, Refused}
 use Rattle.looks.specs.Look.{Lent, look_of}
-use Rattle.path_tiling.specs.Tiling.{Range, range, look_then_word, range_of, slots_of, applied, tiled, range_tiled, tiled_of, TileMet}
-use Rattle.looks.specs.declared.Look as Lk
-use Rattle.looks.specs.declared.Look.TheVariants.{Put, Empty, Against}
+use Rattle.path_tiling.specs.Tiling.{Range, range, look_then_word, range_of, slots_of, applied, tiled, range_tiled, TileMet}
+use Rattle.looks.specs.Looked as Lk
+use Rattle.looks.specs.Looked.{Put, Empty, Against}
 use Rattle.path_tiling.proofs.CallLaws.{not_whole_lem, bad_paths, called}
-use Rattle.theorems.specs.Refusing.{LookWhy, RangeWhy}
+use Rattle.theorems.specs.Refusing.{RangeWhy}
 use Rattle.theorems.proofs.OneAnswer.{one_tile}
 use Rattle.theorems.proofs.Exact.{no_clash}
 use Rattle.theorems.proofs.ExactPaths.{paths_exact}
 use Rattle.theorems.proofs.ExactLooks.{look_exact}
 use Rattle.theorems.proofs.ExactStops.{range_exact}
-use Rattle.call_theorems.specs.Ways.{tile_whole, NoneRefused, TileWay, unwhole, paths_refused, ref_refused, all_tiled}
+use Rattle.call_theorems.specs.Ways.{tile_whole, TileWay, unwhole, paths_refused, ref_refused, all_tiled}
 
 module _ (L : Lent) (slots : ℕ) where
   -- a range that is refused at a reference has the writes of those before it

@@ -13,23 +13,22 @@ use lib.ListN.{length, get_or, get_or-eq_default}
 use lib.Ieee.{Float}
 use borrow.Author.Tests.{ltb-true}
 use Rattle.lists.specs.Run.{All}
-use Rattle.lists.specs.Sums.{sum, first}
+use Rattle.lists.specs.Sums.{sum}
 use Rattle.panel.specs.Limits.{most_slots}
 use Rattle.panel.specs.Paths.{path_at, path_count, tile_of, beam_at}
 use Rattle.panel.specs.Pieces.{Pieces}
 use Rattle.panel.specs.Slots.{not32}
 use Rattle.panel.specs.declared.kinds.Running.{Running}
-use Rattle.panel.specs.declared.kinds.Answer.TheVariants.{Done}
+use Rattle.panel.specs.Answer.{Done}
 use Rattle.panel.proofs.PathLaws.{own_tile}
 use Rattle.hand_out.specs.HandOut.{hand, hand_out_of, out_of}
 use Rattle.hand_out.proofs.HandLaws.{reads_back}
 use Rattle.looks.specs.Look.{lent}
 use Rattle.path_tiling.specs.Tiling.{applied, call_of}
 use Rattle.frame.specs.Frame as Frame
-use Rattle.frame.specs.declared.kinds.Framed.TheVariants as Framed
+use Rattle.frame.specs.Framed as Framed
 use Rattle.commands.specs.Pixel.{even_odd_of}
 use Rattle.pairs.specs.Pairs.{Tables, tables, colour_at, rule_at, in_box, covers, bits_of, on_tile, on_path}
-use Rattle.pairs.specs.declared.Pair.{Pair}
 use Rattle.pairs.specs.declared.Pair.TheVariants.{Fill, Solid}
 use Rattle.pairs.proofs.PairLaws.{box_in}
 use Rattle.theorems.specs.Drawn.{InPath}

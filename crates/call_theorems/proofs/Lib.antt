@@ -9,6 +9,7 @@
 --     PresentAnswers   of the shown part of a screen: one answer, and no cheat
 --     SizesAnswers   of what lines and paths need: one answer, and no cheat
 --     DrawAnswers    one answer of a drawing, and no cheat
+--     Told           the words of an answer fix what code answers, so that one answer in words is one of code
 pub mod OneAnswer
 pub mod Cheats
 pub mod ExactCount
@@ -26,3 +27,4 @@ pub mod CheckAnswers
 pub mod BoxAnswers
 pub mod SizesAnswers
 pub mod PresentAnswers
+pub mod Told

@@ -9,10 +9,10 @@ use Rattle.panel.specs.Pieces.{Pieces}
 use Rattle.looks.specs.Look.{Lent}
 use Rattle.pairs.specs.Pairs.{Tables}
 use Rattle.ppm_write.specs.Write.{Left, WriteMet}
-use Rattle.ppm_write.specs.declared.Written.{Written}
+use Rattle.ppm_write.specs.Written.{Written}
 use Rattle.ppm_write.proofs.Answers as Wrote
 use Rattle.ppm_read.specs.Read.{ReadMet}
-use Rattle.ppm_read.specs.declared.Answer.{Answer}
+use Rattle.ppm_read.specs.Answer.{Answer}
 use Rattle.ppm_read.proofs.Answers as Read
 use Rattle.groatpocket.specs.Seen.{Seen, seen, SeenAt, seen_at}
 use Rattle.groatpocket.specs.Calls.{CountSeen, GpFillMet, GpBackdropMet, GpHandMet, GpTileMet, GpFineMet, GpFineRowsMet, GpCountMet}

@@ -3,9 +3,8 @@ use Rattle.std.specs.Prelude.{◌≡◌, List, ℕ, ◌+◌, ◌-◌, ◌*◌, �
 use Rattle.lists.specs.Run.{done}
 use Rattle.panel.specs.Limits.{most_commands}
 use Rattle.panel.specs.Checks.{Check, first_no}
-use Rattle.panel.specs.declared.kinds.Answer.{Answer}
-use Rattle.panel.specs.declared.kinds.Answer.TheVariants.{Done, Refused}
-use Rattle.panel.specs.declared.kinds.Verdict.TheVariants.{Fine}
+use Rattle.panel.specs.Answer.{Answer, Done, Refused}
+use Rattle.panel.specs.Verdict.{Fine}
 use Rattle.commands.specs.Numbers.{start_of}
 use Rattle.bands.specs.Bands.{band_checks, band_tiles}
 use Rattle.theorems.specs.Refusing.{RowWhy}

@@ -2,22 +2,14 @@
 -- answer a and of what was lent, m, as it is afterwards. Definitions only.
 use Rattle.std.specs.Prelude.{◌≡◌, ◌≢◌, ℕ, zero, suc}
 use Rattle.panel.specs.Refusals.{done_no}
-use Rattle.panel.specs.declared.kinds.Answer.{Answer}
-use Rattle.panel.specs.declared.kinds.Answer.TheVariants as Answer
-use Rattle.path_count.specs.declared.kinds.Counted.{Counted}
-use Rattle.path_count.specs.declared.kinds.Counted.TheVariants as Counted
-use Rattle.frame.specs.declared.kinds.Framed.{Framed}
-use Rattle.frame.specs.declared.kinds.Framed.TheVariants as Framed
-use Rattle.ppm_write.specs.declared.Written.{Written}
-use Rattle.ppm_write.specs.declared.Written.TheVariants as Written
-use Rattle.ppm_read.specs.declared.Answer as Read
-use Rattle.ppm_read.specs.declared.Answer.TheVariants as Reading
-use Rattle.tile_check.specs.declared.kinds.Checked.{Checked}
-use Rattle.tile_check.specs.declared.kinds.Checked.TheVariants as Checked
-use Rattle.boxes.specs.declared.kinds.Boxed.{Boxed}
-use Rattle.boxes.specs.declared.kinds.Boxed.TheVariants as Boxed
-use Rattle.svg.specs.declared.Answer as Svg
-use Rattle.svg.specs.declared.Answer.TheVariants as Drawing
+use Rattle.panel.specs.Answer.{Answer}
+use Rattle.path_count.specs.Counted.{Counted}
+use Rattle.frame.specs.Framed.{Framed}
+use Rattle.ppm_write.specs.Written.{Written}
+use Rattle.ppm_read.specs.Answer as Read
+use Rattle.tile_check.specs.Checked.{Checked}
+use Rattle.boxes.specs.Boxed.{Boxed}
+use Rattle.svg.specs.Answer as Svg
 
 -- it admits one answer, and one content of what was lent
 abbrev pub Once : (A M : Type 0) → (A → M → Type 0) → Type 0
@@ -51,8 +43,8 @@ RefusesWrite (Written.Done n) = ⊥
 RefusesWrite (Written.Refused n) = Unit {0}
 
 abbrev pub RefusesRead : Read.Answer → Type 0
-RefusesRead (Reading.Done w h) = ⊥
-RefusesRead (Reading.Refused n) = Unit {0}
+RefusesRead (Read.Done w h) = ⊥
+RefusesRead (Read.Refused n) = Unit {0}
 
 -- an answer that is a number alone
 abbrev pub RefusesNumber : ℕ → Type 0
@@ -64,8 +56,8 @@ RefusesBoxes (Boxed.Done t) = ⊥
 RefusesBoxes (Boxed.Refused n item) = Unit {0}
 
 abbrev pub RefusesSvg : Svg.Answer → Type 0
-RefusesSvg (Drawing.Done n) = ⊥
-RefusesSvg (Drawing.Refused n at) = Unit {0}
+RefusesSvg (Svg.Done n) = ⊥
+RefusesSvg (Svg.Refused n at) = Unit {0}
 
 -- what a caller in C or Rust sees of a recount: the number, the item's, the references made
 pub record RecountTold : Type 0 where

@@ -1,6 +1,6 @@
 -- Exact at the call: the ways in which each call ends. Each has its answer, its ground in the words of docs/RULES.md, and what is left in all that was
 -- lent. A call's promise is met where one of its ways holds, and nowhere else. Definitions only.
-use Rattle.std.specs.Prelude.{◌≡◌, ◌⊎◌, Bool, true, false, List, ◌++◌, ℕ, ◌+◌, ◌-◌, ◌*◌, ◌/◌, ◌≤◌, ◌<◌, min, ℤ, pos, length, replicate, drop, Float}
+use Rattle.std.specs.Prelude.{◌≡◌, ◌⊎◌, Bool, true, false, List, ◌++◌, ℕ, ◌-◌, ◌*◌, ◌/◌, ◌≤◌, ◌<◌, min, ℤ, pos, length, replicate, drop, Float}
 use Rattle.panel.specs.Pieces.{Pieces}
 use Rattle.lists.specs.Run.{done}
 use Rattle.lists.specs.Sums.{sum}
@@ -12,14 +12,12 @@ use Rattle.panel.specs.Kinds.{running_of}
 use Rattle.panel.specs.Checks.{Check, first_no}
 use Rattle.panel.specs.Paths.{path_count, paths_answer}
 use Rattle.panel.specs.declared.kinds.Running.{Running}
-use Rattle.panel.specs.declared.kinds.Answer.{Answer}
-use Rattle.panel.specs.declared.kinds.Answer.TheVariants.{Done, Refused}
-use Rattle.panel.specs.declared.kinds.Verdict.TheVariants.{Fine}
+use Rattle.panel.specs.Answer.{Answer, Done, Refused}
+use Rattle.panel.specs.Verdict.{Fine}
 use Rattle.acts.specs.Acts.{st_of}
 use Rattle.path_count.specs.Count as Count
 use Rattle.path_count.specs.Count.{batch}
-use Rattle.path_count.specs.declared.kinds.Counted.{Counted}
-use Rattle.path_count.specs.declared.kinds.Counted.TheVariants as Counted
+use Rattle.path_count.specs.Counted.{Counted}
 use Rattle.backdrop.specs.Backdrop as Backdrop
 use Rattle.hand_out.specs.HandOut.{hand}
 use Rattle.looks.specs.Look.{Lent, lent}
@@ -27,11 +25,9 @@ use Rattle.path_tiling.specs.Tiling.{range_of, slots_of, applied}
 use Rattle.path_tiling.specs.Tiling as Tiling
 use Rattle.frame.specs.Frame as Frame
 use Rattle.frame.specs.declared.kinds.Stage.TheVariants as Stage
-use Rattle.frame.specs.declared.kinds.Framed.{Framed}
-use Rattle.frame.specs.declared.kinds.Framed.TheVariants as Framed
+use Rattle.frame.specs.Framed.{Framed}
 use Rattle.coverage.specs.Fill.{fill_checks}
-use Rattle.coverage.specs.Coverage.{coverage_of}
-use Rattle.coverage.specs.Coverage.{pixel_of}
+use Rattle.coverage.specs.Coverage.{coverage_of, pixel_of}
 use Rattle.sides.specs.Tile.{tile_size}
 use Rattle.colours.specs.Colour.{pack_of}
 use Rattle.commands.specs.Numbers.{start_of}
@@ -39,21 +35,17 @@ use Rattle.screen_tile.specs.Tile.{ends_at, colour_at}
 use Rattle.fine.specs.Fine.{fine_checks, tiles_of}
 use Rattle.pixel.specs.Place.{place_at, place_checks}
 use Rattle.pixel.specs.Colour.{whole_checks}
-use Rattle.pixel.specs.declared.kinds.Covered.{Covered}
-use Rattle.pixel.specs.declared.kinds.Covered.TheVariants as Covered
-use Rattle.pixel.specs.declared.kinds.Coloured.{Coloured}
-use Rattle.pixel.specs.declared.kinds.Coloured.TheVariants as Coloured
+use Rattle.pixel.specs.Covered.{Covered}
+use Rattle.pixel.specs.Coloured.{Coloured}
 use Rattle.pairs.specs.Pairs.{Tables}
 use Rattle.lay_pairs.specs.Layout.{written}
 use Rattle.write_lists.specs.Lists as Lists
 use Rattle.write_lists.specs.Lists.{lists_of}
 use Rattle.ppm_write.specs.Bytes.{pixel_bytes}
 use Rattle.ppm_write.specs.File.{file_of}
-use Rattle.ppm_write.specs.declared.Written.{Written}
-use Rattle.ppm_write.specs.declared.Written.TheVariants as Written
+use Rattle.ppm_write.specs.Written.{Written}
 use Rattle.ppm_read.specs.Grammar.{IsHeader}
-use Rattle.ppm_read.specs.declared.Answer as Read
-use Rattle.ppm_read.specs.declared.Answer.TheVariants as Reading
+use Rattle.ppm_read.specs.Answer as Read
 use Rattle.theorems.specs.Refusing.{RowWhy, PathsWhy, LineWhy, LookWhy, BackdropWhy}
 use Rattle.theorems.specs.Commands.{TraceWhy}
 use Rattle.theorems.specs.Framing.{tiled_as}
@@ -245,12 +237,12 @@ pub data WriteWay (pixels : List ℕ) (w h : ℕ) (out : List ℕ) (x : Written)
 
 pub data ReadWay (file out : List ℕ) (x : Read.Answer) (out' : List ℕ) : Type 0 where
   -- 18: no header that the grammar has. 17: a side. 18: raster bytes missing or left over. 9: no room for them. Nothing changes
-  no_header_lem : x ≡ Reading.Refused bad_file → ((w h : ℕ) (raster : List ℕ) → IsHeader file w h raster → ⊥) → out' ≡ out → ReadWay file out x out'
-  bad_sides : (w h : ℕ) (raster : List ℕ) → IsHeader file w h raster → x ≡ Reading.Refused bad_size → BadSides w h → out' ≡ out → ReadWay file out x out'
-  bad_raster : (w h : ℕ) (raster : List ℕ) → IsHeader file w h raster → x ≡ Reading.Refused bad_file → (BadSides w h → ⊥) → (length raster ≡ w * h * pixel_bytes → ⊥)
+  no_header_lem : x ≡ Read.Refused bad_file → ((w h : ℕ) (raster : List ℕ) → IsHeader file w h raster → ⊥) → out' ≡ out → ReadWay file out x out'
+  bad_sides : (w h : ℕ) (raster : List ℕ) → IsHeader file w h raster → x ≡ Read.Refused bad_size → BadSides w h → out' ≡ out → ReadWay file out x out'
+  bad_raster : (w h : ℕ) (raster : List ℕ) → IsHeader file w h raster → x ≡ Read.Refused bad_file → (BadSides w h → ⊥) → (length raster ≡ w * h * pixel_bytes → ⊥)
       → out' ≡ out → ReadWay file out x out'
-  no_bytes : (w h : ℕ) (raster : List ℕ) → IsHeader file w h raster → x ≡ Reading.Refused no_room_word → (BadSides w h → ⊥) → length raster ≡ w * h * pixel_bytes
+  no_bytes : (w h : ℕ) (raster : List ℕ) → IsHeader file w h raster → x ≡ Read.Refused no_room_word → (BadSides w h → ⊥) → length raster ≡ w * h * pixel_bytes
       → length out < length raster → out' ≡ out → ReadWay file out x out'
   -- the raster stands at the front
-  picture_read : (w h : ℕ) (raster : List ℕ) → IsHeader file w h raster → x ≡ Reading.Done w h → (BadSides w h → ⊥) → length raster ≡ w * h * pixel_bytes
+  picture_read : (w h : ℕ) (raster : List ℕ) → IsHeader file w h raster → x ≡ Read.Done w h → (BadSides w h → ⊥) → length raster ≡ w * h * pixel_bytes
       → length raster ≤ length out → out' ≡ raster ++ drop (length raster) out → ReadWay file out x out'

@@ -1,7 +1,7 @@
 -- A step's column and row as floats: the sums that they are cast from, with 0 added. Assumes nothing.
 --     step_floats    so the column and the row of a step's tile
 use mathlib.Core.Path.{◌≡◌, sym, ◌∙◌, subst}
-use Prim.Native.Nat.{ℕ, ◌+◌, ◌<◌}
+use Prim.Native.Nat.{ℕ, ◌<◌}
 use native.Mathlib.Omega.{arith}
 use lib.IntN.{ℤ, pos, ◌+ℤ◌}
 use lib.Ieee.{Float, binary32, add, mul}
@@ -17,7 +17,7 @@ use Rattle.exact.proofs.Limits.{far}
 use Rattle.walk.specs.Num.{float}
 use Rattle.walk.specs.Step.{Boxed, z_at, step_of}
 use Rattle.walk.specs.declared.kinds.Pace.{Pace}
-use Rattle.walk.specs.declared.step.Step.TheVariants.{Tile}
+use Rattle.walk.specs.Stepped.{Tile}
 use Rattle.walk.proofs.StepTiles.{inside_small, z_fits, z_whole, z_whole_lem, turned_whole}
 use Rattle.walk.proofs.Tiles.{step_told}
 use Rattle.box_edges.proofs.Zeros.{zero_more}

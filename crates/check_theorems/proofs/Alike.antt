@@ -17,8 +17,7 @@ use Rattle.panel.specs.Refusals.{count_over, line_number, no_room_word, sum_over
 use Rattle.panel.specs.Signed.{in_i32}
 use Rattle.panel.specs.Refs.{packed, put_ref}
 use Rattle.walk.specs.Lent.{walk_at}
-use Rattle.walk.specs.declared.kinds.Walked.{Walked}
-use Rattle.walk.specs.declared.kinds.Walked.TheVariants.{Refused, Skipped, Line}
+use Rattle.walk.specs.Walked.{Walked, Refused, Skipped, Line}
 use Rattle.acts.specs.Acts.{St, st_of, Act, mark, visit, stop, marked, visited, take_if, run_acts, delta_of}
 use Rattle.acts.specs.Line.{Plan, plan_acts, halt_if, too_far, plan_step, at_line, batch_of}
 use Rattle.acts.proofs.Whole.{no_stop, plan_taken}

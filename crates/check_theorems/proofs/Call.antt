@@ -15,18 +15,15 @@ use Rattle.panel.specs.Limits.{most_slots}
 use Rattle.panel.specs.Refusals.{no_room_word}
 use Rattle.panel.specs.Checks.{check, first_no, unless}
 use Rattle.panel.specs.Paths.{paths_answer}
-use Rattle.panel.specs.declared.kinds.Answer.{Answer}
-use Rattle.panel.specs.declared.kinds.Answer.TheVariants as Answer
-use Rattle.panel.specs.declared.kinds.Verdict.{Verdict}
-use Rattle.panel.specs.declared.kinds.Verdict.TheVariants.{Fine, Against}
+use Rattle.panel.specs.Answer.{Answer}
+use Rattle.panel.specs.Verdict.{Verdict, Fine, Against}
 use Rattle.acts.specs.Acts.{St}
 use Rattle.acts.specs.Line.{Refusal}
 use Rattle.path_count.specs.Count.{batch}
 use Rattle.made.specs.Made.{made_of}
 use Rattle.own_count.specs.Own.{zeroed, own_to, own_ran}
 use Rattle.tile_check.specs.Tables.{tables_of, and_answer, asked_of, Out, cleared, looked_of, checked_of, CheckMet}
-use Rattle.tile_check.specs.declared.kinds.Checked.{Checked}
-use Rattle.tile_check.specs.declared.kinds.Checked.TheVariants.{Refused}
+use Rattle.tile_check.specs.Checked.{Checked, Refused}
 use Rattle.theorems.specs.Refusing.{BatchWhy}
 use Rattle.theorems.proofs.Exact.{row_exact, line_exact}
 use Rattle.theorems.proofs.ExactPaths.{paths_exact}

@@ -20,8 +20,7 @@ use Rattle.panel.specs.Kinds.{running_of}
 use Rattle.panel.specs.Checks.{first_no}
 use Rattle.panel.specs.Paths.{paths_answer}
 use Rattle.panel.specs.Refs.{line_at, step_no, slice_no}
-use Rattle.panel.specs.declared.kinds.Answer.{Answer}
-use Rattle.panel.specs.declared.kinds.Answer.TheVariants as Answer
+use Rattle.panel.specs.Answer.{Answer}
 use Rattle.panel.proofs.BoolLaws.{both}
 use Rattle.panel.proofs.CheckLaws.{all_ok, none_fails, unless_done}
 use Rattle.acts.specs.Acts.{St, st_of}
@@ -33,14 +32,13 @@ use Rattle.meeting.specs.Meeting.{meets, meets_earlier}
 use Rattle.meeting.proofs.FirstLaws.{none_is}
 use Rattle.entries.specs.Entries.{slot_fault, first_slot, slot_count, past_room}
 use Rattle.made.specs.Made.{made_of}
-use Rattle.made.specs.declared.Made.{Made}
-use Rattle.made.specs.declared.Made.TheVariants.{At}
+use Rattle.made.specs.MadeAt.{Made, At}
 use Rattle.own_count.specs.Own.{own_to, own_ran}
 use Rattle.tile_check.specs.Faults.{ref_count, step_at, slice_at, made_ref, stray, stray_ref, same_step, same_tile, same_slice, step_twice, slice_twice, ref_fault, same_back}
+use Rattle.tile_check.specs.Keys.{before_in}
 use Rattle.tile_check.specs.Tables as Tables
 use Rattle.tile_check.specs.Tables.{work_words, cleared, looked_of, CheckMet}
-use Rattle.tile_check.specs.declared.kinds.Checked.{Checked}
-use Rattle.tile_check.specs.declared.kinds.Checked.TheVariants.{Yes}
+use Rattle.tile_check.specs.Checked.{Checked, Yes}
 use Rattle.theorems.specs.Events.{Event, events_of, tiles_ev, counts_of, slice_of, slot_of}
 use Rattle.theorems.specs.Refs.{AllCounted}
 use Rattle.theorems.proofs.Exact.{hand_exact}
@@ -218,7 +216,7 @@ module _ (nos : List ℕ) (coords : List Float) (paths : List ℕ) (n : ℕ) (re
         let y = known j h in
         let one : At x.before x.tile ≡ At y.before y.tile =
         sym x.made ∙ ap (λ (l : ℕ). made_of nos coords paths l (step_at rs' i)) line ∙ ap (made_of nos coords paths (line_at rs' j)) step ∙ y.made in
-        let before : x.before ≡ y.before = cc in
+        let before : x.before ≡ y.before = ap before_in one in
         apart i j p h (omega (arith, x.key, y.key, before, ap (line_start nos coords paths) line))
 
     no_slice : (i j : ℕ) → i < j → j < m → same_slice (made_of nos coords paths) rs' i j ≡ true → ⊥

@@ -16,8 +16,7 @@ use Rattle.entries.specs.Entries.{first_count_fault, slot_fault, first_slot_faul
 use Rattle.own_count.specs.Own.{own_to}
 use Rattle.tile_check.specs.Faults.{ref_fault, first_ref_fault, first_back_fault}
 use Rattle.tile_check.specs.Tables.{work_words, tables_of, asked_of, looked_of, checked_of}
-use Rattle.tile_check.specs.declared.kinds.Checked.{Checked}
-use Rattle.tile_check.specs.declared.kinds.Checked.TheVariants.{Yes, Reference, Count, Backdrop, Slots, Refused}
+use Rattle.tile_check.specs.Checked.{Checked, Yes, Reference, Count, Backdrop, Slots, Refused}
 use Rattle.theorems.specs.Starred.{floats_of}
 use Rattle.theorems.proofs.StarredTable.{computing}
 

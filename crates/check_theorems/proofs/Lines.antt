@@ -16,14 +16,14 @@ use borrow.Author.Tests.{ltb-true, lt-ltb}
 use Rattle.lists.specs.Run.{Step, taken, halted, done, run, run_cons_done, All}
 use Rattle.lists.specs.Sums.{from, from_add}
 use Rattle.panel.specs.Paths.{paths_answer}
-use Rattle.panel.specs.declared.kinds.Answer.TheVariants.{Done}
+use Rattle.panel.specs.Answer.{Done}
 use Rattle.walk.specs.Lent.{walk_at}
 use Rattle.acts.specs.Acts.{St}
 use Rattle.acts.specs.Line.{at_line, batch_of}
 use Rattle.walked_lines.specs.Line.{line_step}
 use Rattle.path_count.specs.Count.{batch}
 use Rattle.made.specs.Made.{walk_made, made_of}
-use Rattle.made.specs.declared.Made.TheVariants.{At, Not}
+use Rattle.made.specs.MadeAt.{At, Not}
 use Rattle.theorems.specs.Drawn.{drawn_at, walk_of, acts_by, delta_by}
 use Rattle.theorems.specs.Events.{Event, events_at, events_of}
 use Rattle.theorems.proofs.Acts.{walk_is}

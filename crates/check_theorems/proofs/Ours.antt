@@ -11,7 +11,7 @@ use Rattle.lists.specs.Sums.{sum, from}
 use Rattle.lists.specs.Tally.{Below, count_sum}
 use Rattle.panel.specs.Limits.{most_slots}
 use Rattle.panel.specs.Paths.{end_of, paths_answer}
-use Rattle.panel.specs.declared.kinds.Answer.TheVariants.{Done}
+use Rattle.panel.specs.Answer.{Done}
 use Rattle.panel.proofs.PathLaws.{checked}
 use Rattle.acts.specs.Acts.{St}
 use Rattle.path_count.specs.Count.{batch}

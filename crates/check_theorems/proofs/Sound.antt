@@ -17,7 +17,7 @@ use Rattle.lists.specs.Sums.{sum, first, first_within}
 use Rattle.panel.specs.Limits.{most_slots}
 use Rattle.panel.specs.Refs.{line_at}
 use Rattle.panel.specs.Paths.{paths_answer}
-use Rattle.panel.specs.declared.kinds.Answer.TheVariants.{Done}
+use Rattle.panel.specs.Answer.{Done}
 use Rattle.panel.proofs.BoolLaws.{second_false}
 use Rattle.panel.proofs.CheckLaws.{all_ok}
 use Rattle.acts.specs.Acts.{St}
@@ -26,12 +26,11 @@ use Rattle.meeting.proofs.FirstLaws.{none_below}
 use Rattle.entries.specs.Entries.{slot_fault, first_slot, slot_count, past_room}
 use Rattle.entries.proofs.KeyLaws.{key_once}
 use Rattle.made.specs.Made.{made_of}
-use Rattle.made.specs.declared.Made.{Made}
-use Rattle.made.specs.declared.Made.TheVariants.{At, Not}
+use Rattle.made.specs.MadeAt.{Made, At, Not}
 use Rattle.own_count.specs.Own.{own_ran}
 use Rattle.tile_check.specs.Faults.{ref_count, step_at, slice_at, made_ref, stray, stray_ref, same_step, same_tile, same_slice, step_twice, slice_twice, ref_fault, same_back}
 use Rattle.tile_check.specs.Tables.{CheckMet}
-use Rattle.tile_check.specs.declared.kinds.Checked.TheVariants.{Yes}
+use Rattle.tile_check.specs.Checked.{Yes}
 use Rattle.theorems.specs.Events.{Event}
 use Rattle.theorems.proofs.SumLaws.{event_at}
 use Rattle.check_theorems.specs.Good.{RefMade, StepThere, SliceThere, SlotOf, AsGood}

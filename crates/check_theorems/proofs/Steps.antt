@@ -15,14 +15,14 @@ use Rattle.panel.specs.Limits.{most_count}
 use Rattle.panel.specs.Refusals.{count_over, sum_over}
 use Rattle.panel.specs.Signed.{in_i32}
 use Rattle.panel.proofs.BoolLaws.{both}
-use Rattle.walk.specs.declared.kinds.Walked.{Walked}
-use Rattle.walk.specs.declared.kinds.Walked.TheVariants.{Refused, Skipped, Line}
+use Rattle.walk.specs.Walked.{Walked, Refused, Skipped, Line}
 use Rattle.acts.specs.Acts.{St, Act, mark, visit, stop, Hit, on, off, row_acts, step_acts, steps_acts, marked, visited, run_acts}
 use Rattle.acts.specs.Line.{Plan, plan_acts}
 use Rattle.acts.proofs.Whole.{on_taken, no_stop}
 use Rattle.walked_lines.specs.Line.{plan_of}
 use Rattle.made.specs.Made.{hit_made, plan_made, walk_made}
-use Rattle.made.specs.declared.Made.TheVariants.{At, Not}
+use Rattle.made.specs.MadeAt.{At, Not}
+use Rattle.tile_check.specs.Keys.{before_in, tile_in}
 use Rattle.theorems.specs.Drawn.{acts_by}
 use Rattle.theorems.specs.Events.{Event, events_in}
 use Rattle.theorems.proofs.SumLaws.{event_at}
@@ -124,7 +124,7 @@ module _ (l : ℕ) (p : Plan) (g : All Goes (plan_acts p)) where
   plan_event k n t e = go (leb p.imin k && ltb k p.imax) refl e
     where
       hit : (h : Hit) (m : ℕ) (x : Event) → hit_made m h ≡ At n t → HitEvent l h k x → (m ≡ n) × (x ≡ event l t k)
-      hit (on u z) m x e q = let a : m ≡ n = cc in let b : u ≡ t = cc in (a, q ∙ ap (λ (v : ℕ). event l v k) b)
+      hit (on u z) m x e q = (ap before_in e, q ∙ ap (λ (v : ℕ). event l v k) (ap tile_in e))
       hit off m x e q = absurd q
 
       at : p.imin ≤ k → k < p.imax → hit_made (k - p.imin) (p.hit k) ≡ At n t → (n < length (events_in l (plan_acts p))) × (event_at (events_in l (plan_acts p)) n ≡ event l t k)

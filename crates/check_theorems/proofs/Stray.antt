@@ -21,27 +21,25 @@ use Rattle.panel.specs.Slots.{not32, skips, handed_from}
 use Rattle.panel.specs.Paths.{path_at, end_of}
 use Rattle.panel.specs.declared.kinds.Path.{Path}
 use Rattle.panel.specs.declared.kinds.TileNo.{TileNo}
-use Rattle.panel.specs.declared.kinds.Answer.TheVariants.{Done, Refused}
+use Rattle.panel.specs.Answer.{Done, Refused}
 use Rattle.panel.proofs.LimitLaws.{small}
 use Rattle.walk.specs.Step.{step_of}
 use Rattle.walk.specs.Lent.{walk_at}
 use Rattle.walk.specs.declared.kinds.Walk.{Walk}
-use Rattle.walk.specs.declared.step.Step.TheVariants as On
-use Rattle.walk.specs.declared.kinds.Walked.{Walked}
-use Rattle.walk.specs.declared.kinds.Walked.TheVariants as Found
+use Rattle.walk.specs.Stepped as On
+use Rattle.walk.specs.Walked.{Walked}
+use Rattle.walk.specs.Walked as Found
 use Rattle.segment.specs.Clips.{piece_of}
-use Rattle.segment.specs.declared.Piece.{Piece}
-use Rattle.segment.specs.declared.Piece.TheVariants.{Kept, Crooked}
+use Rattle.segment.specs.Piece.{Piece, Kept, Crooked}
 use Rattle.entries.specs.Entries.{first_slot}
 use Rattle.looks.specs.Look.{Lent, lent, piece_to, word_to, step_to, found_to, found_of, look_of}
 use Rattle.path_tiling.specs.Tiling.{Write, Range, look_then_word, range_of}
 use Rattle.path_tiling.specs.Tiling as Tiling
-use Rattle.looks.specs.declared.Look.{Look}
-use Rattle.looks.specs.declared.Look.TheVariants.{Put, Empty, Against}
+use Rattle.looks.specs.Looked.{Look, Put, Empty, Against}
 use Rattle.looks.proofs.PutLaws.{Good}
 use Rattle.path_tiling.proofs.WriteLaws.{range_made, range_good}
 use Rattle.made.specs.Made.{made_of}
-use Rattle.made.specs.declared.Made.{Made}
+use Rattle.made.specs.MadeAt.{Made}
 use Rattle.tile_check.specs.Faults.{ref_count, step_at, slice_at}
 use Rattle.theorems.specs.Events.{EventOwn}
 use Rattle.theorems.specs.Stray.{written_to, written_from}

@@ -12,12 +12,11 @@ use borrow.Author.Tests.{lt-ltb, le-ltb}
 use Rattle.acts.specs.Acts.{St}
 use Rattle.meeting.specs.First.{first_of}
 use Rattle.meeting.proofs.FirstLaws.{first_most, first_hit, first_missed, first_is}
-use Rattle.made.specs.declared.Made.{Made}
+use Rattle.made.specs.MadeAt.{Made}
 use Rattle.entries.specs.Entries.{first_count_fault, first_slot_fault}
 use Rattle.tile_check.specs.Faults.{ref_count, first_ref_fault, first_back_fault}
 use Rattle.tile_check.specs.Tables.{no_if, tables_of}
-use Rattle.tile_check.specs.declared.kinds.Checked.{Checked}
-use Rattle.tile_check.specs.declared.kinds.Checked.TheVariants.{Yes, Reference, Count, Backdrop, Slots}
+use Rattle.tile_check.specs.Checked.{Checked, Yes, Reference, Count, Backdrop, Slots}
 use Rattle.check_theorems.specs.Ways.{FirstAt, NoneAt, ref_faults, count_faults, back_faults, slot_faults, NoFault, TablesWay, reference, count, backdrop, slots, missing, fine}
 
 -- ---- one table

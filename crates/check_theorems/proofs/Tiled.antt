@@ -11,13 +11,13 @@ use lib.Ieee.{Float}
 use Rattle.panel.specs.Pieces.{Pieces}
 use Rattle.panel.specs.Refusals.{not_whole}
 use Rattle.panel.specs.Paths.{paths_answer}
-use Rattle.panel.specs.declared.kinds.Answer.TheVariants.{Done, Refused}
+use Rattle.panel.specs.Answer.{Done, Refused}
 use Rattle.looks.specs.Look.{Lent, lent}
 use Rattle.path_tiling.specs.Tiling.{range, range_of, slots_of, checks_of, checked_then, call_of}
 use Rattle.path_tiling.proofs.CallLaws as CallLaws
 use Rattle.tile_check.specs.Faults.{ref_count}
 use Rattle.tile_check.specs.Tables.{CheckMet}
-use Rattle.tile_check.specs.declared.kinds.Checked.TheVariants.{Yes}
+use Rattle.tile_check.specs.Checked.{Yes}
 use Rattle.check_theorems.specs.Good.{AsGood}
 use Rattle.check_theorems.specs.Stray.{NoStray}
 use Rattle.check_theorems.proofs.Sound.{sound}

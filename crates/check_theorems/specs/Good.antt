@@ -5,10 +5,10 @@ use Rattle.lists.specs.Run.{done}
 use Rattle.panel.specs.Limits.{most_slots}
 use Rattle.panel.specs.Refs.{line_at}
 use Rattle.panel.specs.Paths.{paths_answer}
-use Rattle.panel.specs.declared.kinds.Answer.TheVariants.{Done}
+use Rattle.panel.specs.Answer.{Done}
 use Rattle.acts.specs.Acts.{St}
 use Rattle.made.specs.Made.{made_of}
-use Rattle.made.specs.declared.Made.TheVariants.{At}
+use Rattle.made.specs.MadeAt.{At}
 use Rattle.entries.specs.Entries.{first_slot}
 use Rattle.own_count.specs.Own.{own_ran}
 use Rattle.tile_check.specs.Faults.{ref_count, step_at, slice_at}

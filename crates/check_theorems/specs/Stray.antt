@@ -10,7 +10,7 @@ use Rattle.panel.specs.Refusals.{no_room_word, crooked}
 use Rattle.panel.specs.Refs.{line_at}
 use Rattle.panel.specs.Paths.{path_at, path_count, end_of}
 use Rattle.panel.specs.Segments.{Straight}
-use Rattle.panel.specs.declared.kinds.Answer.TheVariants.{Done, Refused}
+use Rattle.panel.specs.Answer.{Done, Refused}
 use Rattle.path_tiling.specs.Tiling.{Write, Range}
 use Rattle.tile_check.specs.Faults.{ref_count}
 use Rattle.theorems.specs.Stray.{written_to, written_from}

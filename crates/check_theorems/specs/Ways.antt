@@ -6,17 +6,16 @@ use Rattle.panel.specs.Limits.{most_slots}
 use Rattle.panel.specs.Refusals.{no_room_word}
 use Rattle.panel.specs.Checks.{Check, first_no}
 use Rattle.panel.specs.Paths.{paths_answer}
-use Rattle.panel.specs.declared.kinds.Answer.TheVariants as Answer
-use Rattle.panel.specs.declared.kinds.Verdict.TheVariants.{Fine}
+use Rattle.panel.specs.Answer as Answer
+use Rattle.panel.specs.Verdict.{Fine}
 use Rattle.acts.specs.Acts.{St}
-use Rattle.made.specs.declared.Made.{Made}
+use Rattle.made.specs.MadeAt.{Made}
 use Rattle.made.specs.Made.{made_of}
 use Rattle.entries.specs.Entries.{count_fault, slot_fault}
 use Rattle.own_count.specs.Own.{own_to, own_ran}
 use Rattle.tile_check.specs.Faults.{ref_count, ref_fault, back_fault}
 use Rattle.tile_check.specs.Tables.{lent_checks, work_words, cleared}
-use Rattle.tile_check.specs.declared.kinds.Checked.{Checked}
-use Rattle.tile_check.specs.declared.kinds.Checked.TheVariants.{Yes, Reference, Count, Backdrop, Slots, Refused}
+use Rattle.tile_check.specs.Checked.{Checked, Yes, Reference, Count, Backdrop, Slots, Refused}
 use Rattle.theorems.specs.Refusing.{RowWhy, PathsWhy, LineWhy}
 
 -- ---- the tables

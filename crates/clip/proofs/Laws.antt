@@ -1,7 +1,7 @@
 -- What clipping leaves of a walk: steps in order, and rows within the box. Assumes nothing.
-use Prim.Native.Nat.{ℕ, ◌≤◌}
+use Prim.Native.Nat.{◌≤◌}
 use native.Mathlib.Omega.{arith}
-use mathlib.Core.Path.{◌≡◌, subst}
+use mathlib.Core.Path.{subst}
 use Rattle.panel.specs.declared.kinds.Path.{Path}
 use Rattle.walk.specs.declared.kinds.Walk.{Walk}
 use Rattle.clip.specs.Clip.{clip_of}

@@ -1,5 +1,5 @@
 -- Lines of docs/RULES.md, "Traces to try", as the walk has them: what is clipped, each step's tile and mark, what is skipped or refused. By computation.
-use Prim.Native.Nat.{ℕ, zero, suc, ◌+◌}
+use Prim.Native.Nat.{ℕ, zero, suc}
 use mathlib.Core.Path.{◌≡◌, refl}
 use mathlib.Core.Bool.{Bool, true, false}
 use mathlib.Core.List.{List, [], ◌∷◌}
@@ -17,10 +17,10 @@ use Rattle.walk.specs.Skip.{flat_of, past_of}
 use Rattle.walk.specs.Step.{z_at, tile_in, step_of, crosses_at}
 use Rattle.walk.specs.Lent.{line_at, walked_of, walk_at}
 use Rattle.walk.specs.declared.kinds.Pace.{Pace}
-use Rattle.walk.specs.declared.step.Step.{Step}
-use Rattle.walk.specs.declared.step.Step.TheVariants.{Tile, Refused as Outside}
-use Rattle.walk.specs.declared.kinds.Walked.{Walked}
-use Rattle.walk.specs.declared.kinds.Walked.TheVariants.{Refused, Skipped, Line}
+use Rattle.walk.specs.Stepped.{Step}
+use Rattle.walk.specs.Stepped.{Tile, Refused as Outside}
+use Rattle.walk.specs.Walked.{Walked}
+use Rattle.walk.specs.Walked.{Refused, Skipped, Line}
 use Rattle.clip.specs.Page.{clipped_of}
 use Rattle.clip.specs.declared.Clip.{Clip}
 

@@ -1,6 +1,6 @@
 -- The clipping of the walk to a box in step numbers, a stage each, for the functions' own contracts. Only proofs lean on this: what is promised
 -- is `Page.antt`, in one piece and beside the Rust, and `by_parts` there says that the stages make the same. Definitions only.
-use Rattle.std.specs.Prelude.{ℕ, min, max, Bool, cond, ltb, Float}
+use Rattle.std.specs.Prelude.{ℕ, min, max, cond, ltb, Float}
 use Rattle.std.specs.Bool.{beq}
 use Rattle.std.specs.Float.{binary32}
 use Rattle.std.specs.Float.Ieee.{add, sub, mul, div, lt, eq, to_unsigned}

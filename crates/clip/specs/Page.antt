@@ -1,5 +1,5 @@
 -- The clipping on one page, in the order of path_count.rs, lines 68 to 126. `by_parts` says that the stages of `Clip.antt` make the same.
-use Rattle.std.specs.Prelude.{ℕ, min, max, ◌≡◌, refl, Bool, cond, ltb, Float}
+use Rattle.std.specs.Prelude.{min, max, ◌≡◌, refl, cond, ltb}
 use Rattle.std.specs.Bool.{beq}
 use Rattle.std.specs.Float.{binary32}
 use Rattle.std.specs.Float.Ieee.{add, sub, mul, div, lt, eq, to_unsigned}

@@ -2,7 +2,7 @@
 // path_count.rs, lines 68 to 126. docs/RULES.md, "The walk of a line".
 #![tactic(auto)]
 
-ghost use Rattle.std.specs.Prelude.{◌≡◌, cond, min, max};
+ghost use Rattle.std.specs.Prelude.{◌≡◌};
 ghost use Rattle.clip.specs.Clip.{row_step_by, col_step_of, first_step_of, last_step_of, rows_of, left_of, enter_of, leave_of, by_left_of, by_right_of, cols_of};
 ghost use Rattle.clip.specs.Page.{clipped_of};
 
@@ -20,18 +20,6 @@ pub struct Clip {
     pub imax: u32,
     pub ymin: u32,
     pub ymax: u32,
-}
-
-fn min_u32(x: u32, y: u32) -> u32
-    ensures { result ≡ min x y }
-{
-    if x < y { x } else { y }
-}
-
-fn max_u32(x: u32, y: u32) -> u32
-    ensures { result ≡ max x y }
-{
-    if x < y { y } else { x }
 }
 
 // The step at which the walk comes to the row `edge`: iminf and imaxf.
@@ -82,6 +70,7 @@ fn last_step(w: Walk, bottom: f32) -> u32
     }
 }
 
+// The steps in the box's rows.
 fn by_rows(w: Walk, b: Path) -> Clip
     ensures { result ≡ rows_of w b }
 {
@@ -102,10 +91,10 @@ fn all_left(w: Walk, c: Clip) -> Clip
     let ymin = row(float32::ceil(w.e.s0.y));
     let ymax = row(float32::ceil(w.e.s1.y));
     Clip {
-        imin: c.imin,
         imax: c.imin,
         ymin,
         ymax,
+        ..c
     }
 }
 
@@ -121,9 +110,9 @@ fn enter(w: Walk, f: f32, c: Clip) -> Clip
             let ymin = row(y0 + pick(y0 == w.e.s0.y, 0.0, 1.0));
             return Clip {
                 imin: i,
-                imax: c.imax,
                 ymin,
                 ymax: ynext,
+                ..c
             };
         }
         return c;
@@ -131,10 +120,10 @@ fn enter(w: Walk, f: f32, c: Clip) -> Clip
     if i < c.imax {
         let ymax = row(float32::ceil(w.e.s1.y));
         return Clip {
-            imin: c.imin,
             imax: i,
             ymin: ynext,
             ymax,
+            ..c
         };
     }
     c
@@ -146,23 +135,14 @@ fn leave(w: Walk, f: f32, c: Clip) -> Clip
 {
     let i = float32::to_u32(f);
     if w.is_positive_slope {
-        let imax = min_u32(c.imax, i);
-        return Clip {
-            imin: c.imin,
-            imax,
-            ymin: c.ymin,
-            ymax: c.ymax,
-        };
+        let imax = c.imax.min(i);
+        return Clip { imax, ..c };
     }
-    let imin = max_u32(c.imin, i);
-    Clip {
-        imin,
-        imax: c.imax,
-        ymin: c.ymin,
-        ymax: c.ymax,
-    }
+    let imin = c.imin.max(i);
+    Clip { imin, ..c }
 }
 
+// Cut where it comes over the box's left edge.
 fn by_left(w: Walk, edge: f32, c: Clip) -> Clip
     ensures { result ≡ by_left_of w edge c }
 {
@@ -173,6 +153,7 @@ fn by_left(w: Walk, edge: f32, c: Clip) -> Clip
     }
 }
 
+// Cut where it comes over the right one.
 fn by_right(w: Walk, edge: f32, c: Clip) -> Clip
     ensures { result ≡ by_right_of w edge c }
 {
@@ -183,6 +164,7 @@ fn by_right(w: Walk, edge: f32, c: Clip) -> Clip
     }
 }
 
+// Cut to the box's columns.
 fn by_cols(w: Walk, b: Path, c: Clip) -> Clip
     ensures { result ≡ cols_of w b c }
 {
@@ -194,17 +176,18 @@ fn by_cols(w: Walk, b: Path, c: Clip) -> Clip
     }
 }
 
+// The walk w over the box of its path.
 pub fn clip_to(w: Walk, b: Path) -> Clip
     ensures { result ≡ clipped_of w b }
 {
     let c = by_cols(w, b, by_rows(w, b));
-    let imax = max_u32(c.imin, c.imax);
-    let ymin = max_u32(c.ymin, b.y0);
-    let ymax = min_u32(c.ymax, b.y1);
+    let imax = c.imin.max(c.imax);
+    let ymin = c.ymin.max(b.y0);
+    let ymax = c.ymax.min(b.y1);
     Clip {
-        imin: c.imin,
         imax,
         ymin,
         ymax,
+        ..c
     }
 }

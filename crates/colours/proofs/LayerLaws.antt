@@ -49,10 +49,6 @@ pub painted : (area fg more : List Float) (a b : ℕ) (l m : List (List Float)) 
 painted area fg more a b l m h e =
     e ∙ within_cong (mixed more) (each area fg) a b [] l (λ k px lo hi. ap (λ (z : List Float). mix_of z px) (h k lo hi) ∙ over_mix fg (get_or area k nan) px)
 
--- at one pixel
-pub at_one : (area fg more : List Float) (i : ℕ) → more ≡ share_of fg (get_or area i nan) → (k : ℕ) → i ≤ k → k < i + 1 → more ≡ share_of fg (get_or area k nan)
-at_one area fg more i e k lo hi = let q : i ≡ k = omega (arith, lo, hi) in e ∙ ap (λ (z : ℕ). share_of fg (get_or area z nan)) q
-
 -- in a row of one area
 pub at_level : (area fg more : List Float) (i : ℕ) → Level area i → more ≡ share_of fg (get_or area i nan)
     → (k : ℕ) → i ≤ k → k < i + tile_width → more ≡ share_of fg (get_or area k nan)

@@ -1,7 +1,7 @@
 // A colour laid over a tile's pixels, row by row. A pixel's four floats are written out, and so are a row's
 // pixels: with no loop over pixels the compiler keeps a pixel in one register. Of a row whose areas are all
 // the same, what is added is computed once.
-ghost use Rattle.std.specs.Prelude.{◌≡◌, true, false, ◌+◌, ◌≤◌, ◌<◌, length, get_or};
+ghost use Rattle.std.specs.Prelude.{◌≡◌, true, false, List, ℕ, ◌+◌, ◌≤◌, ◌<◌, length, get_or, Float};
 ghost use Rattle.std.specs.Float.{nan};
 ghost use Rattle.float32.specs.Meaning.{sign_of};
 ghost use Rattle.lists.specs.Grid.{mapi, within};
@@ -9,6 +9,7 @@ ghost use Rattle.sides.specs.Tile.{tile_width, tile_height, tile_size, row_start
 ghost use Rattle.colours.specs.Colour.{composite_of};
 ghost use Rattle.colours.specs.Layer.{share_of, mix_of, mixed, each, onto, meant, NoMinus, Level};
 
+use crate::over;
 use sides::{TILE_HEIGHT, TILE_SIZE, TILE_WIDTH};
 
 // What is added to a pixel of which the colour fg covers the part ai.
@@ -31,66 +32,97 @@ pub fn mix(px: [f32; 4], more: [f32; 4]) -> [f32; 4]
     ]
 }
 
-// To pixel i.
-pub fn add(rgba: &mut [[f32; 4]; TILE_SIZE], i: usize, more: [f32; 4])
-    requires { i < tile_size }
-    ensures { rgba.new ≡ mapi (within i (i + 1) (mixed more)) rgba.old }
+// What a pixel may become: by its place, and by what it is.
+pub trait Lay {
+    ghost laid: { Self → ℕ → List Float → List Float };
+
+    ghost ready: { Self → Type 0 };
+
+    fn lay(&self, i: usize, px: [f32; 4]) -> [f32; 4]
+        requires { ready self.now × (i < tile_size) }
+        ensures { result ≡ laid self.now i px };
+}
+
+// The same is added to each pixel.
+#[derive(Clone, Copy)]
+pub struct Same {
+    pub more: [f32; 4],
+}
+
+impl Lay for Same {
+    ghost laid = { λ s. mixed s.more };
+
+    ghost ready = { λ s. Unit {0} };
+
+    fn lay(&self, i: usize, px: [f32; 4]) -> [f32; 4] {
+        mix(px, self.more)
+    }
+}
+
+// The colour fg over each pixel, by its area.
+#[derive(Clone, Copy)]
+pub struct Each<'a> {
+    pub fg: [f32; 4],
+    pub area: &'a [f32],
+}
+
+impl<'a> Lay for Each<'a> {
+    ghost laid = { λ s. each s.area.now s.fg };
+
+    ghost ready = { λ s. length s.area.now ≡ tile_size };
+
+    fn lay(&self, i: usize, px: [f32; 4]) -> [f32; 4] {
+        over(px, self.fg, self.area[i])
+    }
+}
+
+// The colour fg over `one`, put down as each pixel, by its area.
+#[derive(Clone, Copy)]
+pub struct Onto<'a> {
+    pub one: [f32; 4],
+    pub fg: [f32; 4],
+    pub area: &'a [f32],
+}
+
+impl<'a> Lay for Onto<'a> {
+    ghost laid = { λ s. onto s.area.now s.fg s.one };
+
+    ghost ready = { λ s. length s.area.now ≡ tile_size };
+
+    fn lay(&self, i: usize, px: [f32; 4]) -> [f32; 4] {
+        over(self.one, self.fg, self.area[i])
+    }
+}
+
+// Pixel i.
+pub fn one<L: Lay>(rgba: &mut [[f32; 4]; TILE_SIZE], i: usize, layer: &L)
+    requires { L.ready layer.now × (i < tile_size) }
+    ensures { rgba.new ≡ mapi (within i (i + 1) (L.laid layer.now)) rgba.old }
 {
-    let px = rgba[i];
-    let next = mix(px, more);
+    let next = layer.lay(i, rgba[i]);
     rgba[i] = next;
 }
 
-// To four pixels from i on.
-pub fn add_four(rgba: &mut [[f32; 4]; TILE_SIZE], i: usize, more: [f32; 4])
-    requires { i + 4 ≤ tile_size }
-    ensures { rgba.new ≡ mapi (within i (i + 4) (mixed more)) rgba.old }
+// Four pixels from i on.
+pub fn four<L: Lay>(rgba: &mut [[f32; 4]; TILE_SIZE], i: usize, layer: &L)
+    requires { L.ready layer.now × (i + 4 ≤ tile_size) }
+    ensures { rgba.new ≡ mapi (within i (i + 4) (L.laid layer.now)) rgba.old }
 {
-    add(rgba, i, more);
-    add(rgba, i + 1, more);
-    add(rgba, i + 2, more);
-    add(rgba, i + 3, more);
+    one(rgba, i, layer);
+    one(rgba, i + 1, layer);
+    one(rgba, i + 2, layer);
+    one(rgba, i + 3, layer);
 }
 
-// To a row of pixels from i on.
-pub fn add_row(rgba: &mut [[f32; 4]; TILE_SIZE], i: usize, more: [f32; 4])
-    requires { i + tile_width ≤ tile_size }
-    ensures { rgba.new ≡ mapi (within i (i + tile_width) (mixed more)) rgba.old }
+// A row of pixels from i on.
+pub fn row<L: Lay>(rgba: &mut [[f32; 4]; TILE_SIZE], i: usize, layer: &L)
+    requires { L.ready layer.now × (i + tile_width ≤ tile_size) }
+    ensures { rgba.new ≡ mapi (within i (i + tile_width) (L.laid layer.now)) rgba.old }
 {
-    add_four(rgba, i, more);
-    add_four(rgba, i + 4, more);
-    add_four(rgba, i + 8, more);
-    add_four(rgba, i + 12, more);
-}
-
-// The colour fg over pixel i, by its area.
-pub fn lay(rgba: &mut [[f32; 4]; TILE_SIZE], i: usize, fg: [f32; 4], area: &[f32])
-    requires { (i < tile_size) × (length area.now ≡ tile_size) }
-    ensures { rgba.new ≡ mapi (within i (i + 1) (each area.now fg)) rgba.old }
-{
-    add(rgba, i, share(fg, area[i]));
-}
-
-// Over four pixels from i on.
-pub fn lay_four(rgba: &mut [[f32; 4]; TILE_SIZE], i: usize, fg: [f32; 4], area: &[f32])
-    requires { (i + 4 ≤ tile_size) × (length area.now ≡ tile_size) }
-    ensures { rgba.new ≡ mapi (within i (i + 4) (each area.now fg)) rgba.old }
-{
-    lay(rgba, i, fg, area);
-    lay(rgba, i + 1, fg, area);
-    lay(rgba, i + 2, fg, area);
-    lay(rgba, i + 3, fg, area);
-}
-
-// Over a row of pixels from i on.
-pub fn lay_row(rgba: &mut [[f32; 4]; TILE_SIZE], i: usize, fg: [f32; 4], area: &[f32])
-    requires { (i + tile_width ≤ tile_size) × (length area.now ≡ tile_size) }
-    ensures { rgba.new ≡ mapi (within i (i + tile_width) (each area.now fg)) rgba.old }
-{
-    lay_four(rgba, i, fg, area);
-    lay_four(rgba, i + 4, fg, area);
-    lay_four(rgba, i + 8, fg, area);
-    lay_four(rgba, i + 12, fg, area);
+    four(rgba, i, layer);
+    four(rgba, i + 4, layer);
+    four(rgba, i + 8, layer);
+    four(rgba, i + 12, layer);
 }
 
 // Whether an area is v. Neither has a minus sign: of two zeros `==` can't tell which is -0.
@@ -122,49 +154,6 @@ pub fn all_level(area: &[f32], i: usize) -> bool
         & four_level(area, i + 12, v)
 }
 
-// The colour fg over `one`, put down as pixel i, by its area.
-pub fn lay_on(rgba: &mut [[f32; 4]; TILE_SIZE], i: usize, one: [f32; 4], fg: [f32; 4], area: &[f32])
-    requires { (i < tile_size) × (length area.now ≡ tile_size) }
-    ensures { rgba.new ≡ mapi (within i (i + 1) (onto area.now fg one)) rgba.old }
-{
-    let next = mix(one, share(fg, area[i]));
-    rgba[i] = next;
-}
-
-// As four pixels from i on.
-pub fn lay_on_four(
-    rgba: &mut [[f32; 4]; TILE_SIZE],
-    i: usize,
-    one: [f32; 4],
-    fg: [f32; 4],
-    area: &[f32],
-)
-    requires { (i + 4 ≤ tile_size) × (length area.now ≡ tile_size) }
-    ensures { rgba.new ≡ mapi (within i (i + 4) (onto area.now fg one)) rgba.old }
-{
-    lay_on(rgba, i, one, fg, area);
-    lay_on(rgba, i + 1, one, fg, area);
-    lay_on(rgba, i + 2, one, fg, area);
-    lay_on(rgba, i + 3, one, fg, area);
-}
-
-// As a row of pixels from i on.
-pub fn lay_on_row(
-    rgba: &mut [[f32; 4]; TILE_SIZE],
-    i: usize,
-    one: [f32; 4],
-    fg: [f32; 4],
-    area: &[f32],
-)
-    requires { (i + tile_width ≤ tile_size) × (length area.now ≡ tile_size) }
-    ensures { rgba.new ≡ mapi (within i (i + tile_width) (onto area.now fg one)) rgba.old }
-{
-    lay_on_four(rgba, i, one, fg, area);
-    lay_on_four(rgba, i + 4, one, fg, area);
-    lay_on_four(rgba, i + 8, one, fg, area);
-    lay_on_four(rgba, i + 12, one, fg, area);
-}
-
 // The colour over row y, whose areas are all the same: what is added is computed once. A flat row stays flat.
 pub fn over_level(
     rgba: &mut [[f32; 4]; TILE_SIZE],
@@ -180,9 +169,9 @@ pub fn over_level(
     let i = TILE_WIDTH * y;
     let more = share(fg, area[i]);
     if flat[y] {
-        add(rgba, i, more)
+        one(rgba, i, &Same { more })
     } else {
-        add_row(rgba, i, more)
+        row(rgba, i, &Same { more })
     }
 }
 
@@ -200,11 +189,19 @@ pub fn over_slope(
 {
     let i = TILE_WIDTH * y;
     if flat[y] {
-        let one = rgba[i];
+        let first = rgba[i];
         flat[y] = false;
-        lay_on_row(rgba, i, one, fg, area)
+        row(
+            rgba,
+            i,
+            &Onto {
+                one: first,
+                fg,
+                area,
+            },
+        )
     } else {
-        lay_row(rgba, i, fg, area)
+        row(rgba, i, &Each { fg, area })
     }
 }
 
@@ -239,9 +236,7 @@ pub fn composite(
     ensures { (length rgba.new ≡ tile_size)
         × (meant flat.new rgba.new ≡ composite_of area.now fg (meant flat.old rgba.old)) }
 {
-    let mut y = 0usize;
-    while y < TILE_HEIGHT {
+    for y in 0..TILE_HEIGHT {
         over_any(rgba, flat, y, fg, area);
-        y += 1;
     }
 }

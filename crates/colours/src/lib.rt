@@ -9,6 +9,7 @@ ghost use Rattle.std.specs.Prelude.{◌≡◌, ◌<◌};
 ghost use Rattle.colours.specs.Colour.{byte_many, channel_of, colour_of, over_of, byte_of, pack_of};
 
 use float32::pick;
+use layer::{mix, share};
 
 // One byte of a packed colour, from the bit `shift` on, as a float from 0 to 1.
 pub fn channel(x: u32, shift: u32) -> f32
@@ -29,17 +30,7 @@ pub fn colour(x: u32) -> [f32; 4]
 pub fn over(px: [f32; 4], fg: [f32; 4], ai: f32) -> [f32; 4]
     ensures { result ≡ over_of fg ai px }
 {
-    let r = fg[0] * ai;
-    let g = fg[1] * ai;
-    let b = fg[2] * ai;
-    let a = fg[3] * ai;
-    let keep = 1.0 - a;
-    [
-        px[0] * keep + r,
-        px[1] * keep + g,
-        px[2] * keep + b,
-        px[3] * keep + a,
-    ]
+    mix(px, share(fg, ai))
 }
 
 // 1/2 less 1/512 and 1/2^25: the two roundings of `byte` make up for what is missing.

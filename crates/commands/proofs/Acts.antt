@@ -10,8 +10,8 @@ use lib.Ieee.{Float}
 use Rattle.lists.specs.Grid.{mapi}
 use Rattle.lists.specs.GridLaws.{mapi_is, get_d_mapi, length_mapi}
 use Rattle.panel.specs.Refusals.{past_end}
-use Rattle.panel.specs.declared.kinds.Verdict.{Verdict}
-use Rattle.panel.specs.declared.kinds.Verdict.TheVariants.{Fine, Against}
+use Rattle.panel.specs.Verdict.{Verdict}
+use Rattle.panel.specs.Verdict.{Fine, Against}
 use Rattle.coverage.specs.Ground.{ground_of}
 use Rattle.coverage.proofs.Grounds.{ground_room}
 use Rattle.commands.specs.Moves.{count_of, on_ground, fill_move, whole_move, move_of}
@@ -21,8 +21,8 @@ use Rattle.commands.specs.declared.steps.Op.{Op}
 use Rattle.commands.specs.declared.steps.Op.TheVariants as Op'
 use Rattle.commands.specs.declared.steps.Act.{Act}
 use Rattle.commands.specs.declared.steps.Act.TheVariants.{Fill, Solid, Color, Jump}
-use Rattle.commands.specs.declared.steps.Move.{Move}
-use Rattle.commands.specs.declared.steps.Move.TheVariants.{Refused, Goes}
+use Rattle.commands.specs.Move.{Move}
+use Rattle.commands.specs.Move.{Refused, Goes}
 
 -- ---- lists
 pub unchanged : {A : Type 0} (d : A) (l : List A) → l ≡ mapi (λ k x. x) l

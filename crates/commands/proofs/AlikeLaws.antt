@@ -8,11 +8,11 @@ use borrow.Author.Tests.{eqb-true}
 use lib.Ieee.{Float}
 use Rattle.util.specs.Constants.{zero}
 use Rattle.panel.specs.Limits.{most_commands}
-use Rattle.panel.specs.declared.kinds.Verdict.{Verdict}
-use Rattle.panel.specs.declared.kinds.Verdict.TheVariants.{Fine}
+use Rattle.panel.specs.Verdict.{Verdict}
+use Rattle.panel.specs.Verdict.{Fine}
 use Rattle.reader.specs.Look.{look_at}
-use Rattle.reader.specs.declared.Look.{Look}
-use Rattle.reader.specs.declared.Look.TheVariants.{Word, Past}
+use Rattle.reader.specs.Looked.{Look}
+use Rattle.reader.specs.Looked.{Word, Past}
 use Rattle.commands.specs.Moves.{ends, trace_of}
 use Rattle.commands.specs.Pixel.{point_of, ran, run_of}
 use Rattle.commands.specs.Alike.{run_from, is_end, ends_here}

@@ -1,24 +1,25 @@
--- Commands as words: what is encoded at a place is what is read there, and the next one stands past it. And stores, one by one. Assumes nothing.
+-- Commands as words: what is encoded at a place is what is read there, and the next one stands past it. And words put over a part. Assumes nothing.
 use mathlib.Core.Path.{◌≡◌, refl, sym, ap, ◌∙◌}
-use mathlib.Core.List.{List, [], ◌∷◌}
+use mathlib.Core.List.{List, [], ◌∷◌, ◌++◌, append_assoc}
 use Prim.Native.Nat.{ℕ, suc, ◌+◌, ◌-◌, ◌*◌, ◌≤◌, ◌<◌}
 use native.Mathlib.Nat.{add-zero}
 use native.Mathlib.Omega.{arith}
-use lib.ListN.{length, get_or, set}
-use lib.Seq.{sets, length-sets}
+use lib.ListN.{length, get_or, take, drop}
+use lib.Seq.{sets, sets-eq, length-sets, drop-drop}
+use borrow.Rule.Slice.PartMut.{put_mid}
 use lib.Ieee.{Float}
 use borrow.Author.Tests.{lt-ltb, le-leb}
 use Rattle.lists.specs.Cells.{get_d_sets_in}
-use Rattle.panel.specs.declared.kinds.Verdict.{Verdict}
-use Rattle.panel.specs.declared.kinds.Verdict.TheVariants.{Fine}
+use Rattle.panel.specs.Verdict.{Verdict}
+use Rattle.panel.specs.Verdict.{Fine}
 use Rattle.coverage.specs.Ground.{ground_of}
 use Rattle.reader.specs.Look.{look_at}
-use Rattle.reader.specs.declared.Look.TheVariants.{Word}
+use Rattle.reader.specs.Looked.{Word}
 use Rattle.commands.specs.Numbers.{end_no, solid_no, encode_to, encode, fill_words, solid_words, color_words, jump_words, tile_words, list_start}
 use Rattle.commands.specs.Moves.{op_of, count_of, on_ground, fill_move, whole_move, move_of, ends, does, trace_of}
 use Rattle.commands.specs.declared.steps.Act.{Act}
 use Rattle.commands.specs.declared.steps.Act.TheVariants.{Fill, Solid, Color, Jump}
-use Rattle.commands.specs.declared.steps.Move.TheVariants.{Goes}
+use Rattle.commands.specs.Move.{Goes}
 use Rattle.commands.proofs.Traced.{trace_end, trace_goes}
 
 -- ---- words in memory
@@ -109,14 +110,8 @@ twenty_solids = omega arith
 pub no_more_solids : tile_words - list_start < 21 * (solid_words + color_words) + jump_words
 no_more_solids = omega arith
 
--- ---- stores, one by one
-
-pub two_stores : (l : List ℕ) (i a b : ℕ) → set (set l i a) (i + 1) b ≡ sets l i (a ∷ b ∷ [])
-two_stores l i a b = let one : i + 1 ≡ suc i = omega arith in rw one
-
-pub four_stores : (l : List ℕ) (i a b c d : ℕ) → set (set (set (set l i a) (i + 1) b) (i + 2) c) (i + 3) d ≡ sets l i (a ∷ b ∷ c ∷ d ∷ [])
-four_stores l i a b c d =
-    let one : i + 1 ≡ suc i = omega arith in
-    let two : i + 2 ≡ suc (suc i) = omega arith in
-    let three : i + 3 ≡ suc (suc (suc i)) = omega arith in
-    rw (one, two, three)
+-- ---- words put over a part
+pub put_over : (l : List ℕ) (i k : ℕ) (ys vs : List ℕ) → i + length vs ≤ length l → ys ≡ vs → k ≡ length vs → put_mid i k l ys ≡ sets l i vs
+put_over l i k ys vs h e n =
+    ap (put_mid i k l) e ∙ ap (λ (r : List ℕ). take i l ++ (vs ++ r)) (drop-drop k i l ∙ ap (λ (m : ℕ). drop (i + m) l) n)
+    ∙ sym (append_assoc (take i l) vs (drop (i + length vs) l)) ∙ sym (sets-eq vs l i h)

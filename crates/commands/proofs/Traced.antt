@@ -12,20 +12,20 @@ use Rattle.lists.specs.Grid.{mapi}
 use Rattle.lists.specs.GridLaws.{mapi_mapi, get_d_mapi}
 use Rattle.panel.specs.Refusals.{past_end, too_long_word}
 use Rattle.panel.specs.Limits.{most_commands}
-use Rattle.panel.specs.declared.kinds.Verdict.{Verdict}
-use Rattle.panel.specs.declared.kinds.Verdict.TheVariants.{Fine, Against}
+use Rattle.panel.specs.Verdict.{Verdict}
+use Rattle.panel.specs.Verdict.{Fine, Against}
 use Rattle.sides.specs.Tile.{tile_size}
 use Rattle.reader.specs.Look.{look_at}
-use Rattle.reader.specs.declared.Look.{Look}
-use Rattle.reader.specs.declared.Look.TheVariants.{Word, Past}
+use Rattle.reader.specs.Looked.{Look}
+use Rattle.reader.specs.Looked.{Word, Past}
 use Rattle.commands.specs.Numbers.{end_no}
 use Rattle.commands.specs.Moves.{op_of, move_of, Trace, ends, does, on_look, on_move, trace_of, end_of}
 use Rattle.commands.specs.Pixel.{cover, paint, point, point_of, cover_all, paint_all, ran}
 use Rattle.commands.specs.Alike.{same_area, run_from, left}
 use Rattle.commands.specs.declared.steps.Op.{Op}
 use Rattle.commands.specs.declared.steps.Act.{Act}
-use Rattle.commands.specs.declared.steps.Move.{Move}
-use Rattle.commands.specs.declared.steps.Move.TheVariants.{Refused, Goes}
+use Rattle.commands.specs.Move.{Move}
+use Rattle.commands.specs.Move.{Refused, Goes}
 use Rattle.commands.proofs.Acts.{unchanged, mapi_cong}
 
 -- ---- the run

@@ -5,8 +5,8 @@ use Rattle.std.specs.Float.{nan}
 use Rattle.lists.specs.Grid.{mapi}
 use Rattle.sides.specs.Tile.{tile_size}
 use Rattle.reader.specs.Look.{look_at}
-use Rattle.reader.specs.declared.Look.{Look}
-use Rattle.reader.specs.declared.Look.TheVariants.{Word, Past}
+use Rattle.reader.specs.Looked.{Look}
+use Rattle.reader.specs.Looked.{Word, Past}
 use Rattle.commands.specs.Numbers.{end_no}
 use Rattle.commands.specs.Moves.{Trace, end_of}
 use Rattle.commands.specs.Pixel.{point, point_of, Ran, ran}

@@ -3,3 +3,4 @@ pub mod Numbers
 pub mod Moves
 pub mod Pixel
 pub mod Alike
+pub mod Move

@@ -1,19 +1,19 @@
 -- How a tile's commands run: which is where, what each is, where the next one stands, and how they end. No pixels here. Definitions only.
 use Rattle.std.specs.Prelude.{cond, List, ℕ, zero, suc, ◌+◌, ◌-◌, ◌/◌, leb, eqb, length, get_or, Float}
 use Rattle.panel.specs.Refusals.{past_end, unknown, too_long_word}
-use Rattle.panel.specs.declared.kinds.Verdict.{Verdict}
-use Rattle.panel.specs.declared.kinds.Verdict.TheVariants.{Fine, Against}
+use Rattle.panel.specs.Verdict.{Verdict}
+use Rattle.panel.specs.Verdict.{Fine, Against}
 use Rattle.coverage.specs.Ground.{ground_of}
 use Rattle.reader.specs.Look.{look_at}
-use Rattle.reader.specs.declared.Look.{Look}
-use Rattle.reader.specs.declared.Look.TheVariants.{Word, Past}
+use Rattle.reader.specs.Looked.{Look}
+use Rattle.reader.specs.Looked.{Word, Past}
 use Rattle.commands.specs.Numbers.{end_no, fill_no, solid_no, color_no, jump_no, fill_words, solid_words, color_words, words_of}
 use Rattle.commands.specs.declared.steps.Op.{Op}
 use Rattle.commands.specs.declared.steps.Op.TheVariants.{Fill, Solid, Color, Jump, Unknown}
 use Rattle.commands.specs.declared.steps.Act.{Act}
 use Rattle.commands.specs.declared.steps.Act.TheVariants as Does
-use Rattle.commands.specs.declared.steps.Move.{Move}
-use Rattle.commands.specs.declared.steps.Move.TheVariants.{Refused, Goes}
+use Rattle.commands.specs.Move.{Move}
+use Rattle.commands.specs.Move.{Refused, Goes}
 
 -- what a command's first word asks for
 unfoldable pub op_of : ℕ → Op

@@ -5,7 +5,7 @@ use Rattle.util.specs.Constants.{zero, one}
 use Rattle.lists.specs.Grid.{mapi}
 use Rattle.panel.specs.Limits.{most_commands}
 use Rattle.panel.specs.Widths.{segment_floats}
-use Rattle.panel.specs.declared.kinds.Verdict.{Verdict}
+use Rattle.panel.specs.Verdict.{Verdict}
 use Rattle.coverage.specs.Coverage.{pixel_of}
 use Rattle.colours.specs.Colour.{colour_of, over_of}
 use Rattle.commands.specs.Moves.{count_of, Trace, ends, does, trace_of, end_of}

@@ -14,9 +14,9 @@ use Rattle.float32.proofs.Laws.{cover_in}
 use Rattle.util.specs.Constants as Number
 use Rattle.panel.specs.Checks.{first_no, unless}
 use Rattle.panel.specs.Kinds.{paper_of}
-use Rattle.panel.specs.declared.kinds.Answer.TheVariants.{Done}
-use Rattle.panel.specs.declared.kinds.Verdict.{Verdict}
-use Rattle.panel.specs.declared.kinds.Verdict.TheVariants.{Fine, Against}
+use Rattle.panel.specs.Answer.{Done}
+use Rattle.panel.specs.Verdict.{Verdict}
+use Rattle.panel.specs.Verdict.{Fine, Against}
 use Rattle.lists.specs.GridLaws.{get_d_tabulate}
 use Rattle.sides.specs.Tile.{tile_size}
 use Rattle.one_row.specs.Row.{slanted, edged, step_row, step_way, step_segment}

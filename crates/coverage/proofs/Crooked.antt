@@ -1,6 +1,5 @@
 -- The segments of a fill, one by one: all are straight, or one of them isn't. Assumes nothing.
-use mathlib.Core.Path.{◌≡◌, refl, sym, ap, subst, ◌∙◌}
-use mathlib.Core.Logic.{◌⊎◌, inl, inr}
+use mathlib.Core.Path.{◌≡◌, refl, sym, ap, ◌∙◌}
 use mathlib.Core.Bool.{Bool, true, false, ◌&&◌}
 use mathlib.Core.List.{List}
 use Prim.Native.Nat.{ℕ, zero, suc, ◌+◌, ◌<◌}
@@ -9,7 +8,6 @@ use native.Mathlib.Numerals.{add-one}
 use native.Mathlib.Omega.{arith}
 use lib.Ieee.{Float}
 use Rattle.panel.specs.Segments.{segment_at, straight_of}
-use Rattle.panel.proofs.BoolLaws.{both, one_false}
 use Rattle.panel.specs.declared.segments.Segment.{Segment}
 use Rattle.coverage.specs.Ground.{straight_from}
 

@@ -8,7 +8,7 @@ use lib.Ieee.{Float}
 use borrow.Author.Tests.{leb-true}
 use Rattle.panel.specs.Widths.{segment_floats}
 use Rattle.panel.proofs.CheckLaws.{all_ok}
-use Rattle.panel.specs.declared.kinds.Verdict.TheVariants.{Fine}
+use Rattle.panel.specs.Verdict.{Fine}
 use Rattle.coverage.specs.Ground.{ground_checks, ground_of}
 
 pub ground_room : (segs : List Float) (first n : ℕ) → ground_of segs first n ≡ Fine → segment_floats * (first + n) ≤ length segs

@@ -4,10 +4,10 @@ use Rattle.panel.specs.Checks.{Check, check, first_no, unless}
 use Rattle.panel.specs.Kinds.{paper_of}
 use Rattle.panel.specs.Refusals.{not_whole}
 use Rattle.panel.specs.Widths.{segment_floats}
-use Rattle.panel.specs.declared.kinds.Answer.{Answer}
-use Rattle.panel.specs.declared.kinds.Answer.TheVariants.{Done}
-use Rattle.panel.specs.declared.kinds.Verdict.{Verdict}
-use Rattle.panel.specs.declared.kinds.Verdict.TheVariants.{Fine, Against}
+use Rattle.panel.specs.Answer.{Answer}
+use Rattle.panel.specs.Answer.{Done}
+use Rattle.panel.specs.Verdict.{Verdict}
+use Rattle.panel.specs.Verdict.{Fine, Against}
 use Rattle.sides.specs.Tile.{tile_size}
 use Rattle.coverage.specs.Coverage.{coverage_of}
 use Rattle.coverage.specs.Ground.{ground_checks}

@@ -5,7 +5,7 @@ use Rattle.panel.specs.Checks.{Check, check, first_no}
 use Rattle.panel.specs.Refusals.{past_end, bad_segment}
 use Rattle.panel.specs.Segments.{segment_at, straight_of}
 use Rattle.panel.specs.Widths.{segment_floats}
-use Rattle.panel.specs.declared.kinds.Verdict.{Verdict}
+use Rattle.panel.specs.Verdict.{Verdict}
 
 -- the n segments from the first on: whether a fill takes each
 unfoldable pub straight_from : List Float → ℕ → ℕ → Bool

@@ -8,42 +8,33 @@ ghost use Rattle.sides.specs.Tile.{tile_size};
 ghost use Rattle.coverage.specs.Coverage.{area_after, finish_of, coverage_of};
 
 use float32::{of_i32, pick, round};
-use narrow::{columns, parts};
+use narrow::Tables;
 use one_row::{up_to_one, way_of};
 use one_segment::add_segment;
 use panel::segments::segment_at;
 use sides::TILE_SIZE;
+use tile_rows::rows::Rows;
 
-// The n segments from the first on, in order. The two lists are made once and lent, as one made in each row would be
-// written there each time.
+// The n segments from the first on, in order. Room for a segment's rows is made once, as it would be cleared for each.
 pub fn add_segments(area: &mut [f32], segments: &[f32], first: usize, n: usize, xt: f32, yt: f32)
     requires { (length area.old ≡ tile_size) × (segment_floats * (first + n) ≤ length segments.now) }
     ensures { area.new ≡ mapi (area_after segments.now first xt yt n) area.old }
 {
-    let cols = columns();
-    let parts = parts();
-    let mut j = 0usize;
-    while j < n {
-        add_segment(
-            area,
-            way_of(segment_at(segments, first + j), xt),
-            yt,
-            &cols,
-            &parts,
-        );
-        j += 1;
+    let tables = Tables::new();
+    let mut rows = Rows::new();
+    for j in 0..n {
+        let s = segment_at(segments, first + j);
+        add_segment(area, way_of(s, xt), yt, &tables, &mut rows);
     }
 }
 
-// One value at each pixel.
+// One value at each pixel. The loop's end is a constant, which the compiler does not know of `area.fill`, nor of `iter_mut`.
 pub fn set_all(area: &mut [f32], v: f32)
     requires { length area.old ≡ tile_size }
     ensures { area.new ≡ mapi (λ k x. v) area.old }
 {
-    let mut i = 0usize;
-    while i < TILE_SIZE {
+    for i in 0..TILE_SIZE {
         area[i] = v;
-        i += 1;
     }
 }
 
@@ -70,10 +61,8 @@ pub fn finish_all(area: &mut [f32], eo: bool)
     requires { length area.old ≡ tile_size }
     ensures { area.new ≡ mapi (λ k x. finish_of eo x) area.old }
 {
-    let mut i = 0usize;
-    while i < TILE_SIZE {
+    for i in 0..TILE_SIZE {
         area[i] = finish(eo, area[i]);
-        i += 1;
     }
 }
 

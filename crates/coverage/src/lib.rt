@@ -6,25 +6,27 @@ pub mod area;
 pub mod ground;
 
 ghost use Rattle.std.specs.Prelude.{◌≡◌};
+ghost use Rattle.panel.specs.Answer.{answer_told};
 ghost use Rattle.panel.specs.Checks.{first_no};
+ghost use Rattle.panel.specs.Verdict.{verdict_told};
 ghost use Rattle.coverage.specs.Fill.{fill_checks, FillMet};
 
 use area::fill_path;
 use ground::ground;
-use panel::kinds::{Answer, Verdict};
-use panel::refusals::NOT_WHOLE;
+use panel::kinds::Refused;
+use panel::refusals::Refusal;
 use panel::widths::SEGMENT_FLOATS;
 use sides::TILE_SIZE;
 
 // What is checked first: whole segments and an area of a tile's size (1), then the fill's segments.
-pub fn check_fill(segments: &[f32], area: usize, first: u32, number: u32) -> Verdict
-    ensures { result ≡ first_no (fill_checks segments.now area first number) }
+pub fn check_fill(segments: &[f32], area: usize, first: u32, number: u32) -> Result<(), Refusal>
+    ensures { verdict_told result ≡ first_no (fill_checks segments.now area first number) }
 {
     if segments.len() % SEGMENT_FLOATS != 0 {
-        return Verdict::Against(NOT_WHOLE);
+        return Err(Refusal::NotWhole);
     }
     if area != TILE_SIZE {
-        return Verdict::Against(NOT_WHOLE);
+        return Err(Refusal::NotWhole);
     }
     ground(segments, first, number)
 }
@@ -40,13 +42,10 @@ pub fn fill(
     x_tile: f32,
     y_tile: f32,
     area: &mut [f32],
-) -> Answer
-    ensures { FillMet segments.now first number even_odd backdrop x_tile y_tile area.old result area.new }
+) -> Result<(), Refused>
+    ensures { FillMet segments.now first number even_odd backdrop x_tile y_tile area.old (answer_told result) area.new }
 {
-    let v = check_fill(segments, area.len(), first, number);
-    if let Verdict::Against(no) = v {
-        return Answer::Refused(no, 0);
-    }
+    check_fill(segments, area.len(), first, number)?;
     fill_path(
         area,
         segments,
@@ -57,5 +56,5 @@ pub fn fill(
         x_tile,
         y_tile,
     );
-    Answer::Done
+    Ok(())
 }

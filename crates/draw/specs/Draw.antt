@@ -5,14 +5,14 @@ use Rattle.panel.specs.Kinds.{running_of}
 use Rattle.panel.specs.Checks.{first_no}
 use Rattle.panel.specs.Pieces.{Pieces}
 use Rattle.panel.specs.declared.kinds.Running.{Running}
-use Rattle.panel.specs.declared.kinds.Verdict.{Verdict}
-use Rattle.panel.specs.declared.kinds.Verdict.TheVariants.{Fine, Against}
+use Rattle.panel.specs.Verdict.{Verdict}
+use Rattle.panel.specs.Verdict.{Fine, Against}
 use Rattle.frame.specs.Frame as Frame
 use Rattle.pairs.specs.Pairs.{tables}
 use Rattle.page_check.specs.Page.{page_checks}
 use Rattle.paint.specs.Paint.{paper_of, Painted, paint_of, painted_of}
-use Rattle.paint.specs.declared.kinds.Drawn.{Drawn}
-use Rattle.paint.specs.declared.kinds.Drawn.TheVariants.{Done, Refused}
+use Rattle.paint.specs.Drawn.{Drawn}
+use Rattle.paint.specs.Drawn.{Done, Refused}
 
 -- ---- the answer on paper
 

@@ -11,29 +11,26 @@ use Rattle.panel.specs.Kinds as Kinds
 use Rattle.panel.specs.Checks.{first_no}
 use Rattle.panel.specs.Pieces.{Pieces}
 use Rattle.panel.specs.declared.kinds.Running.{Running}
-use Rattle.panel.specs.declared.kinds.Verdict.{Verdict}
-use Rattle.panel.specs.declared.kinds.Verdict.TheVariants.{Fine, Against}
-use Rattle.panel.specs.declared.kinds.Answer.{Answer}
-use Rattle.panel.specs.declared.kinds.Answer.TheVariants as Answer
+use Rattle.panel.specs.Verdict.{Verdict, Fine, Against}
+use Rattle.panel.specs.Answer.{Answer}
 use Rattle.panel.proofs.CheckLaws.{all_ok}
 use Rattle.path_tiling.specs.Tiling.{slots_of}
 use Rattle.path_tiling.proofs.WriteLaws.{length_applied}
 use Rattle.frame.specs.Frame as Frame
 use Rattle.frame.specs.Frame.{answer_on, stage_no}
 use Rattle.frame.specs.declared.kinds.Stage.{Stage}
-use Rattle.frame.specs.declared.kinds.Stage.TheVariants as Stage
-use Rattle.frame.specs.declared.kinds.Framed.{Framed}
-use Rattle.frame.specs.declared.kinds.Framed.TheVariants as Framed
+use Rattle.frame.specs.Framed.{Framed}
 use Rattle.fine.specs.Fine.{Shown, shown, fine_of}
 use Rattle.pairs.specs.Pairs.{Tables, tables}
 use Rattle.write_lists.specs.Lists.{Left, left, answer_of, on_done, lists_of, write_lists_of}
 use Rattle.lay_pairs.specs.Layout.{written}
 use Rattle.theorems.specs.Drawn.{drawn}
 use Rattle.theorems.proofs.Framing as Framing
-use Rattle.list_theorems.specs.Written.{AllI32, Holds, Wrote}
+use Rattle.list_theorems.specs.Written.{AllI32, Holds}
 use Rattle.page_check.specs.Page.{page_checks}
-use Rattle.paint.specs.Paint.{Painted, paper_of, paint_of, painted_of, go_on, lists_no, fine_no}
-use Rattle.paint.specs.declared.kinds.Drawn.TheVariants.{Done, Refused}
+use Rattle.paint.specs.Parts.{lists_no, fine_no}
+use Rattle.paint.specs.Paint.{Painted, paper_of, paint_of, painted_of, go_on}
+use Rattle.paint.specs.Drawn.{Done, Refused}
 use Rattle.draw.specs.Draw.{Out, out_of, framed_of, draw_of, drawn_on, after_frame, with_paint, unless_no}
 use Rattle.picture.specs.Picture.{picture_of}
 use Rattle.picture.proofs.Pictures.{frame_shows}

@@ -1,6 +1,6 @@
 -- What a line's checks tell, and all lines'. Assumes nothing.
 use mathlib.Core.Path.{◌≡◌, refl, sym, ◌∙◌}
-use mathlib.Core.Bool.{Bool, true, false, ◌&&◌}
+use mathlib.Core.Bool.{true, false, ◌&&◌}
 use mathlib.Core.List.{List, [], ◌∷◌}
 use Prim.Native.Nat.{ℕ, zero, suc, ◌+◌, ◌-◌, ◌≤◌, ◌<◌}
 use native.Mathlib.Numerals.{add-one}
@@ -14,8 +14,8 @@ use Rattle.panel.specs.Limits.{most_lines, edge_most}
 use Rattle.panel.specs.Refusals.{bad_box, line_number, coordinate, no_such}
 use Rattle.panel.specs.Checks.{check, first_no, unless}
 use Rattle.panel.specs.Lines.{line_at}
-use Rattle.panel.specs.declared.kinds.Answer.{Answer}
-use Rattle.panel.specs.declared.kinds.Answer.TheVariants.{Done, Refused}
+use Rattle.panel.specs.Answer.{Answer}
+use Rattle.panel.specs.Answer.{Done, Refused}
 use Rattle.panel.specs.declared.lines.LineEnds.{LineEnds}
 use Rattle.panel.proofs.BoolLaws.{both}
 use Rattle.panel.proofs.CheckLaws.{all_ok, unless_done}

@@ -6,8 +6,7 @@ use Rattle.panel.specs.Limits.{edge_most, most_lines}
 use Rattle.panel.specs.Refusals.{bad_box, line_number, coordinate, no_such}
 use Rattle.panel.specs.Checks.{check, first_no, unless}
 use Rattle.panel.specs.Lines.{line_at}
-use Rattle.panel.specs.declared.kinds.Answer.{Answer}
-use Rattle.panel.specs.declared.kinds.Answer.TheVariants as Answer
+use Rattle.panel.specs.Answer.{Answer}
 use Rattle.panel.specs.declared.lines.LineEnds.{LineEnds}
 use Rattle.exact.specs.Reach.{scaled}
 use Rattle.walk.specs.Lent.{reached_of, Reached}

@@ -4,12 +4,13 @@
 
 ghost use Rattle.std.specs.Prelude.{◌≡◌, ◌*◌, ◌≤◌, length};
 ghost use Rattle.panel.specs.Widths.{line_floats};
+ghost use Rattle.panel.specs.Answer.{answer_told};
 ghost use Rattle.end_tiles.specs.Lines.{tile_at, in_tiles, line_answer, lines_from};
 
-use panel::kinds::Answer;
+use panel::kinds::Refused;
 use panel::limits::{EDGE_MOST, MOST_LINES};
 use panel::lines::{LineEnds, line_at};
-use panel::refusals::{BAD_BOX, COORDINATE, LINE_NUMBER, NO_SUCH};
+use panel::refusals::Refusal;
 use setup::reached;
 use util::{TILE_SCALE, Vec2};
 
@@ -28,41 +29,34 @@ fn in_tiles(p: Vec2) -> bool
 }
 
 // Line l, with its path's number, among n paths: 5, 6 and 7 with the line's number, 3 with the path's.
-fn check_line(e: LineEnds, path: u32, n: u32, l: u32) -> Answer
-    ensures { result ≡ line_answer e path n l }
+fn check_line(e: LineEnds, path: u32, n: u32, l: u32) -> Result<(), Refused>
+    ensures { answer_told result ≡ line_answer e path n l }
 {
     let p0 = e.p0;
     let p1 = e.p1;
     if l >= MOST_LINES {
-        return Answer::Refused(LINE_NUMBER, l);
+        return Err(Refusal::LineNumber.at(l));
     }
     if !reached(p0, p1) {
-        return Answer::Refused(COORDINATE, l);
+        return Err(Refusal::Coordinate.at(l));
     }
     if path >= n {
-        return Answer::Refused(NO_SUCH, l);
+        return Err(Refusal::NoSuch.at(l));
     }
     let held = in_tiles(p0) & in_tiles(p1);
     if !held {
-        return Answer::Refused(BAD_BOX, path);
+        return Err(Refusal::BadBox.at(path));
     }
-    Answer::Done
+    Ok(())
 }
 
 // All lines, in order.
-pub fn check_lines(path_nos: &[u32], coords: &[f32], n: u32) -> Answer
+pub fn check_lines(path_nos: &[u32], coords: &[f32], n: u32) -> Result<(), Refused>
     requires { length path_nos.now * line_floats ≤ length coords.now }
-    ensures { result ≡ lines_from path_nos.now coords.now n (length path_nos.now) 0 }
+    ensures { answer_told result ≡ lines_from path_nos.now coords.now n (length path_nos.now) 0 }
 {
-    let mut l: u32 = 0;
-    while (l as usize) < path_nos.len() {
-        let e = line_at(coords, l);
-        let path = path_nos[l as usize];
-        let a = check_line(e, path, n, l);
-        if let Answer::Refused(no, item) = a {
-            return Answer::Refused(no, item);
-        }
-        l += 1;
+    for (l, path) in path_nos.iter().enumerate() {
+        check_line(line_at(coords, l as u32), *path, n, l as u32)?;
     }
-    Answer::Done
+    Ok(())
 }

@@ -1,13 +1,13 @@
 -- The loops over another's counts and slots: one turn of each, and its end. Assumes nothing.
-use mathlib.Core.Path.{◌≡◌, refl, sym, ap, subst, ◌∙◌}
+use mathlib.Core.Path.{◌≡◌, refl, ap, subst, ◌∙◌}
 use mathlib.Core.Bool.{Bool, true, false, not, cond, ◌&&◌}
-use mathlib.Core.Logic.{◌⊎◌, inl, inr, ⊎_elim}
+use mathlib.Core.Logic.{⊎_elim}
 use mathlib.Core.List.{List}
 use Prim.Native.Nat.{ℕ, ◌+◌, ◌≤◌, ◌<◌, ◌^◌}
 use native.Mathlib.Nat.{le_refl}
 use native.Mathlib.Numerals.{add-one}
 use native.Mathlib.Omega.{arith}
-use lib.Dec.{ltb, eqb}
+use lib.Dec.{ltb}
 use lib.ListN.{length, get_or, set, length-set}
 use lib.Seq.{get_or-set_same, get_or-set_other}
 use borrow.Author.Tests.{eq-eqb, ne_eqb, lt-ltb, ltb-false}
@@ -17,7 +17,7 @@ use Rattle.meeting.specs.First.{first_of}
 use Rattle.meeting.specs.Meeting.{meets_earlier, first_meeting, starts_at, lens_in}
 use Rattle.meeting.specs.Found.{KeptBelow}
 use Rattle.meeting.proofs.FirstLaws.{first_is, first_most, first_missed, first_or}
-use Rattle.meeting.proofs.Stores.{there_any, kept_less, kept_trans}
+use Rattle.meeting.proofs.Stores.{there_any}
 use Rattle.meeting.proofs.Windows.{meeting_same}
 use Rattle.entries.specs.Entries.{count_fault, first_count_fault, first_slot, slot_count, past_room, slot_fault, first_slot_fault}
 use Rattle.entries.specs.Noted.{noted_slot, SlotsNoted, SlotsTo, SumsNoted}

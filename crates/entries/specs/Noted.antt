@@ -1,5 +1,5 @@
 -- What the functions of this crate tell each other. Only proofs lean on it: no promise of a public call does. Definitions only.
-use Rattle.std.specs.Prelude.{◌≡◌, cond, List, ℕ, ◌+◌, ◌≤◌, ◌<◌, ltb, length, get_or}
+use Rattle.std.specs.Prelude.{◌≡◌, cond, List, ℕ, ◌+◌, ◌<◌, ltb, length, get_or}
 use Rattle.lists.specs.Sums.{first}
 use Rattle.panel.specs.Slots.{not32}
 use Rattle.meeting.specs.First.{first_of}

@@ -17,14 +17,12 @@ pub fn first_count(counts: &[u32], work: &[u32]) -> usize
     requires { length counts.now ≤ length work.now }
     ensures { result ≡ first_count_fault counts.now work.now }
 {
-    let mut t: usize = 0;
-    while t < counts.len() {
+    for t in 0..counts.len() {
         if counts[t] != work[t] {
             return t;
         }
-        t += 1;
     }
-    t
+    counts.len()
 }
 
 // Whether a tile with that count and that word has a slot past the room.
@@ -47,17 +45,15 @@ fn note_slots(counts: &[u32], stored: &[u32], room: u32, work: &mut [u32], at: u
     requires { (at + length counts.now ≤ length work.old) × (length stored.now ≡ length counts.now) }
     ensures { SlotsTo room counts.now stored.now work.old work.new at result }
 {
-    let mut t: usize = 0;
-    while t < counts.len() {
+    for t in 0..counts.len() {
         let count = counts[t];
         let word = stored[t];
         if past(count, word, room) {
             return t;
         }
         work[at + t] = noted(count, word);
-        t += 1;
     }
-    t
+    counts.len()
 }
 
 // The first tile whose slots are at fault; the number of tiles where none is. The room has a word for
@@ -87,11 +83,9 @@ pub fn sum_up(work: &mut [u32], n: usize, at: usize)
     ensures { KeptBelow at work.old work.new × SumsNoted work.old work.new at n }
 {
     let mut sum: u32 = 0;
-    let mut t: usize = 0;
-    while t < n {
+    for t in 0..n {
         let count = work[t];
         work[at + t] = sum;
         sum += count;
-        t += 1;
     }
 }

@@ -1,11 +1,11 @@
 -- A floor isn't above its number, a ceiling not below, and the floor's next whole number isn't either. Assumes nothing.
-use mathlib.Core.Path.{◌≡◌, refl, sym, ap, ◌∙◌, subst}
-use mathlib.Core.Bool.{Bool, true, false}
-use Prim.Native.Nat.{ℕ, suc, ◌+◌, ◌-◌, ◌*◌, ◌/◌, ◌%◌, ◌≤◌, ◌<◌}
-use native.Mathlib.Nat.{le_trans, le_of_eq, mul_assoc, mul_comm, mul_right_comm, add-mul, one-mul, mul-le-mul_right, mod-lt, div-add-mod', div-mul-le_self, lt-div-mul-add}
+use mathlib.Core.Path.{◌≡◌, refl, sym, ap, ◌∙◌}
+use mathlib.Core.Bool.{true, false}
+use Prim.Native.Nat.{ℕ, ◌+◌, ◌-◌, ◌*◌, ◌/◌, ◌%◌, ◌≤◌, ◌<◌}
+use native.Mathlib.Nat.{le_trans, le_of_eq, mul_right_comm, add-mul, one-mul, mul-le-mul_right, mod-lt, div-add-mod', div-mul-le_self, lt-div-mul-add}
 use native.Mathlib.Omega.{arith}
 use lib.Dec.{T}
-use lib.IntN.{ℤ, pos, neg_ℤ, ◌+ℤ◌}
+use lib.IntN.{pos, neg_ℤ, ◌+ℤ◌}
 use lib.Ieee.{Float, nan, inf, fin, binary32, up, down, lt, fits}
 use lib.Ieee.Fits.{down_pos}
 use lib.Ieee.Scale.{finite}

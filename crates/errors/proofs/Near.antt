@@ -1,7 +1,7 @@
 -- Two whole numbers that are near each other: neither is larger than the other by more than k parts in 2 ^ 24. Nothing here is about floats. Assumes nothing.
 --     near_trans    nearness adds up, with one part more for the product of the errors
 --     near_mul, near_cancel, near_sum, near_as   products, sums, and equal numbers
-use mathlib.Core.Path.{◌≡◌, refl, sym, ap, ◌∙◌, subst}
+use mathlib.Core.Path.{◌≡◌, sym, subst}
 use Prim.Native.Nat.{ℕ, ◌+◌, ◌*◌, ◌≤◌, ◌<◌}
 use native.Mathlib.Nat.{le_trans, le_of_eq, mul_assoc, mul_comm, mul_right_comm, mul-add, add-mul, mul-le-mul_left, mul-le-mul_right, le_of_mul-le-mul_right}
 use native.Mathlib.Omega.{arith}

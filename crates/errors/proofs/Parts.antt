@@ -4,7 +4,7 @@
 --     add_is, mul_is, one_over   sums, products, and 1 over a number
 --     le_parts                the order
 use mathlib.Core.Path.{◌≡◌, refl, sym, ap, ◌∙◌, subst}
-use mathlib.Core.Bool.{Bool, true, false, not, cond, true≢false, false≢true}
+use mathlib.Core.Bool.{Bool, true, false, cond, true≢false}
 use mathlib.Core.Logic.{◌⊎◌, inl, inr}
 use Prim.Native.Nat.{ℕ, zero, suc, ◌+◌, ◌-◌, ◌*◌, ◌^◌, ◌≤◌, ◌<◌}
 use native.Mathlib.Nat.{
@@ -25,13 +25,12 @@ use native.Mathlib.Nat.{
   mul-le-mul_right,
 }
 use native.Mathlib.Omega.{arith}
-use lib.Dec.{T, ltb, eqb, lit<}
-use lib.IntN.{ℤ, pos, negsuc}
+use lib.Dec.{T, eqb}
+use lib.IntN.{pos, negsuc}
 use lib.Pow.{pow-add, pow_pos, pow-lt}
 use lib.Ieee.{Float, nan, inf, fin, binary32, up, down, round, sum, add, mul, div, lt, le, fits, of_bits}
 use lib.Ieee.Bits.{is_true}
 use lib.Ieee.Fits.{down_pos, up_pos}
-use lib.Ieee.Exact.{HasValue}
 use lib.Ieee.Order.{round_mono, transfer}
 use lib.Ieee.Scale.{round_same, round_val, round_under, grid, finite}
 use borrow.Author.Tests.{ltb-false, ne_eqb, le-ltb}
@@ -41,7 +40,7 @@ use Rattle.float32.proofs.Floors.{not_low}
 use Rattle.float32.proofs.Same.{round_own}
 use Rattle.float32.proofs.Tests.{below_or_not}
 use Rattle.util.specs.Constants.{one}
-use Rattle.errors.specs.Sizes.{parts, Is, Plus, Zero}
+use Rattle.errors.specs.Sizes.{parts, Is, Zero}
 
 pub parts_pos : 0 < parts
 unfolding parts

@@ -2,7 +2,7 @@
 --     closest_half     the whole number closest to a / D is half of 1 away at most
 --     grid_error       what is rounded, subnormal or not, is off by that and a unit at most
 --     grid_high, grid_low   what is rounded, in units of the smallest value, lies within 2 ^ -24 of the fraction
-use mathlib.Core.Path.{◌≡◌, refl, sym, ap, ◌∙◌, subst}
+use mathlib.Core.Path.{◌≡◌, sym, ap, ◌∙◌, subst}
 use mathlib.Core.Bool.{not}
 use mathlib.Core.Logic.{◌⊎◌, inl, inr}
 use Prim.Native.Nat.{ℕ, suc, ◌+◌, ◌-◌, ◌*◌, ◌/◌, ◌%◌, ◌^◌, ◌≤◌, ◌<◌, compare, Ordering}

@@ -3,15 +3,14 @@
 --     add_near, mul_near, over_near   of a sum, a product, and 1 over a number
 --     round_error   of any fraction, subnormal too: that, and a part of 2 ^ -149
 use mathlib.Core.Path.{◌≡◌, refl, sym, ap, ◌∙◌, subst}
-use mathlib.Core.Bool.{Bool, true, false}
+use mathlib.Core.Bool.{false}
 use mathlib.Core.Logic.{◌⊎◌, inl, inr}
-use Prim.Native.Nat.{ℕ, zero, suc, ◌+◌, ◌-◌, ◌*◌, ◌^◌, ◌≤◌, ◌<◌}
+use Prim.Native.Nat.{ℕ, zero, suc, ◌+◌, ◌*◌, ◌^◌, ◌≤◌, ◌<◌}
 use native.Mathlib.Nat.{le_trans, le_of_eq, mul_assoc, mul_comm, mul-pos, mul-one, zero-mul, mul-le-mul_right, mul_right_comm}
 use native.Mathlib.Omega.{arith}
-use lib.Dec.{T, lit<, lit≤}
+use lib.Dec.{lit<, lit≤}
 use lib.Ieee.{Float, binary32, round, add, mul, div}
-use lib.Ieee.Exact.{HasValue}
-use lib.Ieee.Scale.{round_same, grid, finite}
+use lib.Ieee.Scale.{round_same, grid}
 use Rattle.float32.specs.Meaning.{whole}
 use Rattle.util.specs.Constants.{one}
 use Rattle.exact.proofs.Bounds.{small_round, small_finite}

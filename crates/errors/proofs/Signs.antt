@@ -4,17 +4,16 @@
 --     sub_plus                 x less y, for a y that isn't above x
 --     add_low                  a sum of what is -1 at least and what isn't negative
 use mathlib.Core.Path.{◌≡◌, refl, sym, ap, ◌∙◌, subst}
-use mathlib.Core.Bool.{Bool, true, false, not, cond, ◌&&◌, true≢false, false≢true}
+use mathlib.Core.Bool.{Bool, true, false, not, cond, ◌&&◌, true≢false}
 use mathlib.Core.Logic.{◌⊎◌, inl, inr}
-use Prim.Native.Nat.{ℕ, zero, suc, ◌+◌, ◌-◌, ◌*◌, ◌^◌, ◌≤◌, ◌<◌, zero-le}
+use Prim.Native.Nat.{ℕ, ◌+◌, ◌-◌, ◌*◌, ◌≤◌, ◌<◌}
 use native.Mathlib.Nat.{zero-mul, mul-pos, mul_assoc, mul_comm, le_trans, le_of_eq, mul-le-mul_right}
 use native.Mathlib.Omega.{arith}
 use lib.Dec.{T, ltb, eqb, lit<, lit≤}
-use lib.IntN.{ℤ, pos}
-use lib.Ieee.{Float, nan, inf, fin, binary32, up, down, unlike, below, round, sum, add, sub, neg, mul, lt}
+use lib.Ieee.{Float, nan, inf, fin, binary32, up, down, unlike, below, round, sum, add, sub, mul, lt}
 use lib.Ieee.Fits.{down_pos}
 use lib.Ieee.Scale.{round_same, finite}
-use borrow.Author.Tests.{le-ltb, ltb-true, ltb-false, eq-eqb}
+use borrow.Author.Tests.{le-ltb, ltb-false, eq-eqb}
 use Rattle.float32.specs.Meaning.{whole, sign_of, signed}
 use Rattle.exact.specs.Whole.{Small}
 use Rattle.exact.proofs.Exact.{round_signed}

@@ -3,11 +3,11 @@
 --     round_most     a fraction that is p / 2 ^ j at most, rounded
 --     add_small, sub_small   a sum and a difference of numbers that are N and M at most
 use mathlib.Core.Path.{◌≡◌, sym, ap, subst}
-use mathlib.Core.Bool.{Bool, true, false, not, cond, ◌&&◌, true≢false, false≢true}
+use mathlib.Core.Bool.{Bool, true, false, cond, true≢false, false≢true}
 use Prim.Native.Nat.{ℕ, suc, ◌+◌, ◌-◌, ◌*◌, ◌^◌, ◌≤◌, ◌<◌}
-use native.Mathlib.Nat.{le_trans, le_of_eq, add-mul, mul_assoc, mul_comm, mul-pos, mul-one, mul-le-mul_right, mul_right_comm}
+use native.Mathlib.Nat.{le_of_eq, add-mul, mul_assoc, mul_comm, mul-pos, mul-le-mul_right}
 use native.Mathlib.Omega.{arith}
-use lib.Dec.{T, ltb}
+use lib.Dec.{ltb}
 use lib.IntN.{ℤ}
 use lib.Pow.{pow_pos}
 use lib.Ieee.{Float, nan, inf, fin, binary32, up, down, round, sum, add, sub, neg, le, lt}

@@ -3,28 +3,28 @@
 --     rise_lean     the same of a after its correction
 --     start_in      b isn't negative, and 1 at most
 use mathlib.Core.Path.{◌≡◌, refl, sym, ap, ◌∙◌, subst}
-use mathlib.Core.Bool.{Bool, true, false, not, cond, ◌&&◌, true≢false, false≢true}
+use mathlib.Core.Bool.{Bool, true, false, not, cond, true≢false, false≢true}
 use mathlib.Core.Logic.{◌⊎◌, inl, inr}
-use Prim.Native.Nat.{ℕ, zero, suc, ◌+◌, ◌-◌, ◌*◌, ◌^◌, ◌≤◌, ◌<◌}
+use Prim.Native.Nat.{ℕ, zero, suc, ◌+◌, ◌-◌, ◌*◌, ◌≤◌, ◌<◌}
 use native.Mathlib.Nat.{le_trans, le_of_eq, le_of_mul-le-mul_right, mul_assoc, mul_comm, mul_right_comm, mul-one, one-mul, zero-mul, mul-pos, mul-le-mul_right, zero-lt-suc}
 use native.Mathlib.Omega.{arith}
 use lib.Dec.{T, ltb, eqb, lit<, lit≤}
-use lib.IntN.{ℤ, pos, negsuc, ◌+ℤ◌, nat_abs}
-use lib.Ieee.{Float, nan, inf, fin, binary32, up, down, unlike, round, sum, add, sub, mul, div, neg, le, lt, eq, ne, fits, is_nan, of_bits}
+use lib.IntN.{ℤ, pos, negsuc, ◌+ℤ◌}
+use lib.Ieee.{Float, nan, inf, fin, binary32, up, down, unlike, round, sum, add, sub, mul, div, le, lt, eq, ne, fits, is_nan, of_bits}
 use lib.Ieee.Bits.{is_true}
-use lib.Ieee.Fits.{down_pos, add-fits, sub-fits, mul-fits}
+use lib.Ieee.Fits.{down_pos, sub-fits, mul-fits}
 use lib.Ieee.Exact.{HasValue}
 use lib.Ieee.Order.{round_mono}
 use lib.Ieee.Scale.{grid, finite}
-use borrow.Author.Tests.{ltb-true, ltb-false}
+use borrow.Author.Tests.{ltb-false}
 use Rattle.float32.specs.Meaning.{floor_of, ceil_of, abs_of, sign_of, signed, copysign_of, unit, min_of}
 use Rattle.float32.proofs.Order.{not_lt_of_le}
 use Rattle.float32.proofs.Laws.{abs_fits, whole_finite, ceil_whole, floor_whole}
 use Rattle.float32.proofs.MinMax.{min_picks, min_right}
-use Rattle.util.specs.Constants.{zero as zero_f, one, minus_one, one_minus_ulp, robust_epsilon}
+use Rattle.util.specs.Constants.{zero as zero_f, one, one_minus_ulp, robust_epsilon}
 use Rattle.util.specs.declared.Vec2.{Vec2}
 use Rattle.exact.specs.Whole.{IsWhole, floor_z, Small}
-use Rattle.exact.specs.Reach.{Near, coord_tiles, sign_at}
+use Rattle.exact.specs.Reach.{coord_tiles}
 use Rattle.exact.proofs.Limits.{far}
 use Rattle.exact.proofs.Exact.{add_whole, floor_whole as floor_is}
 use Rattle.exact.proofs.Bounds.{small_finite, small_sign, small_more, floor_small, near_finite, sign_unit}
@@ -34,11 +34,11 @@ use Rattle.walk.specs.Num.{float}
 use Rattle.walk.specs.Setup.{Scaled, slope_of, b_of, a_of}
 use Rattle.walk.specs.declared.kinds.Slope.{Slope}
 use Rattle.walk.specs.declared.kinds.Counts.{Counts}
-use Rattle.errors.specs.Sizes.{parts, Is, AtMost, Zero, Plus}
+use Rattle.errors.specs.Sizes.{parts, Is, AtMost, Plus}
 use Rattle.errors.proofs.Relative.{grid_high}
 use Rattle.errors.proofs.Sizes.{abs_round, most_of_le, round_most, add_small, sub_small, abs_small}
 use Rattle.errors.proofs.Signs.{round_plus, add_plus, mul_plus, sub_plus}
-use Rattle.errors.proofs.Parts.{parts_pos, own_parts, parts_round, round_parts, round_above, add_is, add_none, mul_is, one_over, over_none}
+use Rattle.errors.proofs.Parts.{parts_pos, own_parts, round_parts, round_above, add_is, add_none, mul_is, one_over, over_none}
 use Rattle.errors.proofs.Floors.{floor_not_above, ceil_not_below, next_not_below}
 
 abs_plus : (x : Float) → sign_of (abs_of x) ≡ false

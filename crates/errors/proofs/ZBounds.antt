@@ -1,19 +1,19 @@
 -- The walk's z, at every step of a checked line: where it is finite, it lies from -1 to two more than the step's number. Assumes nothing.
 --     line_bounded     a and b of a checked line
 --     z_least, z_most  z of a step, of such a and b
-use mathlib.Core.Path.{◌≡◌, refl, sym, ap, ◌∙◌, subst}
+use mathlib.Core.Path.{◌≡◌, sym, ap, ◌∙◌, subst}
 use mathlib.Core.Bool.{Bool, true, false, cond, true≢false}
 use mathlib.Core.Logic.{◌⊎◌, inl, inr}
-use Prim.Native.Nat.{ℕ, ◌+◌, ◌*◌, ◌^◌, ◌≤◌, ◌<◌}
+use Prim.Native.Nat.{ℕ, ◌+◌, ◌*◌, ◌^◌, ◌≤◌}
 use native.Mathlib.Nat.{le_trans, le_of_eq, add-mul, one-mul, mul-one, zero-mul, mul_assoc, mul_comm, mul_right_comm, mul-pos, mul-le-mul_right}
 use native.Mathlib.Omega.{arith}
 use lib.Dec.{T, eqb, lit≤}
-use lib.IntN.{ℤ, pos, neg_ℤ, nat_abs}
-use lib.Ieee.{Float, nan, inf, fin, binary32, up, down, unlike, round, add, mul, of_int}
+use lib.IntN.{pos}
+use lib.Ieee.{Float, nan, inf, fin, binary32, up, down, unlike, add, mul, of_int}
 use lib.Ieee.Fits.{down_pos}
 use lib.Ieee.Exact.{HasValue}
 use lib.Ieee.Scale.{finite}
-use Rattle.float32.specs.Meaning.{up_div, floor_of, sign_of}
+use Rattle.float32.specs.Meaning.{up_div, sign_of}
 use Rattle.float32.proofs.Whole.{whole_value}
 use Rattle.float32.proofs.Laws.{up_most}
 use Rattle.util.specs.declared.Vec2.{Vec2}
@@ -22,7 +22,7 @@ use Rattle.exact.proofs.Exact.{floor_finite}
 use Rattle.exact.proofs.Bounds.{small_round, small_finite, floor_small}
 use Rattle.exact.proofs.Signs.{plus_of, minus_of, abs_parts, neg_minus}
 use Rattle.walk.specs.Num.{float}
-use Rattle.walk.specs.Setup.{ends_of, counts_of, slope_of, a_of, b_of, walk_on}
+use Rattle.walk.specs.Setup.{ends_of, counts_of, slope_of, b_of, walk_on}
 use Rattle.walk.specs.Page.{line_of, by_parts}
 use Rattle.walk.specs.Lent.{Reached}
 use Rattle.walk.specs.Step.{z_at}

@@ -9,12 +9,12 @@ use Rattle.panel.specs.declared.kinds.Path.{Path}
 use Rattle.walk.specs.declared.kinds.Pace.{Pace}
 use Rattle.strides.specs.Strides.{Before}
 use Rattle.strides.specs.Words.{word_of}
-use Rattle.strides.specs.declared.Last.{Last}
-use Rattle.strides.specs.declared.Last.TheVariants.{Z, Other as NoLast}
+use Rattle.strides.specs.Last.{Last}
+use Rattle.strides.specs.Last.{Z, Other as NoLast}
 use Rattle.acts.specs.Acts.{St, st_of, step_acts, steps_acts, run_acts, delta_of}
 use Rattle.hits.specs.Steps.{hit_at}
-use Rattle.few_steps.specs.declared.Direct.{Direct}
-use Rattle.few_steps.specs.declared.Direct.TheVariants.{On, Other}
+use Rattle.few_steps.specs.Direct.{Direct}
+use Rattle.few_steps.specs.Direct.{On, Other}
 
 -- a line of so many steps at most; and so many notes of each step
 abbrev pub few_steps : ℕ

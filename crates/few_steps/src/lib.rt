@@ -15,9 +15,7 @@ use acts::{leaves, mark_if, next_if, visit};
 use panel::kinds::{LineNo, Path, TileNo};
 use panel::limits::MOST_COUNT;
 use panel::refs::{named_at, packed_at, put_ref};
-use strides::{
-    Last, Stride, Strides, last_of, stride_at, strides_of, word_marks, word_of, word_tile,
-};
+use strides::{Strides, last_of, stride_at, strides_of, word_marks, word_of, word_tile};
 use walk::kinds::Pace;
 
 // A line of so many steps at most is counted as it goes.
@@ -26,13 +24,6 @@ pub const FEW: u32 = 16;
 // Each step of such a line has so many notes: its word, and the two words that stood where its reference is put. There is
 // room for the notes of all of them.
 const STEP_NOTES: usize = 3;
-
-// A line inside its path's box counted, with the number of its references; or one to be walked.
-#[derive(Clone, Copy)]
-pub enum Direct {
-    On(u32),
-    Other,
-}
 
 // The three notes of step i: its word, and a reference's two words.
 fn keep(notes: &mut [u32], i: u32, word: u32, line: u32, packed: u32)
@@ -60,22 +51,20 @@ fn take_step(
     backs: &mut [i32],
     counts: &mut [u32],
     refs: &mut [u32],
-) -> Last
+) -> Option<u32>
     requires { OnTiles path (length backs.old) (length counts.old) × (i < few_steps) × Starts pace.sign pace.x0 pace.y0
         × (g ≡ strides_of pace path) × Before pace i last × (ref_words * at + ref_words ≤ length refs.old) × (at < most_slots) × (length notes.old ≡ note_words) }
     ensures { TakenMet pace path up line.0 i at notes.old backs.old counts.old refs.old
         notes.new backs.new counts.new refs.new result }
 {
-    let Stride::At(tile, marks, z) = stride_at(pace, path, g, i, last) else {
-        return Last::Other;
-    };
+    let (tile, marks, z) = stride_at(pace, path, g, i, last)?;
     let own = tile as usize;
     if counts[own] >= MOST_COUNT {
-        return Last::Other;
+        return None;
     }
     let q = next_if(own, marks);
     if leaves(backs[q], up) {
-        return Last::Other;
+        return None;
     }
     let word = word_of(tile, marks);
     let named = named_at(refs, at);
@@ -83,7 +72,7 @@ fn take_step(
     keep(notes, i, word, named, packed);
     visit(TileNo(tile), line, i, at, counts, refs);
     mark_if(backs, own, marks, up);
-    Last::Z(z)
+    Some(z)
 }
 
 // Steps 0 .. n as references made, made + 1, .., up to the first that doesn't pass: how many were taken.
@@ -105,22 +94,20 @@ fn go(
         (st_of backs.new counts.new refs.new (made + result)) }
 {
     let g = strides_of(pace, path);
-    let Last::Z(first) = last_of(pace, 0) else {
+    let Some(mut z) = last_of(pace, 0) else {
         return 0;
     };
-    let mut z = first;
-    let mut k = made;
-    let mut i = 0u32;
-    while i < n {
-        let step = take_step(pace, path, g, up, line, i, z, k, notes, backs, counts, refs);
-        let Last::Z(next) = step else {
+    for i in 0..n {
+        let at = made + i;
+        let step = take_step(
+            pace, path, g, up, line, i, z, at, notes, backs, counts, refs,
+        );
+        let Some(next) = step else {
             return i;
         };
         z = next;
-        k += 1;
-        i += 1;
     }
-    i
+    n
 }
 
 // One step taken back by its three notes: it was reference number at.
@@ -161,9 +148,7 @@ fn undo(
     ensures { (s : St) → Came up notes.now n s (st_of backs.old counts.old refs.old (made + n))
         → st_of backs.new counts.new refs.new made ≡ s }
 {
-    let mut i = n;
-    while i > 0 {
-        i -= 1;
+    for i in (0..n).rev() {
         let k = STEP_NOTES * (i as usize);
         let word = notes[k];
         let line = notes[k + 1];
@@ -172,7 +157,8 @@ fn undo(
     }
 }
 
-// A line of n steps, as line number line, after made references.
+// A line of n steps, as line number line, after made references: counted, with the number of its references; or one that is
+// to be walked.
 pub fn count_few(
     pace: Pace,
     path: Path,
@@ -184,7 +170,7 @@ pub fn count_few(
     backs: &mut [i32],
     counts: &mut [u32],
     refs: &mut [u32],
-) -> Direct
+) -> Option<u32>
     requires { OnTiles path (length backs.old) (length counts.old) × (n ≤ few_steps) × Starts pace.sign pace.x0 pace.y0
         × (ref_words * (made + n) ≤ length refs.old) × (made + n ≤ most_slots) × (length notes.old ≡ note_words) }
     ensures { FewMet pace path up line.0 n made backs.old counts.old refs.old
@@ -192,8 +178,8 @@ pub fn count_few(
 {
     let taken = go(pace, path, n, up, line, made, notes, backs, counts, refs);
     if taken == n {
-        return Direct::On(n);
+        return Some(n);
     }
     undo(notes, taken, up, made, backs, counts, refs);
-    Direct::Other
+    None
 }

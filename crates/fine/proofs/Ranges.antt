@@ -9,8 +9,8 @@ use lib.Ieee.{Float}
 use Rattle.lists.specs.Run.{done, refused, and_then, on_step, run, run_append}
 use Rattle.lists.specs.Sums as Numbers
 use Rattle.panel.specs.Limits.{most_tiles}
-use Rattle.panel.specs.declared.kinds.Verdict.{Verdict}
-use Rattle.panel.specs.declared.kinds.Verdict.TheVariants.{Fine, Against}
+use Rattle.panel.specs.Verdict.{Verdict}
+use Rattle.panel.specs.Verdict.{Fine, Against}
 use Rattle.sides.specs.Tile.{tile_width, tile_height}
 use Rattle.screen_tile.specs.Tile.{ends_at, tile_pixels}
 use Rattle.fine.specs.Fine.{on_end, tile_step, tiles_of}

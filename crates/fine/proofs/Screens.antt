@@ -13,9 +13,9 @@ use Rattle.lists.specs.Sums as Numbers
 use Rattle.lists.specs.GridLaws.{get_d_mapi, length_mapi}
 use Rattle.panel.specs.Checks.{first_no}
 use Rattle.panel.proofs.CheckLaws.{all_ok, none_fails}
-use Rattle.panel.specs.declared.kinds.Answer.TheVariants.{Done}
-use Rattle.panel.specs.declared.kinds.Verdict.{Verdict}
-use Rattle.panel.specs.declared.kinds.Verdict.TheVariants.{Fine, Against}
+use Rattle.panel.specs.Answer.{Done}
+use Rattle.panel.specs.Verdict.{Verdict}
+use Rattle.panel.specs.Verdict.{Fine, Against}
 use Rattle.screen_rows.specs.Rows.{in_tile, put_tile, packed}
 use Rattle.screen_tile.specs.Tile.{colour_at, ends_at, if_fine, tile_pixels}
 use Rattle.fine.specs.Fine.{fine_checks, Shown, shown, No, on_end, tile_step, tiles_of, shown_of, unless_no, fine_of}

@@ -7,10 +7,10 @@ use Rattle.panel.specs.Kinds.{paper_of}
 use Rattle.panel.specs.Limits.{most_tiles}
 use Rattle.panel.specs.Refusals.{not_whole, too_many, bad_screen}
 use Rattle.panel.specs.Widths.{segment_floats}
-use Rattle.panel.specs.declared.kinds.Answer.{Answer}
-use Rattle.panel.specs.declared.kinds.Answer.TheVariants.{Done, Refused}
-use Rattle.panel.specs.declared.kinds.Verdict.{Verdict}
-use Rattle.panel.specs.declared.kinds.Verdict.TheVariants.{Fine, Against}
+use Rattle.panel.specs.Answer.{Answer}
+use Rattle.panel.specs.Answer.{Done, Refused}
+use Rattle.panel.specs.Verdict.{Verdict}
+use Rattle.panel.specs.Verdict.{Fine, Against}
 use Rattle.sides.specs.Tile.{tile_width, tile_height}
 use Rattle.screen_tile.specs.Tile.{ends_at, tile_pixels}
 

@@ -4,13 +4,15 @@
 
 ghost use Rattle.std.specs.Prelude.{◌≡◌, ◌*◌, ◌≤◌, length};
 ghost use Rattle.panel.specs.Checks.{first_no};
+ghost use Rattle.panel.specs.Verdict.{verdict_told};
+ghost use Rattle.panel.specs.Answer.{answer_told};
 ghost use Rattle.panel.specs.Limits.{most_tiles};
 ghost use Rattle.sides.specs.Tile.{tile_width, tile_height};
 ghost use Rattle.fine.specs.Fine.{fine_checks, shown, tiles_of, shown_of, FineMet};
 
-use panel::kinds::{Answer, Verdict};
+use panel::kinds::Refused;
 use panel::limits::MOST_TILES;
-use panel::refusals::{BAD_SCREEN, NOT_WHOLE, TOO_MANY};
+use panel::refusals::Refusal;
 use panel::widths::SEGMENT_FLOATS;
 use screen_tile::{no_colour, tile};
 use sides::{TILE_HEIGHT, TILE_WIDTH};
@@ -25,29 +27,29 @@ fn check_screen(
     from: u32,
     to: u32,
     pixels: usize,
-) -> Verdict
-    ensures { result ≡ first_no (fine_checks segments width cols rows from to pixels) }
+) -> Result<(), Refusal>
+    ensures { verdict_told result ≡ first_no (fine_checks segments width cols rows from to pixels) }
 {
     if segments % SEGMENT_FLOATS != 0 {
-        return Verdict::Against(NOT_WHOLE);
+        return Err(Refusal::NotWhole);
     }
     if from > to {
-        return Verdict::Against(NOT_WHOLE);
+        return Err(Refusal::NotWhole);
     }
     let n = (cols as u64) * (rows as u64);
     if to as u64 > n {
-        return Verdict::Against(NOT_WHOLE);
+        return Err(Refusal::NotWhole);
     }
     if n > MOST_TILES as u64 {
-        return Verdict::Against(TOO_MANY);
+        return Err(Refusal::TooMany);
     }
     if TILE_WIDTH * (cols as usize) > width as usize {
-        return Verdict::Against(BAD_SCREEN);
+        return Err(Refusal::BadScreen);
     }
     if (width as usize) * (rows as usize) > pixels / TILE_HEIGHT {
-        return Verdict::Against(BAD_SCREEN);
+        return Err(Refusal::BadScreen);
     }
-    Verdict::Fine
+    Ok(())
 }
 
 // The tiles from `from` up to `to`, in order, up to the first that is refused. One local has the colours of one
@@ -61,23 +63,20 @@ pub fn tiles(
     from: u32,
     to: u32,
     pixels: &mut [u32],
-) -> Answer
+) -> Result<(), Refused>
     requires { (from ≤ to) × (to ≤ cols * rows) × (cols * rows ≤ most_tiles) × (tile_width * cols ≤ width) × (width * (tile_height * rows) ≤ length pixels.old) }
-    ensures { shown result pixels.new ≡ shown_of (tiles_of words.now segments.now width cols from to pixels.old) }
+    ensures { shown (answer_told result) pixels.new ≡ shown_of (tiles_of words.now segments.now width cols from to pixels.old) }
 {
     let mut rgba = no_colour();
-    let mut t = from;
-    while t < to {
+    for t in from..to {
         let n = t as usize;
         let tx = n % cols;
         let ty = n / cols;
-        let v = tile(words, segments, n, width, tx, ty, &mut rgba, pixels);
-        if let Verdict::Against(no) = v {
-            return Answer::Refused(no, t);
+        if let Err(why) = tile(words, segments, n, width, tx, ty, &mut rgba, pixels) {
+            return Err(why.at(t));
         }
-        t += 1;
     }
-    Answer::Done
+    Ok(())
 }
 
 // The public call: the screen tiles from `from` up to `to`, of cols times rows, `width` pixels to a
@@ -91,13 +90,10 @@ pub fn fine(
     from: u32,
     to: u32,
     pixels: &mut [u32],
-) -> Answer
-    ensures { FineMet words.now segments.now width cols rows from to pixels.old result pixels.new }
+) -> Result<(), Refused>
+    ensures { FineMet words.now segments.now width cols rows from to pixels.old (answer_told result) pixels.new }
 {
-    let v = check_screen(segments.len(), width, cols, rows, from, to, pixels.len());
-    if let Verdict::Against(no) = v {
-        return Answer::Refused(no, 0);
-    }
+    check_screen(segments.len(), width, cols, rows, from, to, pixels.len())?;
     tiles(
         words,
         segments,

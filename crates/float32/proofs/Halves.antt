@@ -4,9 +4,9 @@ use mathlib.Core.Path.{◌≡◌, refl, sym, ap, ◌∙◌, subst}
 use mathlib.Core.Bool.{Bool, true, false, not, ◌&&◌, cond, true≢false, false≢true}
 use mathlib.Core.Logic.{◌⊎◌, inl, inr}
 use Prim.Native.Nat.{ℕ, zero, suc, ◌+◌, ◌-◌, ◌*◌, ◌/◌, ◌%◌, ◌^◌, ◌≤◌, ◌<◌, compare, Ordering}
-use native.Mathlib.Nat.{le_of_eq, le_of_lt, mul-one, mul-pos, mul-mod_left, add-mul, one-mul, add-mul-div_right, add-mul-mod_self_right}
+use native.Mathlib.Nat.{le_of_eq, le_of_lt, mul-one, mul-mod_left, add-mul, one-mul, add-mul-div_right, add-mul-mod_self_right}
 use native.Mathlib.Omega.{arith}
-use lib.Dec.{T, is_le, compare_is_eq, ltb, leb, eqb→eq, nleb→lt, lit≤}
+use lib.Dec.{T, is_le, compare_is_eq, ltb, eqb→eq, nleb→lt, lit≤}
 use lib.Pow.{pow_mono}
 use lib.IntN.{ℤ, pos, negsuc}
 use lib.Ieee.{Float, nan, inf, fin, binary32, up, down, size, nearest, odd, units, round, add, sub, sum, neg, lt, le, fits, is_nan}

@@ -1,7 +1,7 @@
 -- From a whole number to an `f32`: how many digits are lost, the number of units kept, its bit pattern, and that this is `round`'s answer. Assumes nothing.
 --     lost_more, lost_done     one power tried: a unit of 2 ^ k is too small, or is large enough
 --     nearest_is               the pattern of the units kept is `of_int` of the number, however the digits lost were counted
-use mathlib.Core.Path.{◌≡◌, refl, sym, ap, ◌∙◌, subst}
+use mathlib.Core.Path.{◌≡◌, refl, sym, ap, ◌∙◌}
 use mathlib.Core.Bool.{Bool, true, false, not, cond, true≢false}
 use mathlib.Core.Logic.{◌⊎◌, inl, inr}
 use Prim.Native.Nat.{ℕ, zero, suc, ◌+◌, ◌-◌, ◌*◌, ◌/◌, ◌%◌, ◌^◌, ◌≤◌, ◌<◌, compare, Ordering}
@@ -23,11 +23,11 @@ use native.Mathlib.Nat.{
   div-lt_iff_lt-mul,
 }
 use native.Mathlib.Omega.{arith}
-use lib.Dec.{T, leb, is_le, compare_is_eq, leb→le, nleb→lt, eqb→eq, ltb, lit<, lit≤}
-use lib.Pow.{pow-add, pow_pos, pow_mono, pow-lt, shl_lt, shr_lt}
+use lib.Dec.{T, leb, is_le, compare_is_eq, leb→le, nleb→lt, eqb→eq, ltb, lit<}
+use lib.Pow.{pow-add, pow_pos, pow_mono, shl_lt, shr_lt}
 use lib.IntN.{ℤ, pos, negsuc, nat_abs}
 use lib.Signed.{lt_z}
-use lib.Ieee.{Float, nan, inf, fin, binary32, size, nearest, odd, units, round, neg, of_int, of_bits, of_fields, is_nan, fits}
+use lib.Ieee.{inf, binary32, size, nearest, odd, units, round, neg, of_int, of_bits, is_nan}
 use lib.Ieee.Digits.{size-lt, size-le, size_reaches}
 use lib.Ieee.Fits.{round_is, round-fits, nearest-le, eq→eqb}
 use lib.Arith.{lt_of_le-ne}

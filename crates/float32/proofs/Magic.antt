@@ -1,48 +1,17 @@
 -- A large whole number added to an `f32` and taken off again leaves a whole number beside it: from 2 ^ 23 up to 2 ^ 24 the `f32`s are the whole numbers. Assumes nothing.
 -- Of `fin s m e` the size is A / D, with A = m * up e and D = down e.
 use mathlib.Core.Path.{◌≡◌, refl, sym, ap, ◌∙◌, subst}
-use mathlib.Core.Bool.{Bool, true, false, not, ◌&&◌, ◌||◌, beq, cond, true≢false, false≢true}
+use mathlib.Core.Bool.{Bool, true, false, not, ◌&&◌, cond, true≢false, false≢true}
 use mathlib.Core.Logic.{◌⊎◌, inl, inr}
-use Prim.Native.Nat.{ℕ, zero, suc, ◌+◌, ◌-◌, ◌*◌, ◌/◌, ◌%◌, ◌^◌, ◌≤◌, ◌<◌, zero-le, min, compare, Ordering}
-use native.Mathlib.Nat.{
-  sub-zero,
-  div-mul-le_self,
-  div-add-mod',
-  mod-lt,
-  mul-div_cancel,
-  eq_of_mul-eq-mul_right,
-  le_refl,
-  le_trans,
-  le_of_eq,
-  le_of_lt,
-  le_antisymm,
-  lt_of_lt_of_le,
-  lt_of_le_of_lt,
-  lt_irrefl,
-  mul-one,
-  one-mul,
-  mul_assoc,
-  mul_comm,
-  mul_right_comm,
-  mul-pos,
-  mul-sub,
-  add-mul,
-  div-one,
-  div-eq_of_lt-le,
-  le-div_iff_mul-le,
-  div-lt_iff_lt-mul,
-  mul-le-mul_right,
-  mul-lt-mul_of_pos_right,
-  lt_of_mul-lt-mul_right,
-  le_of_mul-le-mul_right,
-}
+use Prim.Native.Nat.{ℕ, zero, suc, ◌+◌, ◌-◌, ◌*◌, ◌/◌, ◌%◌, ◌^◌, ◌≤◌, ◌<◌, zero-le, min, compare}
+use native.Mathlib.Nat.{sub-zero, div-mul-le_self, div-add-mod', mod-lt, mul-div_cancel, eq_of_mul-eq-mul_right, le_trans, le_of_eq, le_antisymm, lt_of_lt_of_le, lt_of_le_of_lt, lt_irrefl, mul-one, one-mul, mul_assoc, mul_comm, mul_right_comm, mul-pos, mul-sub, add-mul, div-one, div-eq_of_lt-le, le-div_iff_mul-le, div-lt_iff_lt-mul, mul-le-mul_right, mul-lt-mul_of_pos_right, lt_of_mul-lt-mul_right}
 use native.Mathlib.Omega.{arith}
-use lib.Dec.{T, ltb, eqb, le→leb, lt→ltb, lit<, lit≤}
+use lib.Dec.{T, ltb, le→leb, lt→ltb, lit<, lit≤}
 use lib.Pow.{pow_pos, pow_mono}
-use lib.IntN.{ℤ, pos, negsuc, neg_ℤ}
+use lib.IntN.{ℤ, pos, neg_ℤ}
 use lib.Ieee.{Float, nan, inf, fin, binary32, up, down, size, nearest, odd, units, round, add, sub, neg, sum, level, lt, eq, fits, in_float, in_signed, in_unsigned, of_int, to_signed, to_unsigned}
 use lib.Ieee.Digits.{size-lt, size-le}
-use lib.Ieee.Fits.{down_pos, core, round_is, round-fits, nearest-le}
+use lib.Ieee.Fits.{down_pos, core, round_is, nearest-le}
 use lib.Ieee.Exact.{HasValue, units_val}
 use lib.Ieee.Nearest.{closest, closest_mono, closest_same}
 use lib.Ieee.Back.{whole_unique, unsigned_back, positive_back, negative_back}

@@ -7,7 +7,7 @@ use native.Mathlib.Nat.{mul-one, zero-mul, mul_right_comm, div-one}
 use native.Mathlib.Omega.{arith}
 use lib.Dec.{T, ltb, eqb}
 use lib.IntN.{ℤ, pos, negsuc}
-use lib.Ieee.{Float, nan, inf, fin, binary32, up, down, size, round, add, sub, neg, sum, eq, fits, of_bits, to_bits, hid, top}
+use lib.Ieee.{Float, nan, inf, fin, binary32, up, down, size, round, sub, sum, eq, fits, of_bits, to_bits, hid, top}
 use lib.Ieee.Bits.{of_bits-to_bits}
 use lib.Ieee.Exact.{HasValue}
 use lib.Ieee.Fits.{down_pos, round-fits}

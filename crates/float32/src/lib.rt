@@ -23,7 +23,7 @@ pub fn abs(x: f32) -> f32
 
 // `if t { x } else { y }`, as a call: what makes the choice has no branches that meet, in its proof and in the
 // compiled code; which of two numbers is the smaller can't be foretold.
-pub fn pick(t: bool, x: f32, y: f32) -> f32
+pub fn pick<T: Copy>(t: bool, x: T, y: T) -> T
     ensures { result ≡ cond t x y }
 {
     if t { x } else { y }
@@ -303,15 +303,11 @@ pub fn of_u32(n: u32) -> f32
     }
 }
 
-// The size of n. That of the lowest is no `i32`, so one is added first, and once more after the cast.
+// The size of n, that of the lowest too.
 pub fn size_of(n: i32) -> u32
     ensures { result ≡ nat_abs n }
 {
-    if n < 0 {
-        (0 - (n + 1)) as u32 + 1
-    } else {
-        n as u32
-    }
+    n.unsigned_abs()
 }
 
 // n `as f32`, of a number with a sign: its size's, and the sign.

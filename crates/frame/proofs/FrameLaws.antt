@@ -12,21 +12,19 @@ use Rattle.panel.specs.Checks.{first_no}
 use Rattle.panel.specs.Paths.{paths_answer}
 use Rattle.panel.specs.Pieces.{Pieces}
 use Rattle.panel.specs.declared.kinds.Running.{Running}
-use Rattle.panel.specs.declared.kinds.Verdict.{Verdict}
-use Rattle.panel.specs.declared.kinds.Verdict.TheVariants.{Fine, Against}
-use Rattle.panel.specs.declared.kinds.Answer.{Answer}
-use Rattle.panel.specs.declared.kinds.Answer.TheVariants as Answer
+use Rattle.panel.specs.Verdict.{Verdict}
+use Rattle.panel.specs.Verdict.{Fine, Against}
+use Rattle.panel.specs.Answer.{Answer}
 use Rattle.panel.proofs.CheckLaws.{unless_no, unless_fine}
 use Rattle.acts.specs.Acts.{st_of}
 use Rattle.path_count.specs.Count as Count
-use Rattle.path_count.specs.declared.kinds.Counted.{Counted}
-use Rattle.path_count.specs.declared.kinds.Counted.TheVariants as Counted
+use Rattle.path_count.specs.Counted.{Counted}
 use Rattle.backdrop.specs.Backdrop as Backdrop
 use Rattle.hand_out.specs.HandOut as HandOut
 use Rattle.looks.specs.Look.{lent}
 use Rattle.path_tiling.specs.Tiling.{Tiled, tiled, slots_of, tiled_of}
 use Rattle.frame.specs.Frame.{Out, out_of, answer_on, counted_on, placed_of, drawn_of, lent_checks, checks_of, frame_of}
-use Rattle.frame.specs.declared.kinds.Framed.TheVariants.{Done, Refused}
+use Rattle.frame.specs.Framed.{Done, Refused}
 use Rattle.frame.specs.declared.kinds.Stage.TheVariants as Stage
 use Rattle.frame.proofs.AllLines.{all_lines}
 

@@ -4,9 +4,8 @@ use Prim.Native.Nat.{ℕ, zero, suc}
 use native.Mathlib.Omega.{arith}
 use Rattle.frame.specs.Frame.{stage_no, paper_of}
 use Rattle.frame.specs.declared.kinds.Stage.{Stage}
-use Rattle.frame.specs.declared.kinds.Stage.TheVariants as Stage
-use Rattle.frame.specs.declared.kinds.Framed.{Framed}
-use Rattle.frame.specs.declared.kinds.Framed.TheVariants.{Done, Refused}
+use Rattle.frame.specs.Framed.{Framed}
+use Rattle.frame.specs.Framed.{Done, Refused}
 
 -- the stage that a number names
 abbrev stage_at : ℕ → Stage

@@ -7,19 +7,15 @@ use Rattle.panel.specs.Checks.{Check, check, first_no, unless}
 use Rattle.panel.specs.Paths.{paths_answer}
 use Rattle.panel.specs.Pieces.{Pieces}
 use Rattle.panel.specs.declared.kinds.Running.{Running}
-use Rattle.panel.specs.declared.kinds.Answer.{Answer}
-use Rattle.panel.specs.declared.kinds.Answer.TheVariants as Answer
+use Rattle.panel.specs.Answer.{Answer}
 use Rattle.path_count.specs.Count.{counted}
-use Rattle.path_count.specs.declared.kinds.Counted.{Counted}
-use Rattle.path_count.specs.declared.kinds.Counted.TheVariants as Counted
+use Rattle.path_count.specs.Counted.{Counted}
 use Rattle.backdrop.specs.Backdrop as Backdrop
 use Rattle.hand_out.specs.HandOut as HandOut
 use Rattle.looks.specs.Look.{lent}
 use Rattle.path_tiling.specs.Tiling.{slots_of, tiled_of}
 use Rattle.frame.specs.declared.kinds.Stage.{Stage}
-use Rattle.frame.specs.declared.kinds.Stage.TheVariants as Stage
-use Rattle.frame.specs.declared.kinds.Framed.{Framed}
-use Rattle.frame.specs.declared.kinds.Framed.TheVariants.{Done, Refused}
+use Rattle.frame.specs.Framed.{Framed, Done, Refused}
 
 -- ---- the answer on paper
 

@@ -1,2 +1,3 @@
 -- The words of a frame. Definitions only.
 pub mod Frame
+pub mod Framed

@@ -1,14 +1,16 @@
 // The public call, which asks nothing of its caller.
 ghost use Rattle.std.specs.Prelude.{◌≡◌};
 ghost use Rattle.panel.specs.Checks.{first_no};
+ghost use Rattle.panel.specs.Verdict.{verdict_told};
 ghost use Rattle.panel.specs.Pieces.{pieces};
 ghost use Rattle.frame.specs.Frame.{lent_checks, FrameMet};
+ghost use Rattle.frame.specs.Framed.{framed_told};
 
-use super::kinds::{Framed, Stage};
+use super::kinds::{FrameRefused, Stage};
 use super::stages::draw;
 use panel::checks::check_paths;
-use panel::kinds::{Answer, Running, Verdict};
-use panel::refusals::NOT_WHOLE;
+use panel::kinds::Running;
+use panel::refusals::Refusal;
 use panel::widths::{LINE_FLOATS, REF_WORDS, SEGMENT_FLOATS};
 
 // Check 1 of the lengths lent, in the order of the parameters.
@@ -21,31 +23,31 @@ pub fn check_lent(
     nr: usize,
     ns: usize,
     ng: usize,
-) -> Verdict
-    ensures { result ≡ first_no (lent_checks nn nc nb nt nk nr ns ng) }
+) -> Result<(), Refusal>
+    ensures { verdict_told result ≡ first_no (lent_checks nn nc nb nt nk nr ns ng) }
 {
     if nc % LINE_FLOATS != 0 {
-        return Verdict::Against(NOT_WHOLE);
+        return Err(Refusal::NotWhole);
     }
     if nn != nc / LINE_FLOATS {
-        return Verdict::Against(NOT_WHOLE);
+        return Err(Refusal::NotWhole);
     }
     if nb != nt {
-        return Verdict::Against(NOT_WHOLE);
+        return Err(Refusal::NotWhole);
     }
     if nt != nk {
-        return Verdict::Against(NOT_WHOLE);
+        return Err(Refusal::NotWhole);
     }
     if nr % REF_WORDS != 0 {
-        return Verdict::Against(NOT_WHOLE);
+        return Err(Refusal::NotWhole);
     }
     if ns % SEGMENT_FLOATS != 0 {
-        return Verdict::Against(NOT_WHOLE);
+        return Err(Refusal::NotWhole);
     }
     if ng != ns / SEGMENT_FLOATS {
-        return Verdict::Against(NOT_WHOLE);
+        return Err(Refusal::NotWhole);
     }
-    Verdict::Fine
+    Ok(())
 }
 
 // A frame: its lines given by their path numbers and coordinates, its tiles by backdrops, counts and
@@ -61,13 +63,13 @@ pub fn frame(
     refs: &mut [u32],
     segments: &mut [f32],
     tags: &mut [u32],
-) -> Framed
+) -> Result<Running, FrameRefused>
     ensures { FrameMet path_nos.now coords.now paths.now backdrops.old stored.old
         tally.old refs.old (pieces segments.old tags.old)
-        result backdrops.new stored.new tally.new refs.new (pieces segments.new tags.new) }
+        (framed_told result) backdrops.new stored.new tally.new refs.new (pieces segments.new tags.new) }
 {
     let none = Running { lines: 0, refs: 0 };
-    let v = check_lent(
+    let lent = check_lent(
         path_nos.len(),
         coords.len(),
         backdrops.len(),
@@ -77,12 +79,11 @@ pub fn frame(
         segments.len(),
         tags.len(),
     );
-    if let Verdict::Against(why) = v {
-        return Framed::Refused(Stage::Lent, why, 0, none);
+    if let Err(why) = lent {
+        return Err(Stage::Lent.refuses(why.at(0), none));
     }
-    let a = check_paths(paths, stored.len());
-    if let Answer::Refused(why, item) = a {
-        return Framed::Refused(Stage::Lent, why, item, none);
+    if let Err(refused) = check_paths(paths, stored.len()) {
+        return Err(Stage::Lent.refuses(refused, none));
     }
     draw(
         path_nos, coords, paths, backdrops, stored, tally, refs, segments, tags,

@@ -8,4 +8,4 @@ mod kinds;
 mod stages;
 
 pub use call::{check_lent, frame};
-pub use kinds::{Framed, Stage, stage_no};
+pub use kinds::{FrameRefused, Stage, stage_no};

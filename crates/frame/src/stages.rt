@@ -3,25 +3,22 @@ ghost use Rattle.std.specs.Prelude.{◌≡◌, ◌+◌, min, length};
 ghost use Rattle.panel.specs.Limits.{most_lines};
 ghost use Rattle.panel.specs.Paths.{paths_answer};
 ghost use Rattle.panel.specs.Pieces.{pieces};
-ghost use Rattle.panel.specs.declared.kinds.Answer.TheVariants.{Done};
+ghost use Rattle.panel.specs.Answer.{Done};
 ghost use Rattle.frame.specs.Frame.{out_of, placed_of, drawn_of};
+ghost use Rattle.frame.specs.Framed.{framed_told};
 
-use super::kinds::{Framed, Stage};
-use panel::kinds::{Answer, Running};
+use super::kinds::{FrameRefused, Stage};
+use panel::kinds::Running;
 use panel::limits::MOST_LINES;
-use path_count::Counted;
-use ranges::{clear_backdrops, clear_words};
+use path_count::Stopped;
+use ranges::clear;
 
 // Up to which line is counted: all of them, and no further than the first whose number is over the
 // limit, at which counting stops.
 fn end_of(lines: usize) -> u32
     ensures { result ≡ min lines (most_lines + 1) }
 {
-    if lines < (MOST_LINES as usize) + 1 {
-        lines as u32
-    } else {
-        MOST_LINES + 1
-    }
+    lines.min(MOST_LINES as usize + 1) as u32
 }
 
 // Where the lines are counted: the sums, the slots, and a segment and its tag for each reference.
@@ -36,28 +33,26 @@ fn place(
     refs: &[u32],
     segments: &mut [f32],
     tags: &mut [u32],
-) -> Framed
+) -> Result<Running, FrameRefused>
     requires { (paths_answer paths.now (length stored.old) ≡ Done) × (length backdrops.old ≡ length stored.old) }
-    ensures { out_of result backdrops.new stored.new tally.new refs.now (pieces segments.new tags.new)
+    ensures { out_of (framed_told result) backdrops.new stored.new tally.new refs.now (pieces segments.new tags.new)
         ≡ placed_of s path_nos.now coords.now paths.now backdrops.old stored.old tally.old
         refs.now (pieces segments.old tags.old) }
 {
-    let summed = backdrop::backdrop_checked(paths, backdrops);
-    if let Answer::Refused(why, item) = summed {
-        return Framed::Refused(Stage::Backdrop, why, item, s);
+    if let Err(refused) = backdrop::backdrop_checked(paths, backdrops) {
+        return Err(Stage::Backdrop.refuses(refused, s));
     }
     let room = path_tiling::slots_of(segments.len());
-    let handed = hand_out::hand_out(stored, tally, room);
-    if let Answer::Refused(why, item) = handed {
-        return Framed::Refused(Stage::HandOut, why, item, s);
+    if let Err(refused) = hand_out::hand_out(stored, tally, room) {
+        return Err(Stage::HandOut.refuses(refused, s));
     }
     let tiled = path_tiling::tile_checked(
         0, s.refs, path_nos, coords, paths, stored, refs, segments, tags,
     );
-    if let Answer::Refused(why, item) = tiled {
-        return Framed::Refused(Stage::Tile, why, item, s);
+    if let Err(refused) = tiled {
+        return Err(Stage::Tile.refuses(refused, s));
     }
-    Framed::Done(s)
+    Ok(s)
 }
 
 // The stages, once what is lent is checked.
@@ -71,25 +66,23 @@ pub(crate) fn draw(
     refs: &mut [u32],
     segments: &mut [f32],
     tags: &mut [u32],
-) -> Framed
+) -> Result<Running, FrameRefused>
     requires { (paths_answer paths.now (length stored.old) ≡ Done) × (length backdrops.old ≡ length stored.old) }
-    ensures { out_of result backdrops.new stored.new tally.new refs.new (pieces segments.new tags.new)
+    ensures { out_of (framed_told result) backdrops.new stored.new tally.new refs.new (pieces segments.new tags.new)
         ≡ drawn_of path_nos.now coords.now paths.now backdrops.old stored.old tally.old
         refs.old (pieces segments.old tags.old) }
 {
     // What an older frame left would be counted on.
     let marks = backdrops.len();
-    clear_backdrops(backdrops, 0, marks);
+    clear(backdrops, 0, marks, 0);
     let tiles = stored.len();
-    clear_words(stored, 0, tiles);
+    clear(stored, 0, tiles, 0);
     let none = Running { lines: 0, refs: 0 };
     let end = end_of(path_nos.len());
     match path_count::count_checked(none, end, path_nos, coords, paths, backdrops, stored, refs) {
-        Counted::Done(s) => {
-            place(
-                s, path_nos, coords, paths, backdrops, stored, tally, refs, segments, tags,
-            )
-        }
-        Counted::Refused(why, item, s) => Framed::Refused(Stage::Count, why, item, s),
+        Ok(s) => place(
+            s, path_nos, coords, paths, backdrops, stored, tally, refs, segments, tags,
+        ),
+        Err(Stopped { why, item, running }) => Err(Stage::Count.refuses(why.at(item), running)),
     }
 }

@@ -2,8 +2,8 @@
 use Rattle.std.specs.Prelude.{ℕ, ◌≡◌, List, Float}
 use Rattle.panel.specs.Refusals.{done_no}
 use Rattle.boxes.specs.Boxes as Boxes
-use Rattle.boxes.specs.declared.kinds.Boxed.{Boxed}
-use Rattle.boxes.specs.declared.kinds.Boxed.TheVariants.{Done, Refused}
+use Rattle.boxes.specs.Boxed.{Boxed}
+use Rattle.boxes.specs.Boxed.{Done, Refused}
 
 -- the number; the tiles that the boxes take in all, 0 where it refuses; the item's number, 0 where it is done
 abbrev pub number_on : Boxed → ℕ

@@ -2,8 +2,8 @@
 use Rattle.std.specs.Prelude.{ℕ, ◌≡◌, List, ℤ, Float}
 use Rattle.panel.specs.Refusals.{done_no}
 use Rattle.tile_check.specs.Tables as Check
-use Rattle.tile_check.specs.declared.kinds.Checked.{Checked}
-use Rattle.tile_check.specs.declared.kinds.Checked.TheVariants.{Yes, Reference, Count, Backdrop, Slots, Refused}
+use Rattle.tile_check.specs.Checked.{Checked}
+use Rattle.tile_check.specs.Checked.{Yes, Reference, Count, Backdrop, Slots, Refused}
 
 -- a yes and a no are no refusal
 abbrev pub number_on : Checked → ℕ

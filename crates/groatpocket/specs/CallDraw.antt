@@ -1,29 +1,8 @@
 -- What a caller sees of a drawing, and the same read off what its definition leaves. Definitions only.
 use Rattle.std.specs.Prelude.{ℕ, ◌≡◌, List, ℤ, Float}
-use Rattle.panel.specs.Refusals.{done_no}
 use Rattle.panel.specs.Pieces.{Pieces}
-use Rattle.panel.specs.declared.kinds.Running.{Running}
-use Rattle.paint.specs.declared.kinds.Drawn.{Drawn}
-use Rattle.paint.specs.declared.kinds.Drawn.TheVariants.{Done, Refused}
 use Rattle.draw.specs.Draw as Draw
 use Rattle.groatpocket.specs.CallFrame.{Told, told_of, told_on}
-
--- a drawing that is done names no part and no item
-abbrev pub number_on : Drawn → ℕ
-number_on (Done s) = done_no
-number_on (Refused at n item s) = n
-
-abbrev pub stage_on : Drawn → ℕ
-stage_on (Done s) = 0
-stage_on (Refused at n item s) = at
-
-abbrev pub item_on : Drawn → ℕ
-item_on (Done s) = 0
-item_on (Refused at n item s) = item
-
-abbrev pub running_on : Drawn → Running
-running_on (Done s) = s
-running_on (Refused at n item s) = s
 
 -- told as a frame tells it, and all that was lent to be changed
 pub record DrawSeen : Type 0 where

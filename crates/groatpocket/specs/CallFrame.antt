@@ -1,29 +1,7 @@
 -- What a caller sees of a frame, and the same read off what its definition leaves. Definitions only.
 use Rattle.std.specs.Prelude.{ℕ, ◌≡◌, List, [], ◌∷◌, ℤ, Float}
-use Rattle.panel.specs.Refusals.{done_no}
 use Rattle.panel.specs.Pieces.{Pieces}
-use Rattle.panel.specs.declared.kinds.Running.{Running}
 use Rattle.frame.specs.Frame as Frame
-use Rattle.frame.specs.Frame.{stage_no}
-use Rattle.frame.specs.declared.kinds.Framed.{Framed}
-use Rattle.frame.specs.declared.kinds.Framed.TheVariants.{Done, Refused}
-
--- a frame that is done names no stage and no item
-abbrev pub number_on : Framed → ℕ
-number_on (Done s) = done_no
-number_on (Refused at n item s) = n
-
-abbrev pub stage_on : Framed → ℕ
-stage_on (Done s) = 0
-stage_on (Refused at n item s) = stage_no at
-
-abbrev pub item_on : Framed → ℕ
-item_on (Done s) = 0
-item_on (Refused at n item s) = item
-
-abbrev pub running_on : Framed → Running
-running_on (Done s) = s
-running_on (Refused at n item s) = s
 
 -- the number, the stage's, the item's, lines and references counted
 pub record Told : Type 0 where

@@ -1,32 +1,9 @@
 -- What a caller sees of the calls for one pixel, and the same read off what their definitions say. Definitions only.
 use Rattle.std.specs.Prelude.{ℕ, ◌≡◌, not, List, [], ◌∷◌, eqb, ℤ, Float}
-use Rattle.panel.specs.Refusals.{done_no}
 use Rattle.pixel.specs.Answers.{Paper}
 use Rattle.pixel.specs.Coverage.{coverage_at_of}
 use Rattle.pixel.specs.Colour.{colour_at_of}
-use Rattle.pixel.specs.declared.kinds.Covered.{Covered}
-use Rattle.pixel.specs.declared.kinds.Covered.TheVariants as Covered'
-use Rattle.pixel.specs.declared.kinds.Coloured.{Coloured}
-use Rattle.pixel.specs.declared.kinds.Coloured.TheVariants as Coloured'
 use Rattle.groatpocket.specs.Seen.{Seen, seen}
-
--- the number, and the coverage: what stood behind the pointer, where it is refused
-abbrev pub covered_no : Covered → ℕ
-covered_no (Covered'.Done a) = done_no
-covered_no (Covered'.Refused n) = n
-
-abbrev pub covered_or : Covered → Float → Float
-covered_or (Covered'.Done a) old = a
-covered_or (Covered'.Refused n) old = old
-
--- the number, and the packed pixel
-abbrev pub coloured_no : Coloured → ℕ
-coloured_no (Coloured'.Done px) = done_no
-coloured_no (Coloured'.Refused n) = n
-
-abbrev pub coloured_or : Coloured → ℕ → ℕ
-coloured_or (Coloured'.Done px) old = px
-coloured_or (Coloured'.Refused n) old = old
 
 -- read off the paper
 abbrev pub value_or : {A : Type 0} → List A → A → A

@@ -1,23 +1,10 @@
 -- What a caller sees of the picture's writer and reader, and the same read off what their definitions leave. Definitions only.
 use Rattle.std.specs.Prelude.{ℕ, ◌≡◌, List, [], ◌∷◌}
-use Rattle.panel.specs.Refusals.{done_no}
 use Rattle.ppm_write.specs.Write.{Left, write_of}
-use Rattle.ppm_write.specs.declared.Written.{Written}
-use Rattle.ppm_write.specs.declared.Written.TheVariants.{Done as Wrote, Refused as NotWritten}
 use Rattle.ppm_read.specs.Read.{read_of}
-use Rattle.ppm_read.specs.declared.Answer.{Answer}
-use Rattle.ppm_read.specs.declared.Answer.TheVariants.{Done as Read, Refused as NotRead}
 use Rattle.groatpocket.specs.Seen.{no, item, SeenAt, seen_at}
 
 -- ---- the writer: its number, how many bytes it wrote, and the bytes lent
-
-abbrev pub wrote_no : Written → ℕ
-wrote_no (Wrote n) = done_no
-wrote_no (NotWritten n) = n
-
-abbrev pub wrote_size : Written → ℕ
-wrote_size (Wrote n) = n
-wrote_size (NotWritten n) = 0
 
 abbrev pub write_seen : Left → SeenAt (List ℕ)
 write_seen l = seen_at (no l.answer) (item l.answer) l.bytes
@@ -27,18 +14,6 @@ abbrev pub GpWriteMet : List ℕ → ℕ → ℕ → (out : List ℕ) → ℕ �
 GpWriteMet pixels w h out r size out' = seen_at r size out' ≡ write_seen (write_of pixels w h out)
 
 -- ---- the reader: its number, the width and the height, and the bytes lent
-
-abbrev pub read_no : Answer → ℕ
-read_no (Read w h) = done_no
-read_no (NotRead n) = n
-
-abbrev pub read_width : Answer → ℕ
-read_width (Read w h) = w
-read_width (NotRead n) = 0
-
-abbrev pub read_height : Answer → ℕ
-read_height (Read w h) = h
-read_height (NotRead n) = 0
 
 pub record ReadSeen : Type 0 where
   pub number : ℕ

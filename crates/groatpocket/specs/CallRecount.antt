@@ -1,22 +1,6 @@
 -- What a caller sees of a recount, and the same read off what its definition leaves. Definitions only.
 use Rattle.std.specs.Prelude.{ℕ, ◌≡◌, List, [], ◌∷◌, ℤ, Float}
-use Rattle.panel.specs.Refusals.{done_no}
-use Rattle.new_lines.specs.declared.Recounted.{Recounted}
-use Rattle.new_lines.specs.declared.Recounted.TheVariants.{Done, Refused}
 use Rattle.recount.specs.Recount as Recount
-
--- a recount that is done names no item
-abbrev pub number_on : Recounted → ℕ
-number_on (Done m) = done_no
-number_on (Refused n item m) = n
-
-abbrev pub item_on : Recounted → ℕ
-item_on (Done m) = 0
-item_on (Refused n item m) = item
-
-abbrev pub made_on : Recounted → ℕ
-made_on (Done m) = m
-made_on (Refused n item m) = m
 
 -- the number, the item's, the references made; then all that was lent to be changed
 pub record RecountSeen : Type 0 where

@@ -2,8 +2,8 @@
 use Rattle.std.specs.Prelude.{ℕ, ◌≡◌, List, Float}
 use Rattle.panel.specs.Refusals.{done_no}
 use Rattle.sizes.specs.Sizes.{sizes_of}
-use Rattle.sizes.specs.declared.Measured.{Measured}
-use Rattle.sizes.specs.declared.Measured.TheVariants.{Done, Refused}
+use Rattle.sizes.specs.Measured.{Measured}
+use Rattle.sizes.specs.Measured.{Done, Refused}
 
 abbrev pub number_on : Measured → ℕ
 number_on (Done r) = done_no

@@ -1,24 +1,8 @@
 -- What a caller sees of the call for outlines from SVG, and the same read off what its definition leaves. Definitions only.
 use Rattle.std.specs.Prelude.{ℕ, ◌≡◌, List, [], ◌∷◌, Float}
-use Rattle.panel.specs.Refusals.{done_no}
 use Rattle.svg.specs.Lines.{Left, lines_of}
-use Rattle.svg.specs.declared.Answer.{Answer}
-use Rattle.svg.specs.declared.Answer.TheVariants.{Done, Refused}
 
--- the number; how many lines were written; the text's place
-abbrev pub svg_no : Answer → ℕ
-svg_no (Done n) = done_no
-svg_no (Refused n at) = n
-
-abbrev pub svg_count : Answer → ℕ
-svg_count (Done n) = n
-svg_count (Refused n at) = 0
-
-abbrev pub svg_place : Answer → ℕ
-svg_place (Done n) = 0
-svg_place (Refused n at) = at
-
--- and the path numbers and coordinates lent
+-- the number; how many lines were written; the text's place; and the path numbers and coordinates lent
 pub record SvgSeen : Type 0 where
   pub number : ℕ
   pub lines : ℕ

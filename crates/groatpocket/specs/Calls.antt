@@ -8,12 +8,8 @@ use Rattle.hand_out.specs.HandOut as HandOut
 use Rattle.looks.specs.Look.{Lent}
 use Rattle.path_tiling.specs.Tiling as Tiling
 use Rattle.path_count.specs.Count as Count
-use Rattle.path_count.specs.declared.kinds.Counted.{Counted}
-use Rattle.path_count.specs.declared.kinds.Counted.TheVariants.{Done, Refused}
-use Rattle.panel.specs.Refusals.{done_no}
 use Rattle.panel.specs.Pieces.{Pieces}
 use Rattle.panel.specs.Kinds.{running_of}
-use Rattle.panel.specs.declared.kinds.Running.{Running}
 use Rattle.groatpocket.specs.Seen.{no, item, Seen, seen, SeenAt, seen_at}
 
 -- the area
@@ -40,18 +36,6 @@ abbrev pub fine_seen : Fine.Shown → SeenAt (List ℕ)
 fine_seen s = seen_at (no s.answer) (item s.answer) s.pixels
 
 -- ---- counting carries running numbers: on paper they stand last
-
-abbrev pub number_on : Counted → ℕ
-number_on (Done r) = done_no
-number_on (Refused n item r) = n
-
-abbrev pub item_on : Counted → ℕ
-item_on (Done r) = 0
-item_on (Refused n item r) = item
-
-abbrev pub running_on : Counted → Running
-running_on (Done r) = r
-running_on (Refused n item r) = r
 
 -- the number, the item, lines and references so far; then backdrops, counts and references
 pub record CountSeen : Type 0 where

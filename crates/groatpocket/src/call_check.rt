@@ -1,51 +1,11 @@
 // tile_check::check_tiles: another's tables beside our own count of the lines.
-ghost use Rattle.std.specs.Prelude.{◌≡◌};
-ghost use Rattle.groatpocket.specs.CallCheck.{number_on, found_on, item_on, GpCheckMet};
+ghost use Rattle.groatpocket.specs.CallCheck.{GpCheckMet};
 
 use panel::refusals::DONE;
-use tile_check::Checked;
+use tile_check::Fault;
 
-// The refusal's number on paper, what was found, and the entry's or the item's. Only a yes is found as 1: nothing that a
-// caller leaves unread can pass for one.
-fn number_of(r: Checked) -> u32
-    ensures { result ≡ number_on r }
-{
-    match r {
-        Checked::Refused(n, _) => n,
-        Checked::Yes => DONE,
-        Checked::Reference(_) => DONE,
-        Checked::Count(_) => DONE,
-        Checked::Backdrop(_) => DONE,
-        Checked::Slots(_) => DONE,
-    }
-}
-
-fn found_of(r: Checked) -> u32
-    ensures { result ≡ found_on r }
-{
-    match r {
-        Checked::Refused(_, _) => 0,
-        Checked::Yes => 1,
-        Checked::Reference(_) => 2,
-        Checked::Count(_) => 3,
-        Checked::Backdrop(_) => 4,
-        Checked::Slots(_) => 5,
-    }
-}
-
-fn item_of(r: Checked) -> u32
-    ensures { result ≡ item_on r }
-{
-    match r {
-        Checked::Refused(_, i) => i,
-        Checked::Yes => 0,
-        Checked::Reference(j) => j,
-        Checked::Count(t) => t,
-        Checked::Backdrop(t) => t,
-        Checked::Slots(t) => t,
-    }
-}
-
+// The refusal's number, what was found, and the entry's or the item's. Only a yes is found as 1: nothing that a caller
+// leaves unread can pass for one.
 pub fn gp_check(
     path_nos: &[u32],
     coords: &[f32],
@@ -62,10 +22,18 @@ pub fn gp_check(
     ensures { GpCheckMet path_nos.now coords.now paths.now refs.now counts.now backdrops.now
         stored.now room work.old result found.new item.new work.new }
 {
-    let r = tile_check::check_tiles(
+    let answer = tile_check::check_tiles(
         path_nos, coords, paths, refs, counts, backdrops, stored, room, work,
     );
-    *found = found_of(r);
-    *item = item_of(r);
-    number_of(r)
+    let (number, what, i) = match answer {
+        Ok(None) => (DONE, 1, 0),
+        Ok(Some(Fault::Reference(j))) => (DONE, 2, j),
+        Ok(Some(Fault::Count(t))) => (DONE, 3, t),
+        Ok(Some(Fault::Backdrop(t))) => (DONE, 4, t),
+        Ok(Some(Fault::Slots(t))) => (DONE, 5, t),
+        Err(refused) => (refused.why.number(), 0, refused.item),
+    };
+    *found = what;
+    *item = i;
+    number
 }

@@ -1,38 +1,8 @@
 // path_count::count: a batch of lines counted into tiles and references.
-ghost use Rattle.std.specs.Prelude.{◌≡◌};
-ghost use Rattle.groatpocket.specs.Calls.{number_on, item_on, running_on, GpCountMet};
+ghost use Rattle.groatpocket.specs.Calls.{GpCountMet};
 
 use panel::kinds::Running;
 use panel::refusals::DONE;
-use path_count::Counted;
-
-// The number that an answer has on paper, the item's, and the running numbers.
-fn number_of(c: Counted) -> u32
-    ensures { result ≡ number_on c }
-{
-    match c {
-        Counted::Done(_) => DONE,
-        Counted::Refused(n, _, _) => n,
-    }
-}
-
-fn item_of(c: Counted) -> u32
-    ensures { result ≡ item_on c }
-{
-    match c {
-        Counted::Done(_) => 0,
-        Counted::Refused(_, i, _) => i,
-    }
-}
-
-fn running_of(c: Counted) -> Running
-    ensures { result ≡ running_on c }
-{
-    match c {
-        Counted::Done(s) => s,
-        Counted::Refused(_, _, s) => s,
-    }
-}
 
 pub fn gp_count(
     path_nos: &[u32],
@@ -54,12 +24,15 @@ pub fn gp_count(
         lines: *lines,
         refs: *made,
     };
-    let c = path_count::count(
+    let answer = path_count::count(
         running, end, path_nos, coords, paths, backdrops, counts, refs,
     );
-    let after = running_of(c);
+    let (number, item, after) = match answer {
+        Ok(after) => (DONE, 0, after),
+        Err(stopped) => (stopped.why.number(), stopped.item, stopped.running),
+    };
     *lines = after.lines;
     *made = after.refs;
-    *at = item_of(c);
-    number_of(c)
+    *at = item;
+    number
 }

@@ -1,49 +1,10 @@
 // draw::draw: from lines to pixels in one call.
-ghost use Rattle.std.specs.Prelude.{◌≡◌};
 ghost use Rattle.panel.specs.Pieces.{pieces};
-ghost use Rattle.groatpocket.specs.CallDraw.{number_on, stage_on, item_on, running_on, GpDrawMet};
+ghost use Rattle.groatpocket.specs.CallDraw.{GpDrawMet};
 
-use paint::kinds::Drawn;
-use panel::kinds::Running;
 use panel::refusals::DONE;
 
-// The number that an answer has on paper, the part's, the item's, and the running numbers.
-fn number_of(d: Drawn) -> u32
-    ensures { result ≡ number_on d }
-{
-    match d {
-        Drawn::Done(_) => DONE,
-        Drawn::Refused(_, n, _, _) => n,
-    }
-}
-
-fn stage_of(d: Drawn) -> u32
-    ensures { result ≡ stage_on d }
-{
-    match d {
-        Drawn::Done(_) => 0,
-        Drawn::Refused(at, _, _, _) => at,
-    }
-}
-
-fn item_of(d: Drawn) -> u32
-    ensures { result ≡ item_on d }
-{
-    match d {
-        Drawn::Done(_) => 0,
-        Drawn::Refused(_, _, i, _) => i,
-    }
-}
-
-fn running_of(d: Drawn) -> Running
-    ensures { result ≡ running_on d }
-{
-    match d {
-        Drawn::Done(s) => s,
-        Drawn::Refused(_, _, _, s) => s,
-    }
-}
-
+// A drawing that is done names no part and no item.
 pub fn gp_draw(
     path_nos: &[u32],
     coords: &[f32],
@@ -72,14 +33,17 @@ pub fn gp_draw(
         backdrops.new stored.new tally.new refs.new (pieces segments.new tags.new)
         words.new pixels.new }
 {
-    let d = draw::draw(
+    let answer = draw::draw(
         path_nos, coords, paths, paints, backdrops, stored, tally, refs, segments, tags, width,
         cols, rows, words, pixels,
     );
-    let after = running_of(d);
-    *stage = stage_of(d);
-    *item = item_of(d);
+    let (number, at, i, after) = match answer {
+        Ok(after) => (DONE, 0, 0, after),
+        Err(e) => (e.why.number(), e.part.number(), e.item, e.running),
+    };
+    *stage = at;
+    *item = i;
     *lines = after.lines;
     *made = after.refs;
-    number_of(d)
+    number
 }

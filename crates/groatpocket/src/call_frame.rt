@@ -1,49 +1,11 @@
 // frame::frame: count, backdrop, hand-out and tiling in one call.
-ghost use Rattle.std.specs.Prelude.{◌≡◌};
 ghost use Rattle.panel.specs.Pieces.{pieces};
-ghost use Rattle.groatpocket.specs.CallFrame.{number_on, stage_on, item_on, running_on, GpFrameMet};
+ghost use Rattle.groatpocket.specs.CallFrame.{GpFrameMet};
 
-use frame::{Framed, stage_no};
-use panel::kinds::Running;
+use frame::stage_no;
 use panel::refusals::DONE;
 
-// The number that an answer has on paper, the stage's, the item's, and the running numbers.
-fn number_of(f: Framed) -> u32
-    ensures { result ≡ number_on f }
-{
-    match f {
-        Framed::Done(_) => DONE,
-        Framed::Refused(_, n, _, _) => n,
-    }
-}
-
-fn stage_of(f: Framed) -> u32
-    ensures { result ≡ stage_on f }
-{
-    match f {
-        Framed::Done(_) => 0,
-        Framed::Refused(at, _, _, _) => stage_no(at),
-    }
-}
-
-fn item_of(f: Framed) -> u32
-    ensures { result ≡ item_on f }
-{
-    match f {
-        Framed::Done(_) => 0,
-        Framed::Refused(_, _, i, _) => i,
-    }
-}
-
-fn running_of(f: Framed) -> Running
-    ensures { result ≡ running_on f }
-{
-    match f {
-        Framed::Done(s) => s,
-        Framed::Refused(_, _, _, s) => s,
-    }
-}
-
+// A frame that is done names no stage and no item.
 pub fn gp_frame(
     path_nos: &[u32],
     coords: &[f32],
@@ -64,13 +26,16 @@ pub fn gp_frame(
         result stage.new item.new lines.new made.new
         backdrops.new stored.new tally.new refs.new (pieces segments.new tags.new) }
 {
-    let f = frame::frame(
+    let answer = frame::frame(
         path_nos, coords, paths, backdrops, stored, tally, refs, segments, tags,
     );
-    let after = running_of(f);
-    *stage = stage_of(f);
-    *item = item_of(f);
+    let (number, at, i, after) = match answer {
+        Ok(after) => (DONE, 0, 0, after),
+        Err(e) => (e.why.number(), stage_no(e.stage), e.item, e.running),
+    };
+    *stage = at;
+    *item = i;
     *lines = after.lines;
     *made = after.refs;
-    number_of(f)
+    number
 }

@@ -1,48 +1,10 @@
 // pixel::coverage_at and pixel::colour_at: one pixel of a tile, its coverage by a fill and its colour
 // under a list of commands.
-ghost use Rattle.std.specs.Prelude.{◌≡◌};
-ghost use Rattle.groatpocket.specs.CallPixel.{covered_no, covered_or, coloured_no, coloured_or, GpPixelAreaMet, GpPixelMet};
+ghost use Rattle.groatpocket.specs.CallPixel.{GpPixelAreaMet, GpPixelMet};
 
 use panel::refusals::DONE;
-use pixel::kinds::{Coloured, Covered};
 
-// The number that an answer has on paper, and what stands behind the pointer: what did, where it is
-// refused.
-fn covered_no(c: Covered) -> u32
-    ensures { result ≡ covered_no c }
-{
-    match c {
-        Covered::Done(_) => DONE,
-        Covered::Refused(n) => n,
-    }
-}
-
-fn covered_or(c: Covered, old: f32) -> f32
-    ensures { result ≡ covered_or c old }
-{
-    match c {
-        Covered::Done(a) => a,
-        Covered::Refused(_) => old,
-    }
-}
-
-fn coloured_no(c: Coloured) -> u32
-    ensures { result ≡ coloured_no c }
-{
-    match c {
-        Coloured::Done(_) => DONE,
-        Coloured::Refused(n) => n,
-    }
-}
-
-fn coloured_or(c: Coloured, old: u32) -> u32
-    ensures { result ≡ coloured_or c old }
-{
-    match c {
-        Coloured::Done(px) => px,
-        Coloured::Refused(_) => old,
-    }
-}
+// What is refused leaves behind the pointer what stood there.
 
 // Even-odd where the flag isn't 0, else non-zero.
 pub fn gp_pixel_area(
@@ -59,7 +21,7 @@ pub fn gp_pixel_area(
 ) -> u32
     ensures { GpPixelAreaMet segments.now first count even_odd backdrop x_tile y_tile column row area.old result area.new }
 {
-    let c = pixel::coverage_at(
+    let covered = pixel::coverage_at(
         segments,
         first,
         count,
@@ -70,9 +32,13 @@ pub fn gp_pixel_area(
         column,
         row,
     );
-    let old = *area;
-    *area = covered_or(c, old);
-    covered_no(c)
+    match covered {
+        Ok(a) => {
+            *area = a;
+            DONE
+        }
+        Err(why) => why.number(),
+    }
 }
 
 pub fn gp_pixel(
@@ -85,8 +51,11 @@ pub fn gp_pixel(
 ) -> u32
     ensures { GpPixelMet words.now segments.now tile column row pixel.old result pixel.new }
 {
-    let c = pixel::colour_at(words, segments, tile, column, row);
-    let old = *pixel;
-    *pixel = coloured_or(c, old);
-    coloured_no(c)
+    match pixel::colour_at(words, segments, tile, column, row) {
+        Ok(px) => {
+            *pixel = px;
+            DONE
+        }
+        Err(why) => why.number(),
+    }
 }

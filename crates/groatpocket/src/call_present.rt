@@ -1,6 +1,8 @@
 // present::present: the shown part of a screen's pixels as bytes for a frame buffer.
 ghost use Rattle.present.specs.Present.{PresentMet};
 
+use panel::refusals::DONE;
+
 pub fn gp_present(
     pixels: &[u32],
     screen: u32,
@@ -12,5 +14,8 @@ pub fn gp_present(
 ) -> u32
     ensures { PresentMet pixels.now screen width height stride bgra out.old result out.new }
 {
-    present::present(pixels, screen, width, height, stride, bgra, out)
+    match present::present(pixels, screen, width, height, stride, bgra, out) {
+        Ok(()) => DONE,
+        Err(why) => why.number(),
+    }
 }

@@ -1,37 +1,7 @@
 // recount::recount: one path's lines counted again, into its own tiles alone.
-ghost use Rattle.std.specs.Prelude.{◌≡◌};
-ghost use Rattle.groatpocket.specs.CallRecount.{number_on, item_on, made_on, GpRecountMet};
+ghost use Rattle.groatpocket.specs.CallRecount.{GpRecountMet};
 
-use new_lines::Recounted;
 use panel::refusals::DONE;
-
-// The number that an answer has on paper, the item's, and the references made.
-fn number_of(r: Recounted) -> u32
-    ensures { result ≡ number_on r }
-{
-    match r {
-        Recounted::Done(_) => DONE,
-        Recounted::Refused(n, _, _) => n,
-    }
-}
-
-fn item_of(r: Recounted) -> u32
-    ensures { result ≡ item_on r }
-{
-    match r {
-        Recounted::Done(_) => 0,
-        Recounted::Refused(_, i, _) => i,
-    }
-}
-
-fn made_of(r: Recounted) -> u32
-    ensures { result ≡ made_on r }
-{
-    match r {
-        Recounted::Done(m) => m,
-        Recounted::Refused(_, _, m) => m,
-    }
-}
 
 pub fn gp_recount(
     path: u32,
@@ -52,7 +22,7 @@ pub fn gp_recount(
         kept_backdrops.old kept_counts.old
         result at.new made.new backdrops.new counts.new refs.new kept_backdrops.new kept_counts.new }
 {
-    let r = recount::recount(
+    let answer = recount::recount(
         path,
         line_nos,
         path_nos,
@@ -64,7 +34,11 @@ pub fn gp_recount(
         kept_backdrops,
         kept_counts,
     );
-    *made = made_of(r);
-    *at = item_of(r);
-    number_of(r)
+    let (number, item, refs_made) = match answer {
+        Ok(refs_made) => (DONE, 0, refs_made),
+        Err(e) => (e.why.number(), e.item, e.made),
+    };
+    *made = refs_made;
+    *at = item;
+    number
 }

@@ -1,57 +1,10 @@
 // sizes::sizes: how much lines and paths need, before anything is lent for them.
-ghost use Rattle.std.specs.Prelude.{◌≡◌};
-ghost use Rattle.groatpocket.specs.CallSizes.{number_on, tiles_on, made_on, words_on, item_on, GpSizesMet};
+ghost use Rattle.groatpocket.specs.CallSizes.{GpSizesMet};
 
 use panel::refusals::DONE;
-use sizes::Measured;
+use sizes::Room;
 
-// The number that an answer has on paper; tiles, references and command words, 0 where it is refused;
-// and the item's number.
-fn number_of(r: Measured) -> u32
-    ensures { result ≡ number_on r }
-{
-    match r {
-        Measured::Done(_) => DONE,
-        Measured::Refused(n, _) => n,
-    }
-}
-
-fn tiles_of(r: Measured) -> u32
-    ensures { result ≡ tiles_on r }
-{
-    match r {
-        Measured::Done(room) => room.tiles,
-        Measured::Refused(_, _) => 0,
-    }
-}
-
-fn made_of(r: Measured) -> u32
-    ensures { result ≡ made_on r }
-{
-    match r {
-        Measured::Done(room) => room.refs,
-        Measured::Refused(_, _) => 0,
-    }
-}
-
-fn words_of(r: Measured) -> u32
-    ensures { result ≡ words_on r }
-{
-    match r {
-        Measured::Done(room) => room.words,
-        Measured::Refused(_, _) => 0,
-    }
-}
-
-fn item_of(r: Measured) -> u32
-    ensures { result ≡ item_on r }
-{
-    match r {
-        Measured::Done(_) => 0,
-        Measured::Refused(_, i) => i,
-    }
-}
-
+// The number; tiles, references and command words; and the item's number: 0 where there is none.
 pub fn gp_sizes(
     path_nos: &[u32],
     coords: &[f32],
@@ -66,10 +19,18 @@ pub fn gp_sizes(
     ensures { GpSizesMet path_nos.now coords.now paths.now cols rows result tiles.new made.new words.new
         item.new }
 {
-    let r = sizes::sizes(path_nos, coords, paths, cols, rows);
-    *tiles = tiles_of(r);
-    *made = made_of(r);
-    *words = words_of(r);
-    *item = item_of(r);
-    number_of(r)
+    let nothing = Room {
+        tiles: 0,
+        refs: 0,
+        words: 0,
+    };
+    let (number, need, i) = match sizes::sizes(path_nos, coords, paths, cols, rows) {
+        Ok(need) => (DONE, need, 0),
+        Err(refused) => (refused.why.number(), nothing, refused.item),
+    };
+    *tiles = need.tiles;
+    *made = need.refs;
+    *words = need.words;
+    *item = i;
+    number
 }

@@ -1,30 +1,24 @@
 -- The laws of hand-out: a turn of its loop, where a tile's slots begin, and what a stored word reads back as. Assumes nothing.
 use mathlib.Core.Path.{◌≡◌, refl, sym, ap, ◌∙◌}
-use mathlib.Core.Logic.{◌≢◌}
 use mathlib.Core.Bool.{true, false}
 use mathlib.Core.List.{List, [], ◌∷◌, ◌++◌, append-nil}
-use Prim.Native.Nat.{ℕ, zero, suc, ◌+◌, ◌-◌, ◌≤◌, ◌<◌, ◌^◌}
+use Prim.Native.Nat.{ℕ, zero, suc, ◌+◌, ◌≤◌, ◌<◌, ◌^◌}
 use native.Mathlib.Nat.{not-suc-le-zero, le_of_suc-le-suc, zero-add}
 use native.Mathlib.Numerals.{add-one}
 use native.Mathlib.Omega.{arith}
 use lib.ListN.{length, get_or, set, take, drop, drop_of_length-le}
 use lib.Seq.{take-suc, drop-cons, set_at, get_or_at, append_snoc, length-take-le, take_all}
-use borrow.Author.Tests.{le-ltb, leb-true, eqb-true}
+use borrow.Author.Tests.{le-ltb}
 use Rattle.lists.specs.Sums.{sum, first, first_suc, first_within, first_apart, placed, placed_once}
 use Rattle.panel.specs.Limits.{most_slots}
 use Rattle.panel.proofs.LimitLaws.{small}
 use Rattle.panel.specs.Slots.{not32, handed_from, skips}
 use Rattle.panel.specs.Checks.{first_no}
-use Rattle.panel.specs.declared.kinds.Verdict.TheVariants.{Fine, Against}
-use Rattle.panel.specs.declared.kinds.Answer.{Answer}
-use Rattle.panel.specs.declared.kinds.Answer.TheVariants.{Done, Refused}
+use Rattle.panel.specs.Verdict.{Fine}
+use Rattle.panel.specs.Answer.{Answer}
+use Rattle.panel.specs.Answer.{Done}
 use Rattle.panel.proofs.KindLaws.{paper_once}
-use Rattle.panel.proofs.CheckLaws.{all_ok}
 use Rattle.hand_out.specs.HandOut.{word_for, hand, Out, out_of, hand_checks, hand_out_of}
-
-pub stored_some : (n f : ℕ) → n ≢ 0 → word_for n f ≡ not32 f
-stored_some zero f h = absurd (h refl)
-stored_some (suc n) f h = refl
 
 pub length_hand : (f : ℕ) (ns : List ℕ) → length (hand f ns) ≡ length ns
 length_hand f [] = refl
@@ -70,17 +64,21 @@ hand_reads ns t h =
     ap (λ (r : List ℕ). get_or (hand 0 (take t ns) ++ r) t 0) (drop-cons ns t 0 h)
     ∙ get_or_at (hand 0 (take t ns)) (get_or ns t 0) (drop (suc t) ns) 0 t (length_hand 0 (take t ns) ∙ length-take-le t ns (omega arith))
 
--- a turn of the loop, in the loop's own terms: what the tiles and the tally hold, the next slot, and the word w that is stored
-pub hand_turn : (ns kept tiles tally : List ℕ) (next t w : ℕ) → t < length ns → length ns ≡ length kept → next ≡ first ns t
-    → tiles ≡ hand 0 (take t ns) ++ drop t ns → tally ≡ take t ns ++ drop t kept → w ≡ word_for (get_or tiles t 0) next
-    → (next + get_or tiles t 0 ≡ first ns (t + 1)) × (set tiles t w ≡ hand 0 (take (t + 1) ns) ++ drop (t + 1) ns)
-    × (set tally t (get_or tiles t 0) ≡ take (t + 1) ns ++ drop (t + 1) kept)
-hand_turn ns kept tiles tally next t w h e n a b q =
+-- a turn of the loop, in the loop's own terms: what the tiles hold, the next slot, and the word w that is stored
+pub hand_turn : (ns tiles : List ℕ) (next t w : ℕ) → t < length ns → next ≡ first ns t → tiles ≡ hand 0 (take t ns) ++ drop t ns
+    → w ≡ word_for (get_or tiles t 0) next → (next + get_or tiles t 0 ≡ first ns (t + 1)) × (set tiles t w ≡ hand 0 (take (t + 1) ns) ++ drop (t + 1) ns)
+hand_turn ns tiles next t w h n a q =
     let reads : get_or tiles t 0 ≡ get_or ns t 0 = rw a (hand_reads ns t h) in
     let word : w ≡ word_for (get_or ns t 0) (first ns t) = cc in
-    rw (reads, add-one) (omega (arith, first_suc ns t), rw (a, word) (hand_step ns t h), rw b (keep_step ns kept t e h))
+    rw (reads, add-one) (omega (arith, first_suc ns t), rw (a, word) (hand_step ns t h))
 
--- and the loop's end
+-- the tally's turn, by the count that is read off the tiles; and the loop's end
+pub keep_turn : (ns kept tiles tally : List ℕ) (t : ℕ) → length ns ≡ length kept → t < length ns → tiles ≡ hand 0 (take t ns) ++ drop t ns
+    → tally ≡ take t ns ++ drop t kept → set tally t (get_or tiles t 0) ≡ take (t + 1) ns ++ drop (t + 1) kept
+keep_turn ns kept tiles tally t e h a b =
+    let reads : get_or tiles t 0 ≡ get_or ns t 0 = rw a (hand_reads ns t h) in
+    rw (reads, add-one, b) (keep_step ns kept t e h)
+
 pub hand_end : (ns : List ℕ) (t : ℕ) → length ns ≤ t → hand 0 (take t ns) ++ drop t ns ≡ hand 0 ns
 hand_end ns t h = rw (take_all t ns h, drop_of_length-le ns h) (append-nil (hand 0 ns))
 
@@ -145,18 +143,9 @@ slots_fill ns k h = let w = placed ns k h in (w.place, w.inside, (w.low, w.high)
 -- ---- the call, by what its checks find
 
 module _ (room : ℕ) (ns kept : List ℕ) where
-  pub call_fine : first_no (hand_checks room ns (length kept)) ≡ Fine → (length ns ≡ length kept) × (sum ns ≤ most_slots)
-  call_fine e =
-      let k = all_ok (hand_checks room ns (length kept)) e in
-      (eqb-true (length ns) (length kept) k.0, leb-true (sum ns) most_slots k.1.1.1.0)
-
   pub call_done : first_no (hand_checks room ns (length kept)) ≡ Fine → hand_out_of room ns kept ≡ out_of Done (hand 0 ns) ns
   unfolding hand_out_of
   call_done e = rw e
-
-  pub call_no : {n : ℕ} → first_no (hand_checks room ns (length kept)) ≡ Against n → hand_out_of room ns kept ≡ out_of (Refused n 0) ns kept
-  unfolding hand_out_of
-  call_no e = rw e
 
 -- the promise admits one answer only, and one list each
 pub out_once : (a b : Answer) (ts us ks ls : List ℕ) → out_of a ts ks ≡ out_of b us ls → (a ≡ b) × (ts ≡ us) × (ks ≡ ls)

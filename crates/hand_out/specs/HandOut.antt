@@ -7,10 +7,10 @@ use Rattle.panel.specs.Refusals.{not_whole, too_many, no_room_word}
 use Rattle.panel.specs.Kinds.{paper_of}
 use Rattle.panel.specs.Slots.{not32}
 use Rattle.panel.specs.Checks.{Check, check, first_no}
-use Rattle.panel.specs.declared.kinds.Verdict.{Verdict}
-use Rattle.panel.specs.declared.kinds.Verdict.TheVariants.{Fine, Against}
-use Rattle.panel.specs.declared.kinds.Answer.{Answer}
-use Rattle.panel.specs.declared.kinds.Answer.TheVariants.{Done, Refused}
+use Rattle.panel.specs.Verdict.{Verdict}
+use Rattle.panel.specs.Verdict.{Fine, Against}
+use Rattle.panel.specs.Answer.{Answer}
+use Rattle.panel.specs.Answer.{Done, Refused}
 
 -- what a tile with that count and that first slot holds
 abbrev pub word_for : ℕ → ℕ → ℕ

@@ -6,12 +6,13 @@ ghost use Rattle.std.specs.Prelude.{◌≡◌, ◌≤◌, length};
 ghost use Rattle.lists.specs.Sums.{sum};
 ghost use Rattle.panel.specs.Limits.{most_tiles, most_slots};
 ghost use Rattle.panel.specs.Checks.{first_no};
-ghost use Rattle.panel.specs.declared.kinds.Answer.TheVariants.{Done};
+ghost use Rattle.panel.specs.Verdict.{verdict_told};
+ghost use Rattle.panel.specs.Answer.{Done, answer_told};
 ghost use Rattle.hand_out.specs.HandOut.{word_for, hand, hand_checks, out_of, HandMet};
 
-use panel::kinds::{Answer, SlotNo, Verdict};
+use panel::kinds::{Refused, SlotNo};
 use panel::limits::{MOST_SLOTS, MOST_TILES};
-use panel::refusals::{NO_ROOM, NOT_WHOLE, TOO_MANY};
+use panel::refusals::Refusal;
 use panel::slots::flipped;
 
 // The sum of the counts, in 64 bits: so few tiles can't wrap it.
@@ -19,13 +20,7 @@ fn total_of(counts: &[u32]) -> u64
     requires { length counts.now ≤ most_tiles }
     ensures { result ≡ sum counts.now }
 {
-    let mut total: u64 = 0;
-    let mut t: usize = 0;
-    while t < counts.len() {
-        total = total + counts[t] as u64;
-        t += 1;
-    }
-    total
+    counts.iter().map(|count| *count as u64).sum()
 }
 
 // What a tile with that count and that first slot holds.
@@ -36,23 +31,23 @@ fn word_of(count: u32, first: SlotNo) -> u32
 }
 
 // The slices lent, then the room.
-fn check_call(counts: &[u32], kept: usize, room: u32) -> Verdict
-    ensures { result ≡ first_no (hand_checks room counts.now kept) }
+fn check_call(counts: &[u32], kept: usize, room: u32) -> Result<(), Refusal>
+    ensures { verdict_told result ≡ first_no (hand_checks room counts.now kept) }
 {
     if counts.len() != kept {
-        return Verdict::Against(NOT_WHOLE);
+        return Err(Refusal::NotWhole);
     }
     if counts.len() > MOST_TILES as usize {
-        return Verdict::Against(TOO_MANY);
+        return Err(Refusal::TooMany);
     }
     let total = total_of(counts);
     if total > room as u64 {
-        return Verdict::Against(NO_ROOM);
+        return Err(Refusal::NoRoom);
     }
     if total > MOST_SLOTS as u64 {
-        return Verdict::Against(NO_ROOM);
+        return Err(Refusal::NoRoom);
     }
-    Verdict::Fine
+    Ok(())
 }
 
 // Each tile's word in the place of its count, and its count in the tally.
@@ -60,25 +55,21 @@ fn fill(counts: &mut [u32], tally: &mut [u32])
     requires { (length counts.old ≡ length tally.old) × (sum counts.old ≤ most_slots) }
     ensures { out_of Done counts.new tally.new ≡ out_of Done (hand 0 counts.old) counts.old }
 {
+    // one by one: `copy_from_slice` compiles to memmove, and the archive needs memcpy and memset alone
     let mut next = SlotNo(0);
-    let mut t: usize = 0;
-    while t < counts.len() {
+    for t in 0..counts.len() {
         let count = counts[t];
         tally[t] = count;
         counts[t] = word_of(count, next);
         let after = next.0 + count;
         next = SlotNo(after);
-        t += 1;
     }
 }
 
-pub fn hand_out(counts: &mut [u32], tally: &mut [u32], room: u32) -> Answer
-    ensures { HandMet room counts.old tally.old result counts.new tally.new }
+pub fn hand_out(counts: &mut [u32], tally: &mut [u32], room: u32) -> Result<(), Refused>
+    ensures { HandMet room counts.old tally.old (answer_told result) counts.new tally.new }
 {
-    let v = check_call(counts, tally.len(), room);
-    if let Verdict::Against(no) = v {
-        return Answer::Refused(no, 0);
-    }
+    check_call(counts, tally.len(), room)?;
     fill(counts, tally);
-    Answer::Done
+    Ok(())
 }

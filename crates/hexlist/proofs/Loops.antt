@@ -1,33 +1,33 @@
 -- The loops over a row, for every kind of element: one that puts it into a slice, and one that compares. Assumes nothing.
-use borrow.Author.Tests.{le-leb, lt-ltb}
-use mathlib.Core.Path.{◌≡◌, sym, ap, ◌∙◌}
+use mathlib.Core.Path.{◌≡◌, refl, sym, ap, ◌∙◌}
 use mathlib.Core.Bool.{Bool, true, false, ◌&&◌}
-use mathlib.Core.List.{List}
+use mathlib.Core.List.{List, [], ◌∷◌}
 use Prim.Native.Nat.{ℕ, suc, ◌+◌, ◌≤◌, ◌<◌, zero-le}
-use native.Mathlib.Nat.{lt_of_lt_of_le}
 use native.Mathlib.Numerals.{add-one}
 use native.Mathlib.Omega.{arith}
 use lib.ListN.{length, get_or, set, drop}
 use lib.Seq.{drop-cons, drop-length}
-use Rattle.lists.specs.Grid.{mapi, within}
-use Rattle.lists.specs.GridLaws.{mapi_is, length_mapi, get_d_mapi, within_step, within_none}
+use Rattle.lists.specs.Grid.{mapi, map_from, within}
+use Rattle.lists.specs.GridLaws.{length_mapi, within_step, within_none, within_all}
 use Rattle.hexlist.specs.Rows.{same_row}
 
--- ---- a row put into a slice: the first i elements are done. d is any element
-module _ {A : Type 0} (f : ℕ → A → A) (d : A) (l : List A) where
-  pub put_none : l ≡ mapi (within 0 0 f) l
-  put_none = sym (within_none f 0 d l)
+-- ---- a row put into a slice: the first i elements are done
+pub put_none : {A : Type 0} (f : ℕ → A → A) (l : List A) → l ≡ mapi (within 0 0 f) l
+unfolding map_from
+put_none f [] = refl
+put_none f (d ∷ l) = sym (within_none f 0 d (d ∷ l))
 
-  pub put_length : (out : List A) (i : ℕ) → out ≡ mapi (within 0 i f) l → length out ≡ length l
-  put_length out i e = ap length e ∙ length_mapi (within 0 i f) l
+put_length : {A : Type 0} (f : ℕ → A → A) (l out : List A) (i : ℕ) → out ≡ mapi (within 0 i f) l → length out ≡ length l
+put_length f l out i e = ap length e ∙ length_mapi (within 0 i f) l
 
-  pub put_turn : (out : List A) (i : ℕ) (v : A) → out ≡ mapi (within 0 i f) l → v ≡ f i (get_or (mapi (within 0 i f) l) i d) → set out i v ≡ mapi (within 0 (i + 1) f) l
-  put_turn out i v e h = rw (e, h) (within_step f 0 i d l zero-le)
+-- d is any element
+pub put_turn : {A : Type 0} (f : ℕ → A → A) (d : A) (l out : List A) (i : ℕ) (v : A) → out ≡ mapi (within 0 i f) l → v ≡ f i (get_or (mapi (within 0 i f) l) i d) → set out i v ≡ mapi (within 0 (i + 1) f) l
+put_turn f d l out i v e h = rw (e, h) (within_step f 0 i d l zero-le)
 
-  pub put_all : (out : List A) (i : ℕ) → out ≡ mapi (within 0 i f) l → length out ≤ i → out ≡ mapi f l
-  put_all out i e h =
-      e ∙ mapi_is f l (mapi (within 0 i f) l) d d (length_mapi (within 0 i f) l)
-      (λ k lt. get_d_mapi (within 0 i f) l k d d lt ∙ simp (le-leb 0 k zero-le, lt-ltb k i (lt_of_lt_of_le lt (rw (put_length out i e) at h))))
+pub put_all : {A : Type 0} (f : ℕ → A → A) (l out : List A) (i : ℕ) → out ≡ mapi (within 0 i f) l → length out ≤ i → out ≡ mapi f l
+unfolding map_from
+put_all f [] out i e h = e
+put_all f (d ∷ l) out i e h = e ∙ within_all f i d (d ∷ l) (rw (put_length f (d ∷ l) out i e) at h)
 
 -- ---- a row compared with a slice, from element i on
 module _ {A : Type 0} (is : A → ℕ → Bool) (word : ℕ → ℕ) (d : A) (xs : List A) (i : ℕ) where
@@ -41,6 +41,6 @@ module _ {A : Type 0} (is : A → ℕ → Bool) (word : ℕ → ℕ) (d : A) (xs
   pub row_less : i < length xs → is (get_or xs i d) (word i) ≡ false → false ≡ same_row is word i (drop i xs)
   row_less h e = rw (row_step h, e)
 
-  pub row_done : length xs ≤ i → i ≤ length xs → true ≡ same_row is word i (drop i xs)
-  unfolding same_row
-  row_done h l = let e : i ≡ length xs = omega arith in rw (e, drop-length)
+pub row_done : {A : Type 0} (is : A → ℕ → Bool) (word : ℕ → ℕ) (xs : List A) (i : ℕ) → length xs ≤ i → i ≤ length xs → true ≡ same_row is word i (drop i xs)
+unfolding same_row
+row_done is word xs i h l = let e : i ≡ length xs = omega arith in rw (e, drop-length)

@@ -1,10 +1,11 @@
 // A row of words that stands for a slice. A length goes before it: below 2^31 so many words follow;
 // 2^31 more than a length says that the words are all the same, and one follows. Where a slice is as
 // it was before, the list says so by AS_BEFORE, and no word follows.
-ghost use Rattle.std.specs.Prelude.{◌≡◌, eqb};
+ghost use Rattle.std.specs.Prelude.{◌≡◌};
 ghost use Rattle.lists.specs.Grid.{mapi};
-ghost use Rattle.hexlist.specs.Rows.{length_of, stored_of, word_of, words_as, ints_as, floats_as, same_row};
-ghost use Rattle.hexlist.specs.Values.{is_int, is_float};
+ghost use Rattle.hexlist.specs.Rows.{length_of, stored_of, word_of, element_as, same_row};
+
+use crate::words::{Element, word};
 
 pub const AS_BEFORE: u32 = 0xffff_ffff;
 
@@ -16,6 +17,7 @@ pub fn length(code: u32) -> usize
 }
 
 // How many words stand for it.
+#[tactic(auto, using(std::proofs::lemmas::Bool::Decides::nat_tests))]
 pub fn stored(code: u32) -> usize
     ensures { result ≡ stored_of code }
 {
@@ -29,83 +31,30 @@ pub fn stored(code: u32) -> usize
 }
 
 // The slice's element k, where its row is at `base`.
+#[tactic(auto, using(std::proofs::lemmas::Bool::Decides::nat_tests), unfolding(crate::specs::Rows::word_of))]
 pub fn element(words: &[u32], base: usize, code: u32, k: usize) -> u32
     ensures { result ≡ word_of words.now base code k }
 {
-    if code < 0x8000_0000 {
-        crate::words::word(words, base, k)
-    } else {
-        crate::words::word(words, base, 0)
-    }
+    word(words, base, if code < 0x8000_0000 { k } else { 0 })
 }
 
-// Puts the row into a slice, as whole numbers, as numbers with a sign, and as floats.
-pub fn put_words(words: &[u32], base: usize, code: u32, out: &mut [u32])
-    ensures { out.new ≡ mapi (words_as words.now base code) out.old }
+// Puts the row into a slice.
+pub fn put<T: Element>(words: &[u32], base: usize, code: u32, out: &mut [T])
+    ensures { out.new ≡ mapi (element_as T.value_of words.now base code) out.old }
 {
-    let mut i = 0;
-    while i < out.len() {
-        out[i] = element(words, base, code, i);
-        i += 1;
-    }
-}
-
-pub fn put_ints(words: &[u32], base: usize, code: u32, out: &mut [i32])
-    ensures { out.new ≡ mapi (ints_as words.now base code) out.old }
-{
-    let mut i = 0;
-    while i < out.len() {
-        out[i] = crate::words::int(element(words, base, code, i));
-        i += 1;
-    }
-}
-
-pub fn put_floats(words: &[u32], base: usize, code: u32, out: &mut [f32])
-    ensures { out.new ≡ mapi (floats_as words.now base code) out.old }
-{
-    let mut i = 0;
-    while i < out.len() {
-        out[i] = crate::words::float(element(words, base, code, i));
-        i += 1;
+    for (i, x) in out.iter_mut().enumerate() {
+        *x = T::of_word(element(words, base, code, i));
     }
 }
 
 // Whether a slice is what the row says, element for element. Its length is the caller's to compare.
-pub fn same_words(words: &[u32], base: usize, code: u32, found: &[u32]) -> bool
-    ensures { result ≡ same_row eqb (word_of words.now base code) 0 found.now }
+pub fn same<T: Element>(words: &[u32], base: usize, code: u32, found: &[T]) -> bool
+    ensures { result ≡ same_row T.is_value (word_of words.now base code) 0 found.now }
 {
-    let mut i = 0;
-    while i < found.len() {
-        if found[i] != element(words, base, code, i) {
+    for (i, x) in found.iter().enumerate() {
+        if !x.is_word(element(words, base, code, i)) {
             return false;
         }
-        i += 1;
-    }
-    true
-}
-
-pub fn same_ints(words: &[u32], base: usize, code: u32, found: &[i32]) -> bool
-    ensures { result ≡ same_row is_int (word_of words.now base code) 0 found.now }
-{
-    let mut i = 0;
-    while i < found.len() {
-        if !crate::words::is_int(found[i], element(words, base, code, i)) {
-            return false;
-        }
-        i += 1;
-    }
-    true
-}
-
-pub fn same_floats(words: &[u32], base: usize, code: u32, found: &[f32]) -> bool
-    ensures { result ≡ same_row is_float (word_of words.now base code) 0 found.now }
-{
-    let mut i = 0;
-    while i < found.len() {
-        if !crate::words::is_float(found[i], element(words, base, code, i)) {
-            return false;
-        }
-        i += 1;
     }
     true
 }

@@ -14,8 +14,8 @@ use Rattle.panel.specs.declared.kinds.Path.{Path}
 use Rattle.panel.specs.declared.kinds.TileNo.{TileNo}
 use Rattle.walk.specs.Step.{Boxed, step_of, last_z_word, cross_of}
 use Rattle.walk.specs.declared.kinds.Pace.{Pace}
-use Rattle.walk.specs.declared.step.Step.{Step}
-use Rattle.walk.specs.declared.step.Step.TheVariants.{Tile, Refused}
+use Rattle.walk.specs.Stepped.{Step}
+use Rattle.walk.specs.Stepped.{Tile, Refused}
 use Rattle.walk.proofs.Tiles.{tile_in_lem, mark_in, mark_right, tile_once}
 use Rattle.walk.proofs.Walks.{StartsAt}
 use Rattle.acts.specs.Acts.{on, off}

@@ -3,8 +3,8 @@ use Rattle.std.specs.Prelude.{ℕ}
 use Rattle.panel.specs.declared.kinds.Path.{Path}
 use Rattle.walk.specs.Step.{step_of, last_z_word, cross_of}
 use Rattle.walk.specs.declared.kinds.Pace.{Pace}
-use Rattle.walk.specs.declared.step.Step.{Step}
-use Rattle.walk.specs.declared.step.Step.TheVariants.{Tile, Refused}
+use Rattle.walk.specs.Stepped.{Step}
+use Rattle.walk.specs.Stepped.{Tile, Refused}
 use Rattle.acts.specs.Acts.{Hit, on, off}
 
 -- a step is on its tile, and marks the one right of it where its top edge is crossed; or it is outside

@@ -1,9 +1,8 @@
 // Where the steps of a walk fall, and the words that note them: definitions in specs/, laws in proofs/. Counting's parts
 // tell each other of a line's steps in these.
-
-// So many steps of a line are noted by its check; those past them are walked again by its write.
 #![tactic(auto)]
 
+// So many steps of a line are noted by its check; those past them are walked again by its write.
 pub const NOTE_WORDS: u32 = 256;
 
 // The same, as an array's length.

@@ -16,8 +16,8 @@ use Rattle.walk.proofs.AroundLaws.{ends_ordered}
 use Rattle.clip.proofs.Unclipped.{clip_inside}
 use Rattle.inside.specs.Inside.{InBox, InsideMet}
 use Rattle.inside.specs.Stages.{in_edges_of, pace_of, paced_of}
-use Rattle.inside.specs.declared.Inside.{Inside}
-use Rattle.inside.specs.declared.Inside.TheVariants.{In, Other}
+use Rattle.inside.specs.Found.{Inside}
+use Rattle.inside.specs.Found.{In, Other}
 use Rattle.inside.proofs.Compared.{edges_told, not_past, not_clipped}
 
 module _ (p0 p1 : Vec2) where

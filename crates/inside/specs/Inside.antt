@@ -6,10 +6,10 @@ use Rattle.panel.specs.declared.lines.LineEnds.{LineEnds}
 use Rattle.walk.specs.Page.{line_of}
 use Rattle.walk.specs.Lent.{Reached, walked_of}
 use Rattle.walk.specs.declared.kinds.Pace.{Pace}
-use Rattle.walk.specs.declared.kinds.Walked.TheVariants.{Line}
+use Rattle.walk.specs.Walked.{Line}
 use Rattle.clip.specs.Page.{clipped_of}
-use Rattle.inside.specs.declared.Inside.{Inside}
-use Rattle.inside.specs.declared.Inside.TheVariants.{In, Other}
+use Rattle.inside.specs.Found.{Inside}
+use Rattle.inside.specs.Found.{In, Other}
 
 -- the line from p0 to p1 is walked over the box b at this pace in n steps, of which none is clipped, and passes no row left of the box
 pub record InBox (p0 p1 : Vec2) (b : Path) (pace : Pace) (n : ℕ) : Type 0 where

@@ -3,3 +3,4 @@
 --     Stages   what it looks at, by its parts
 pub mod Inside
 pub mod Stages
+pub mod Found

@@ -7,8 +7,8 @@ use Rattle.walk.specs.Skip.{flat_of}
 use Rattle.walk.specs.Around.{least_of, last_of}
 use Rattle.box_edges.specs.declared.Edges.{Edges}
 use Rattle.walk.specs.declared.kinds.Pace.{Pace}
-use Rattle.inside.specs.declared.Inside.{Inside}
-use Rattle.inside.specs.declared.Inside.TheVariants.{In, Other}
+use Rattle.inside.specs.Found.{Inside}
+use Rattle.inside.specs.Found.{In, Other}
 
 -- both ends lie within the edges, and none is a NaN; a line along the right edge, or from the bottom edge on, does not
 unfoldable pub in_edges_of : Vec2 → Vec2 → Edges → Bool

@@ -15,16 +15,9 @@ use box_edges::{Edges, edges_of};
 use float32::pick;
 use panel::kinds::Path;
 use panel::lines::{end_at, line_at};
-use setup::{count_steps, flat, incline, rise, start};
+use setup::{count_steps, edges_around, flat, incline, rise, start};
 use util::{TILE_SCALE, Vec2};
 use walk::kinds::Pace;
-
-// A line's pace, and its steps; or a line to be looked at in another way.
-#[derive(Clone, Copy)]
-pub enum Inside {
-    In(Pace, u32),
-    Other,
-}
 
 // A line's ends in tiles, the upper one first.
 #[derive(Clone, Copy)]
@@ -60,21 +53,19 @@ fn in_edges(s0: Vec2, s1: Vec2, g: Edges) -> bool
 
 // The pace and the steps of a checked line, by its ends in tiles; or nothing where it is skipped. The numbers are those of
 // `setup`.
-fn paced(s0: Vec2, s1: Vec2) -> Inside
+fn paced(s0: Vec2, s1: Vec2) -> Option<(Pace, u32)>
     requires { Scaled s0 × Scaled s1 × (lt s1.y s0.y ≡ false) }
     ensures { result ≡ paced_of s0 s1 }
 {
     let top = float32::floor_near(s0.y);
-    let bottom = -float32::floor_near(-pick(s0.y < s1.y, s1.y, s0.y));
-    let left = float32::floor_near(pick(s1.x < s0.x, s1.x, s0.x));
-    let right = -float32::floor_near(-pick(s0.x < s1.x, s1.x, s0.x));
+    let around = edges_around(s0, s1, top);
     if flat(s0, s1, top) {
-        return Inside::Other;
+        return None;
     }
-    let k = count_steps(left, right, top, bottom);
-    let m = incline(s0, s1, left, right, top, bottom);
+    let k = count_steps(around);
+    let m = incline(s0, s1, around);
     let b = start(m, s0);
-    let a = rise(m, left, right, top, bottom, b);
+    let a = rise(m, around, b);
     let pace = Pace {
         a,
         b,
@@ -83,18 +74,19 @@ fn paced(s0: Vec2, s1: Vec2) -> Inside
         sign: m.sign,
         on_top: m.y0 == s0.y,
     };
-    Inside::In(pace, k.count)
+    Some((pace, k.count))
 }
 
-// The line at a place of those lent, over the box of its path.
-pub fn inside_at(coords: &[f32], place: u32, b: Path) -> Inside
+// The pace of the line at a place of those lent, over the box of its path, and the number of its steps; nothing of a line
+// that is to be looked at in another way.
+pub fn inside_at(coords: &[f32], place: u32, b: Path) -> Option<(Pace, u32)>
     requires { Boxed b × (place * line_floats + line_floats ≤ length coords.now) }
     ensures { InsideMet (line_at coords.now place) b result }
 {
     let t = ends_at(coords, place);
     let g = edges_of(b);
     if !in_edges(t.s0, t.s1, g) {
-        return Inside::Other;
+        return None;
     }
     paced(t.s0, t.s1)
 }

@@ -15,10 +15,10 @@ use Rattle.lists.specs.Run.{done}
 use Rattle.panel.specs.Limits.{most_steps, most_slots}
 use Rattle.panel.specs.Widths.{ref_words, step_range}
 use Rattle.panel.specs.declared.kinds.Path.{Path}
-use Rattle.panel.specs.declared.kinds.Verdict.TheVariants.{Fine}
+use Rattle.panel.specs.Verdict.{Fine}
 use Rattle.walk.specs.Lent.{walk_at}
 use Rattle.walk.specs.declared.kinds.Pace.{Pace}
-use Rattle.walk.specs.declared.kinds.Walked.{Walked}
+use Rattle.walk.specs.Walked.{Walked}
 use Rattle.walk.proofs.Walks.{StartsAt}
 use Rattle.clip.specs.declared.Clip.{Clip}
 use Rattle.within.specs.Within.{Unclipped}
@@ -32,8 +32,8 @@ use Rattle.hits.specs.Notes.{hits_by, Notes, note_words, OnTiles}
 use Rattle.few_steps.specs.Few.{FewMet}
 use Rattle.inside_lines.specs.Direct.{DirectMet}
 use Rattle.walked_lines.specs.Line.{plan_by, walked_step, line_ran, Lent}
-use Rattle.few_steps.specs.declared.Direct.{Direct}
-use Rattle.few_steps.specs.declared.Direct.TheVariants.{On, Other}
+use Rattle.few_steps.specs.Direct.{Direct}
+use Rattle.few_steps.specs.Direct.{On, Other}
 use Rattle.hits.proofs.StepLaws.{apart}
 use Rattle.hits.proofs.NoteLaws.{none_leaves, notes_acts}
 use Rattle.walked_lines.proofs.Lines.{on_tiles, walkable, starts, walk_done}

@@ -11,14 +11,14 @@ ghost use Rattle.hits.specs.Notes.{note_words};
 ghost use Rattle.walked_lines.specs.Line.{Lent, There};
 ghost use Rattle.inside_lines.specs.Direct.{DirectMet};
 
-use few_steps::{Direct, FEW, count_few};
+use few_steps::{FEW, count_few};
 use hits::NOTE_WORDS;
 use panel::kinds::LineNo;
 use panel::limits::MOST_SLOTS;
 use panel::widths::REF_WORDS;
 use quick_notes::quick_steps;
 use walk_steps::write_notes;
-use within::{Within, within_at};
+use within::within_at;
 
 // The line at a place of those lent, as line number line, after made references.
 pub fn count_direct(
@@ -32,26 +32,23 @@ pub fn count_direct(
     backs: &mut [i32],
     counts: &mut [u32],
     refs: &mut [u32],
-) -> Direct
+) -> Option<u32>
     requires { Lent paths.now (length backs.old) (length counts.old) × There place (length path_nos.now) (length coords.now) × (length notes.old ≡ note_words) }
     ensures { DirectMet (walk_at path_nos.now coords.now paths.now place) (length refs.old / ref_words) line.0 made
         backs.old counts.old refs.old backs.new counts.new refs.new result }
 {
-    let within = within_at(path_nos, coords, paths, place);
-    let Within::Line(pace, path, n, up) = within else {
-        return Direct::Other;
-    };
+    let (pace, path, n, up) = within_at(path_nos, coords, paths, place)?;
     let after = (made as u64) + (n as u64);
     let room = (refs.len() / REF_WORDS) as u64;
     if (n > NOTE_WORDS) | (after > room) | (after > MOST_SLOTS as u64) {
-        return Direct::Other;
+        return None;
     }
     if n <= FEW {
         return count_few(pace, path, n, up, line, made, notes, backs, counts, refs);
     }
     if quick_steps(pace, path, up, 0, n, backs, counts, notes) {
         write_notes(notes, up, line, 0, n, made, backs, counts, refs);
-        return Direct::On(n);
+        return Some(n);
     }
-    Direct::Other
+    None
 }

@@ -1,11 +1,14 @@
 -- The range of a path that is there, kept, cleared and given back, by what its lines come to. Assumes nothing.
-use mathlib.Core.Path.{◌≡◌, sym, ap, ap₂, ◌∙◌}
+use mathlib.Core.Path.{◌≡◌, refl, sym, ap, ap₂, ◌∙◌}
 use mathlib.Core.List.{List, [], ◌∷◌}
 use Prim.Native.Nat.{ℕ, ◌+◌, ◌/◌, ◌<◌, ◌≤◌}
 use native.Mathlib.Omega.{arith}
 use lib.ListN.{length, get_or}
 use lib.IntN.{ℤ, pos}
 use lib.Ieee.{Float}
+use mathlib.Core.Bool.{true, false}
+use Rattle.std.proofs.Common.{Result, Ok, Err}
+use Rattle.std.specs.Result.{is_err}
 use Rattle.lists.specs.Run.{Ran, done, refused}
 use Rattle.ranges.specs.Ranges.{cleared_of, copied_of}
 use Rattle.panel.specs.Refusals.{done_no}
@@ -18,8 +21,8 @@ use Rattle.acts.specs.Line.{Refusal}
 use Rattle.walked_lines.specs.Line.{Lent}
 use Rattle.path_count.specs.Count.{Told, told_of}
 use Rattle.new_lines.specs.Own.{paper_of, made_of, lines_told, lines_ran}
-use Rattle.new_lines.specs.declared.Recounted.{Recounted}
-use Rattle.new_lines.specs.declared.Recounted.TheVariants.{Done, Refused}
+use Rattle.new_lines.specs.Recounted.{Recounted}
+use Rattle.new_lines.specs.Recounted.{Done, Refused}
 use Rattle.kept_range.specs.Kept.{out_of, tiles_in, cleared_for, kept_from, ran_out, redrawn_of}
 
 -- ---- the range of a path that is there
@@ -102,3 +105,13 @@ module _ (p : ℕ) (line_nos nos : List ℕ) (coords : List Float) (paths : List
   redrawn_refused why item m q bs₂ eb cs₂ ec =
       ran_refused line_nos (path_at paths p) kb' kc' r bs₁ cs₁ rs₁ why item m q bs₂ (rw (ea, en) at eb) cs₂ (rw (ea, en) at ec) ran from_cleared
       ∙ ap₂ (λ (x : List ℤ) (y : List ℕ). ran_out line_nos (path_at paths p) x y ran) same_backs same_counts
+
+-- ---- an answer, by the test whether it is a refusal
+
+pub at_err : {T E : Type 0} (r : Result T E) → is_err r ≡ true → (e : E) × (r ≡ Err e)
+at_err (Ok m) h = let z : ◌≡◌ {A = ℕ} 0 1 = cc in absurd (omega arith)
+at_err (Err e) h = (e, refl)
+
+pub at_ok : {T E : Type 0} (r : Result T E) → is_err r ≡ false → (m : T) × (r ≡ Ok m)
+at_ok (Ok m) h = (m, refl)
+at_ok (Err e) h = let z : ◌≡◌ {A = ℕ} 0 1 = cc in absurd (omega arith)

@@ -9,7 +9,7 @@ use Rattle.panel.specs.declared.kinds.Path.{Path}
 use Rattle.acts.specs.Acts.{St, st_of}
 use Rattle.acts.specs.Line.{Refusal}
 use Rattle.new_lines.specs.Own.{lines_ran, paper_of}
-use Rattle.new_lines.specs.declared.Recounted.{Recounted}
+use Rattle.new_lines.specs.Recounted.{Recounted}
 
 -- ---- the answer on paper
 

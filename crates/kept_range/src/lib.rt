@@ -2,16 +2,18 @@
 // refused they get back what they held.
 #![tactic(auto)]
 
-ghost use Rattle.std.specs.Prelude.{◌≡◌, ◌*◌, ◌≤◌, ◌<◌, length};
+ghost use Rattle.std.specs.Prelude.{◌≡◌, ◌+◌, ◌*◌, ◌≤◌, ◌<◌, length};
 ghost use Rattle.panel.specs.Paths.{path_at, path_count};
 ghost use Rattle.panel.specs.Widths.{line_floats};
 ghost use Rattle.walked_lines.specs.Line.{Lent};
+ghost use Rattle.ranges.specs.Ranges.{copied_of};
+ghost use Rattle.new_lines.specs.Recounted.{recounted_told};
 ghost use Rattle.kept_range.specs.Kept.{tiles_in, out_of, redrawn_of};
 
-use new_lines::{Recounted, count_lines};
+use new_lines::{RecountRefused, count_lines};
 use panel::kinds::Path;
 use panel::paths::path_at;
-use ranges::{clear_backdrops, clear_words, copy_backdrops, copy_words};
+use ranges::clear;
 
 // How many tiles a path has whose box is in order.
 pub fn tiles_in(p: Path) -> usize
@@ -19,6 +21,17 @@ pub fn tiles_in(p: Path) -> usize
     ensures { result ≡ tiles_in p }
 {
     ((p.x1 - p.x0) as usize) * ((p.y1 - p.y0) as usize)
+}
+
+// The n from a on, from b on in another slice.
+fn copy<T: Copy + Drop>(from: &[T], a: usize, to: &mut [T], b: usize, n: usize)
+    requires { (a + n ≤ length «from».now) × (b + n ≤ length to.old) }
+    ensures { (d : T) → to.new ≡ copied_of d «from».now a b n to.old }
+{
+    // a loop: copy_from_slice compiles to memmove, which the archive may not need
+    for i in 0..n {
+        to[b + i] = from[a + i];
+    }
 }
 
 // The range is kept and zeroed, and the lines are counted; where one is refused, the range gets back
@@ -34,28 +47,27 @@ pub fn redraw(
     refs: &mut [u32],
     kept_backdrops: &mut [i32],
     kept_counts: &mut [u32],
-) -> Recounted
+) -> Result<u32, RecountRefused>
     requires { Lent paths.now (length backdrops.old) (length counts.old) × (path < path_count paths.now)
         × (length line_nos.now ≡ length path_nos.now) × (length path_nos.now * line_floats ≤ length coords.now)
         × (length kept_backdrops.old ≡ tiles_in (path_at paths.now path)) × (length kept_counts.old ≡ tiles_in (path_at paths.now path)) }
-    ensures { out_of result backdrops.new counts.new refs.new kept_backdrops.new kept_counts.new
+    ensures { out_of (recounted_told result) backdrops.new counts.new refs.new kept_backdrops.new kept_counts.new
         ≡ redrawn_of path line_nos.now path_nos.now coords.now paths.now backdrops.old counts.old refs.old
         kept_backdrops.old kept_counts.old }
 {
     let b = path_at(paths, path);
     let first = b.first as usize;
     let n = tiles_in(b);
-    copy_backdrops(backdrops, first, kept_backdrops, 0, n);
-    copy_words(counts, first, kept_counts, 0, n);
-    clear_backdrops(backdrops, first, n);
-    clear_words(counts, first, n);
+    copy(backdrops, first, kept_backdrops, 0, n);
+    copy(counts, first, kept_counts, 0, n);
+    clear(backdrops, first, n, 0);
+    clear(counts, first, n, 0);
     let r = count_lines(
         path, line_nos, path_nos, coords, paths, backdrops, counts, refs,
     );
-    if let Recounted::Refused(why, item, made) = r {
-        copy_backdrops(kept_backdrops, 0, backdrops, first, n);
-        copy_words(kept_counts, 0, counts, first, n);
-        return Recounted::Refused(why, item, made);
+    if r.is_err() {
+        copy(kept_backdrops, 0, backdrops, first, n);
+        copy(kept_counts, 0, counts, first, n);
     }
     r
 }

@@ -4,11 +4,10 @@ use mathlib.Core.Bool.{Bool, true, false}
 use mathlib.Core.List.{List, []}
 use Prim.Native.Nat.{ℕ, ◌+◌, ◌-◌, ◌*◌, ◌/◌, ◌≤◌, ◌<◌}
 use native.Mathlib.Omega.{arith}
-use lib.ListN.{length, get_or, set}
+use lib.ListN.{length, get_or}
 use lib.Ieee.{Float, nan}
 use Rattle.lists.specs.Grid.{mapi, within}
 use Rattle.lists.specs.GridLaws.{get_d_mapi, within_cong}
-use Rattle.ranges.proofs.Turn.{Done, turned_at}
 use Rattle.sides.specs.Tile.{tile_width, tile_height, tile_size, row_start}
 use Rattle.colours.specs.Colour.{over_of, composite_of, pack_of}
 use Rattle.colours.specs.Layer.{each, spread, meant, Level}
@@ -17,13 +16,6 @@ use Rattle.screen_rows.specs.Rows.{row_at, place_of, packed, from_list, one_word
 use Rattle.last_colour.specs.Last.{from_one, from_each}
 use Rattle.screen_rows.proofs.Places.{place_in_row}
 use Rattle.screen_rows.proofs.Flats.{once, meant_at}
-
--- one more of a row's words
-pub word_put : (f : ℕ → List Float) (w tx ty y x : ℕ) (l₀ l : List ℕ) (v : ℕ) → y < tile_height → tile_width * tx + tile_width ≤ w → x < tile_width
-    → Done (packed f w) (row_at w tx ty y) (row_at w tx ty y + x) l₀ l → v ≡ pack_of (f (tile_width * y + x))
-    → Done (packed f w) (row_at w tx ty y) (row_at w tx ty y + (x + 1)) l₀ (set l (row_at w tx ty y + x) v)
-word_put f w tx ty y x l₀ l v hy hw hx done e =
-    turned_at (packed f w) 0 (row_at w tx ty y) x l₀ l v done (e ∙ ap (λ (k : ℕ). pack_of (f k)) (sym (place_in_row w tx ty y hy hw x hx)))
 
 -- a row's words by two ways of telling its colours
 row_words : (f g : ℕ → List Float) (w tx ty y : ℕ) (l m : List ℕ) → y < tile_height → tile_width * tx + tile_width ≤ w

@@ -12,7 +12,7 @@ ghost use Rattle.last_colour.specs.Last.{from_one, from_each};
 
 use colours::layer::all_level;
 use colours::{over, pack};
-use screen_rows::fill_row;
+use screen_rows::{fill_row, put_words};
 use sides::{TILE_HEIGHT, TILE_SIZE, TILE_WIDTH};
 
 // Row y of the tile, where it is flat: the colour fg over its one colour, pixel by pixel by the area, packed at once.
@@ -30,16 +30,15 @@ pub fn put_slope(
         × (length area.now ≡ tile_size) }
     ensures { pixels.new ≡ mapi (within (row_at width tx ty y) (row_at width tx ty y + tile_width) (from_one area.now fg one width)) pixels.old }
 {
-    let base = width * (TILE_HEIGHT * ty + y) + TILE_WIDTH * tx;
     let first = TILE_WIDTH * y;
-    let mut x = 0usize;
-    while x < TILE_WIDTH {
-        let px = over(one, fg, area[first + x]);
-        let packed = pack(px);
-        let at = base + x;
-        pixels[at] = packed;
-        x += 1;
-    }
+    put_words(
+        pixels,
+        width,
+        tx,
+        ty,
+        y,
+        |x| pack(over(one, fg, area[first + x])),
+    )
 }
 
 // Row y of the tile, where it isn't flat: the colour fg over each pixel's own, by the area, packed at once.
@@ -57,17 +56,15 @@ pub fn put_each(
         × (length area.now ≡ tile_size) }
     ensures { pixels.new ≡ mapi (within (row_at width tx ty y) (row_at width tx ty y + tile_width) (from_each area.now fg rgba.now width)) pixels.old }
 {
-    let base = width * (TILE_HEIGHT * ty + y) + TILE_WIDTH * tx;
     let first = TILE_WIDTH * y;
-    let mut x = 0usize;
-    while x < TILE_WIDTH {
-        let under = rgba[first + x];
-        let px = over(under, fg, area[first + x]);
-        let packed = pack(px);
-        let at = base + x;
-        pixels[at] = packed;
-        x += 1;
-    }
+    put_words(
+        pixels,
+        width,
+        tx,
+        ty,
+        y,
+        |x| pack(over(rgba[first + x], fg, area[first + x])),
+    )
 }
 
 // Row y of the tile, with the colour fg laid over it, whose pixels are not stored as colours before they are packed.
@@ -117,9 +114,7 @@ pub fn put_last(
     ensures { pixels.new
         ≡ put_tile (from_list (composite_of area.now fg (meant flat.now rgba.now)) width) width tx ty pixels.old }
 {
-    let mut y = 0usize;
-    while y < TILE_HEIGHT {
+    for y in 0..TILE_HEIGHT {
         put_over(pixels, width, tx, ty, y, rgba, flat, fg, area);
-        y += 1;
     }
 }

@@ -15,7 +15,7 @@ ghost use Rattle.lay_pairs.specs.Room.{Room, words_named};
 
 use commands::numbers::{END, FILL_WORDS, SOLID_WORDS, TILE_WORDS};
 use commands::put::{put_color, put_fill, put_jump, put_solid};
-use pairs::{Pair, Put};
+use pairs::Pair;
 use sizes::{fits, pair_size};
 
 // The word of a fresh region that a list goes on at: its first. In a tile's own region it starts at
@@ -62,14 +62,12 @@ fn turn(words: &mut [u32], pen: Pen, fits: bool) -> Pen
     if fits {
         return pen;
     }
-    let at = pen.at;
-    let fresh = pen.fresh;
-    let to = fresh + FRESH_START;
-    put_jump(words, at, to as u32);
+    let to = pen.fresh + FRESH_START;
+    put_jump(words, pen.at, to as u32);
     Pen {
         at: to,
         left: TILE_WORDS,
-        fresh: fresh + TILE_WORDS,
+        fresh: pen.fresh + TILE_WORDS,
     }
 }
 
@@ -81,23 +79,22 @@ fn lay_pair(words: &mut [u32], pen: Pen, pair: Pair) -> Pen
     let ok = fits(pair, pen.left);
     let size = pair_size(pair);
     let here = turn(words, pen, ok);
-    let at = here.at;
-    put_pair(words, at, pair);
+    put_pair(words, here.at, pair);
     Pen {
-        at: at + size,
+        at: here.at + size,
         left: here.left - size,
         fresh: here.fresh,
     }
 }
 
 // What one path puts there.
-pub fn lay_put(words: &mut [u32], pen: Pen, put: Put) -> Pen
+pub fn lay_put(words: &mut [u32], pen: Pen, put: Option<Pair>) -> Pen
     requires { (Room pen (put_list put) (length words.old)) × (all_fit most_slots (put_list put) ≡ true) }
     ensures { (result ≡ pen_after pen (put_list put)) × (words.new ≡ written (begun pen (put_list put)) words.old) }
 {
     match put {
-        Put::Nothing => pen,
-        Put::Puts(pair) => lay_pair(words, pen, pair),
+        None => pen,
+        Some(pair) => lay_pair(words, pen, pair),
     }
 }
 

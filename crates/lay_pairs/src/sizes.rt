@@ -9,13 +9,7 @@ pub fn pair_size(pair: Pair) -> usize
     ensures { result ≡ pair_size pair }
 {
     match pair {
-        Pair::Fill {
-            count: _,
-            rule: _,
-            first: _,
-            backdrop: _,
-            colour: _,
-        } => FILL_WORDS + COLOR_WORDS,
+        Pair::Fill { .. } => FILL_WORDS + COLOR_WORDS,
         Pair::Solid(_) => SOLID_WORDS + COLOR_WORDS,
     }
 }
@@ -24,15 +18,14 @@ pub fn pair_size(pair: Pair) -> usize
 pub fn fits(pair: Pair, left: usize) -> bool
     ensures { result ≡ fits pair left }
 {
-    let size = pair_size(pair);
-    size + JUMP_WORDS <= left
+    pair_size(pair) + JUMP_WORDS <= left
 }
 
 // The JUMPs before a pair that fits, or does not.
 pub fn jump_count(fits: bool) -> u32
     ensures { result ≡ jump_count fits }
 {
-    if fits { 0 } else { 1 }
+    u32::from(!fits)
 }
 
 // The words left for it then.

@@ -13,14 +13,12 @@ use lib.ListN.{get_or}
 use lib.Dec.{eqb}
 use Rattle.panel.specs.Paths.{beam_at}
 use Rattle.panel.specs.Pieces.{Pieces, placed}
-use Rattle.panel.specs.declared.kinds.Answer.TheVariants.{Done, Refused}
-use Rattle.panel.specs.declared.kinds.Verdict.{Verdict}
-use Rattle.panel.specs.declared.kinds.Verdict.TheVariants as Verdict
-use Rattle.walk.specs.declared.kinds.Walked.{Walked}
+use Rattle.panel.specs.Answer.{Done, Refused}
+use Rattle.panel.specs.Verdict.{Verdict}
+use Rattle.walk.specs.Walked.{Walked}
 use Rattle.looks.specs.Look.{line_at, packed_at, found_to}
 use Rattle.looks.specs.One.{One, one, one_of}
-use Rattle.looks.specs.declared.Look.{Look}
-use Rattle.looks.specs.declared.Look.TheVariants.{Put, Empty, Against}
+use Rattle.looks.specs.Looked.{Look, Put, Empty, Against}
 use Rattle.looks.proofs.OneLaws.{AsLong, long_self, long_then, long_placed, one_long}
 use Rattle.line_runs.specs.Runs.{Run, run, look_on, run_of}
 
@@ -100,11 +98,12 @@ module _ (stored : List ℕ) (slots : ℕ) (refs : List ℕ) (found : Walked) (t
           left = sym here ∙ g.left;
         }
 
-    pub over : to ≤ k → run Done k p ≡ run_of stored slots refs found tag line (to - from) from p₀
+    pub over : to ≤ k → run Done to p ≡ run_of stored slots refs found tag line (to - from) from p₀
     over h =
         let none_left : to - k ≡ 0 = omega arith in
+        let same : to ≡ k = omega (arith, g.high) in
         let here : run_of stored slots refs found tag line (to - k) k p ≡ run Done k p = rw (none_left, run_none k p) refl in
-        sym here ∙ g.left
+        ap (λ (n : ℕ). run Done n p) same ∙ sym here ∙ g.left
 
   -- how far a run goes, and that it leaves as many segments and tags
   pub record Goes (k n : ℕ) (p : Pieces) (r : Run) : Type 0 where

@@ -1,16 +1,15 @@
 -- A run of references, tiled as long as they name one line, which was found once. Only proofs lean on this: no promise of a public call does.
 -- Definitions only.
-use Rattle.std.specs.Prelude.{ℕ, zero, suc, ◌-◌, ◌*◌, ◌/◌, ◌≤◌, ◌<◌, ◌≡◌, cond, List, eqb, length}
+use Rattle.std.specs.Prelude.{Result, Ok, Err, ℕ, zero, suc, ◌-◌, ◌*◌, ◌/◌, ◌≤◌, ◌<◌, ◌≡◌, cond, List, eqb, length}
 use Rattle.panel.specs.Widths.{line_floats, ref_words, segment_floats}
 use Rattle.panel.specs.Paths.{paths_answer}
 use Rattle.panel.specs.Pieces.{Pieces, placed}
-use Rattle.panel.specs.declared.kinds.Answer.{Answer}
-use Rattle.panel.specs.declared.kinds.Answer.TheVariants.{Done, Refused}
-use Rattle.walk.specs.declared.kinds.Walked.{Walked}
+use Rattle.panel.specs.Refusals.{no_of}
+use Rattle.panel.specs.declared.kinds.Refused as E
+use Rattle.panel.specs.Answer.{Answer, Done, Refused}
+use Rattle.walk.specs.Walked.{Walked}
 use Rattle.looks.specs.Look.{Lent, line_at, packed_at, tag_of, found_of, found_to}
-use Rattle.looks.specs.declared.Look.{Look}
-use Rattle.looks.specs.declared.Look.TheVariants.{Put, Empty, Against}
-use Rattle.line_runs.specs.declared.Ran.{Ran}
+use Rattle.looks.specs.Looked.{Look, Put, Empty, Against}
 
 -- how far a run goes: up to `next`, or up to the refusal of `next`; and the segments and tags afterwards
 pub record Run : Type 0 where
@@ -21,8 +20,10 @@ pub record Run : Type 0 where
 abbrev pub run : Answer → ℕ → Pieces → Run
 run a k p = record { answer = a; next = k; pieces = p }
 
-abbrev pub ran_of : Ran → Pieces → Run
-ran_of r p = run r.answer r.next p
+-- what code answers, in these words: a reference refused is the one that it stops at
+abbrev pub ran_of : Result ℕ E.Refused → Pieces → Run
+ran_of (Ok next) p = run Done next p
+ran_of (Err e) p = run (Refused (no_of e.why) e.item) e.item p
 
 -- reference k, with its line's tag, and then the rest, on the segments and tags as they are then; a reference refused ends the run
 abbrev pub look_on : ℕ → ℕ → Look → (Pieces → Run) → Pieces → Run

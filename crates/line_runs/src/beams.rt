@@ -11,16 +11,18 @@ pub(crate) fn path_of(path_nos: &[u32], line: LineNo) -> u32
     ensures { result ≡ get_or path_nos.now line.0 0 }
 {
     if (line.0 as usize) < path_nos.len() {
-        return path_nos[line.0 as usize];
+        path_nos[line.0 as usize]
+    } else {
+        0
     }
-    0
 }
 
 pub(crate) fn tag_of(paths: &[u32], path: u32) -> u32
     ensures { result ≡ beam_at paths.now path }
 {
     if (path as usize) < paths.len() / PATH_WORDS {
-        return beam_at(paths, path);
+        beam_at(paths, path)
+    } else {
+        0
     }
-    0
 }

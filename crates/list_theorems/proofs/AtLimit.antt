@@ -12,10 +12,9 @@ use Rattle.panel.specs.Limits.{most_paths, most_tiles, edge_most, most_commands}
 use Rattle.panel.specs.Refusals.{too_long_word}
 use Rattle.panel.specs.Widths.{path_words, paint_words, place_colour, place_rule}
 use Rattle.panel.specs.Slots.{not32}
-use Rattle.panel.specs.Checks.{first_no}
 use Rattle.panel.specs.Paths.{path_of, path_at, path_count, tile_of, end_of, lent_checks, paths_from, paths_answer}
 use Rattle.panel.specs.declared.kinds.Path.{Path}
-use Rattle.panel.specs.declared.kinds.Answer.TheVariants.{Done}
+use Rattle.panel.specs.Answer.{Done}
 use Rattle.panel.proofs.RecordLaws.{path_first, path_next, path_more}
 use Rattle.panel.proofs.CheckLaws.{none_fails, unless_fine}
 use Rattle.pairs.specs.Pairs.{Tables, tables, on_tile, on_path, pairs_of, tile_pairs, bits_of}

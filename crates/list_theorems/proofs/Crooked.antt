@@ -15,21 +15,20 @@ use Rattle.panel.specs.Limits.{most_commands}
 use Rattle.panel.specs.Refusals.{bad_segment}
 use Rattle.panel.specs.Segments.{segment_at}
 use Rattle.panel.specs.Widths.{segment_floats}
-use Rattle.panel.specs.declared.kinds.Verdict.{Verdict}
-use Rattle.panel.specs.declared.kinds.Verdict.TheVariants.{Fine, Against}
+use Rattle.panel.specs.Verdict.{Verdict, Fine, Against}
 use Rattle.panel.proofs.HeldLaws.{not_straight, crooked_not}
 use Rattle.coverage.specs.Ground.{straight_from, ground_of}
 use Rattle.coverage.proofs.Crooked.{crooked_at, first_crooked}
 use Rattle.reader.specs.Look.{look_at}
-use Rattle.reader.specs.declared.Look.TheVariants.{Word}
+use Rattle.reader.specs.Looked.{Word}
 use Rattle.commands.specs.Numbers.{fill_no, encode, fill_words, tile_words, start_of}
-use Rattle.commands.specs.Moves.{op_of, count_of, on_ground, fill_move, whole_move, move_of, Trace, ends, does, trace_of, end_of}
+use Rattle.commands.specs.Moves.{op_of, count_of, on_ground, fill_move, whole_move, move_of, ends, trace_of, end_of}
 use Rattle.commands.specs.declared.steps.Act.TheVariants as Act
-use Rattle.commands.specs.declared.steps.Move.TheVariants.{Refused, Goes}
+use Rattle.commands.specs.Move.{Refused, Goes}
 use Rattle.commands.proofs.Traced.{trace_stop}
 use Rattle.commands.proofs.Encoded.{Stands, act_goes, end_goes}
 use Rattle.screen_tile.specs.Tile.{tile_trace, ends_at}
-use Rattle.pairs.specs.Pairs.{Tables, tile_pairs, fill_rule, cover_of, colour_of}
+use Rattle.pairs.specs.Pairs.{Tables, tile_pairs, fill_rule, cover_of}
 use Rattle.lay_pairs.specs.Layout.{pair_words, pair_size, chunk, pen_at, fits, jump_if, turned, past, laid, jump_count, left_at, jumps_of, own_words}
 use Rattle.write_lists.specs.Lists.{lists_of}
 use Rattle.pairs.specs.declared.Pair.{Pair}
@@ -37,9 +36,9 @@ use Rattle.pairs.specs.declared.Pair.TheVariants.{Fill, Solid}
 use Rattle.list_theorems.specs.Refusing.{Some, CrookedPair}
 use Rattle.list_theorems.specs.Written.{Wrote}
 use Rattle.list_theorems.proofs.Writes.{first_stands}
-use Rattle.list_theorems.proofs.Regions.{ChunkStands, Filled, Drawn, pair_goes}
+use Rattle.list_theorems.proofs.Regions.{ChunkStands, Filled, pair_goes}
 use Rattle.list_theorems.proofs.Apart.{tile_among}
-use Rattle.list_theorems.proofs.Passed.{Passed, passed}
+use Rattle.list_theorems.proofs.Passed.{passed}
 use Rattle.list_theorems.proofs.Written.{stand}
 
 -- ---- how a pair's FILL is taken, and a row of pairs

@@ -13,8 +13,7 @@ use Rattle.lists.specs.Sums.{from}
 use Rattle.panel.specs.Limits.{most_slots, most_commands}
 use Rattle.panel.specs.Refusals.{done_no, no_room_word, too_long_word}
 use Rattle.panel.specs.Checks.{check, first_no, unless}
-use Rattle.panel.specs.declared.kinds.Answer.{Answer}
-use Rattle.panel.specs.declared.kinds.Answer.TheVariants.{Done, Refused}
+use Rattle.panel.specs.Answer.{Answer, Done, Refused}
 use Rattle.commands.specs.Numbers.{tile_words}
 use Rattle.panel.proofs.BoolLaws.{one_false}
 use Rattle.pairs.specs.Pairs.{Tables, tile_pairs}

@@ -14,10 +14,8 @@ use Rattle.panel.specs.Limits.{most_slots}
 use Rattle.panel.specs.Checks.{first_no, unless}
 use Rattle.panel.specs.Paths.{path_at, path_count, tile_of}
 use Rattle.panel.specs.Slots.{not32}
-use Rattle.panel.specs.declared.kinds.Answer.{Answer}
-use Rattle.panel.specs.declared.kinds.Answer.TheVariants.{Done, Refused}
-use Rattle.panel.specs.declared.kinds.Verdict.{Verdict}
-use Rattle.panel.specs.declared.kinds.Verdict.TheVariants.{Fine, Against}
+use Rattle.panel.specs.Answer.{Answer, Done, Refused}
+use Rattle.panel.specs.Verdict.{Verdict, Fine, Against}
 use Rattle.panel.proofs.CheckLaws.{all_ok, none_fails, unless_fine}
 use Rattle.hand_out.specs.HandOut.{hand, out_of, on_fine, hand_checks, hand_out_of}
 use Rattle.hand_out.proofs.HandLaws.{reads_back, out_once}

@@ -11,7 +11,7 @@ use lib.Ieee.{Float}
 use Rattle.panel.specs.Limits.{edge_most}
 use Rattle.panel.specs.Paths.{boxed, path_at, paths_from, paths_answer}
 use Rattle.panel.specs.Segments.{segment_at, Straight}
-use Rattle.panel.specs.declared.kinds.Answer.TheVariants.{Done}
+use Rattle.panel.specs.Answer.{Done}
 use Rattle.hand_out.specs.HandOut.{out_of, hand_out_of}
 use Rattle.panel.specs.Signed.{in_i32}
 use Rattle.commands.specs.Numbers.{end_no, encode_to, jump_words, tile_words}

@@ -2,7 +2,7 @@
 use mathlib.Core.Path.{◌≡◌, refl, sym, ap, subst}
 use mathlib.Core.Bool.{Bool, true, false, cond}
 use mathlib.Core.List.{List, [], ◌∷◌}
-use Prim.Native.Nat.{ℕ, zero, suc, ◌+◌, ◌-◌, ◌*◌, ◌≤◌, ◌<◌}
+use Prim.Native.Nat.{ℕ, zero, suc, ◌+◌, ◌*◌, ◌≤◌, ◌<◌}
 use native.Mathlib.Decide.{ℕ_discrete}
 use native.Mathlib.Omega.{arith}
 use lib.Dec.{leb}
@@ -13,8 +13,7 @@ use Rattle.lists.specs.Sums.{from}
 use Rattle.panel.specs.Limits.{most_tiles, most_slots, most_commands}
 use Rattle.panel.specs.Refusals.{too_long_word}
 use Rattle.panel.specs.Paths.{paths_answer}
-use Rattle.panel.specs.declared.kinds.Answer.{Answer}
-use Rattle.panel.specs.declared.kinds.Answer.TheVariants.{Done, Refused}
+use Rattle.panel.specs.Answer.{Answer, Done, Refused}
 use Rattle.panel.proofs.CheckLaws.{all_ok, unless_done}
 use Rattle.panel.proofs.KindLaws.{paper_once}
 use Rattle.panel.proofs.BoolLaws.{both}
@@ -22,7 +21,7 @@ use Rattle.commands.specs.Numbers.{tile_words}
 use Rattle.pairs.specs.Pairs.{Tables, tile_pairs}
 use Rattle.lay_pairs.specs.Layout.{commands_of, written}
 use Rattle.lay_pairs.specs.Slots.{slots_fit, all_fit}
-use Rattle.write_lists.specs.Lists.{lent_checks, call_answer, long_from, fills_fit, room_checks, screen_tiles, regions_of, then_check, answer_of, lists_of, Left, left, on_done, write_lists_of}
+use Rattle.write_lists.specs.Lists.{lent_checks, call_answer, long_from, fills_fit, room_checks, screen_tiles, regions_of, answer_of, lists_of, Left, left, on_done, write_lists_of}
 use Rattle.pairs.specs.declared.Pair.{Pair}
 use Rattle.pairs.specs.declared.Pair.TheVariants.{Fill, Solid}
 use Rattle.write_lists.proofs.TileLaws.{then_done}

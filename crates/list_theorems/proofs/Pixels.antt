@@ -14,7 +14,7 @@ use Rattle.lists.specs.Run.{act_all, act_all_append}
 use Rattle.lists.specs.Sums.{from}
 use Rattle.panel.specs.Paths.{path_at, path_count, tile_of}
 use Rattle.panel.specs.Slots.{not32}
-use Rattle.panel.specs.declared.kinds.Verdict.TheVariants.{Fine}
+use Rattle.panel.specs.Verdict.{Fine}
 use Rattle.panel.proofs.BoolLaws.{both}
 use Rattle.panel.specs.Signed.{in_i32}
 use Rattle.coverage.specs.Coverage.{pixel_of}

@@ -5,12 +5,11 @@ use mathlib.Core.Bool.{cond}
 use mathlib.Core.List.{List, [], ◌∷◌, ◌++◌, reverse}
 use Prim.Native.Nat.{ℕ, suc, ◌+◌, ◌*◌, ◌/◌, ◌%◌, ◌≤◌, ◌<◌}
 use native.Mathlib.Omega.{arith}
-use lib.Dec.{ltb}
-use lib.IntN.{ℤ, pos, negsuc}
+use lib.IntN.{pos}
 use lib.ListN.{length, get_or, replicate}
 use lib.Ieee.{Float, add, sub, mul, div, neg, le, lt, eq, ne, of_int, of_bits, to_signed, to_unsigned, is_nan, round}
 use Rattle.float32.specs.Meaning.{floor_of, ceil_of, round_of, abs_of, min_of, max_of, clamp_of, signed, sign_of}
-use Rattle.util.specs.Constants.{zero, one}
+use Rattle.util.specs.Constants.{zero}
 use Rattle.lists.specs.Grid.{map_from}
 use Rattle.lists.specs.Run.{act_all}
 use Rattle.lists.specs.Sums.{from}
@@ -21,19 +20,18 @@ use Rattle.util.specs.Vec.{new_of}
 use Rattle.panel.specs.Segments.{InTile, segment_at, Straight}
 use Rattle.panel.specs.Paths.{boxed, path_at, path_count, tile_of, paths_from, paths_answer}
 use Rattle.panel.specs.Slots.{not32}
-use Rattle.panel.specs.declared.kinds.Answer.TheVariants.{Done}
-use Rattle.panel.specs.declared.kinds.Verdict.{Verdict}
-use Rattle.panel.specs.declared.kinds.Verdict.TheVariants.{Fine, Against}
+use Rattle.panel.specs.Answer.{Done}
+use Rattle.panel.specs.Verdict.{Verdict, Fine, Against}
 use Rattle.sides.specs.Tile.{tile_width, tile_size}
 use Rattle.coverage.specs.Coverage.{area_after, finish_of, sum_of, pixel_of}
 use Rattle.colours.specs.Colour.{channel_of, colour_of, over_of, byte_of, pack_of}
 use Rattle.commands.specs.Numbers.{end_no, tile_words}
-use Rattle.commands.specs.Pixel.{even_odd_of, cover, paint, point_of}
+use Rattle.commands.specs.Pixel.{cover, paint, point_of}
 use Rattle.commands.specs.Moves.{Trace, ends, does, op_of, fill_move, whole_move, move_of, trace_of}
 use Rattle.screen_rows.specs.Rows.{put_tile}
 use Rattle.screen_tile.specs.Tile.{clear, tile_trace, ends_at, colour_at as shown_at, tile_pixels}
 use Rattle.fine.specs.Fine.{Shown, shown, tile_step, tiles_of, fine_of}
-use Rattle.pairs.specs.Pairs.{Tables, tables, colour_at, rule_at, in_box, covers, on_tile, on_path, tile_pairs}
+use Rattle.pairs.specs.Pairs.{Tables, tables, colour_at, in_box, on_tile, on_path, tile_pairs}
 use Rattle.lay_pairs.specs.Layout.{pair_words, commands_of}
 use Rattle.write_lists.specs.Lists.{call_answer, regions_of, answer_of, lists_of, write_lists_of}
 use Rattle.pairs.specs.declared.Pair.{Pair}

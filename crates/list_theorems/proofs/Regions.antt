@@ -11,7 +11,7 @@ use lib.Ieee.{Float}
 use Rattle.lists.specs.Cells.{get_d_sets_before, get_d_sets_after}
 use Rattle.lists.specs.Run.{All}
 use Rattle.commands.specs.Numbers.{encode, tile_words}
-use Rattle.panel.specs.declared.kinds.Verdict.TheVariants.{Fine}
+use Rattle.panel.specs.Verdict.{Fine}
 use Rattle.coverage.specs.Ground.{ground_of}
 use Rattle.commands.specs.Moves.{count_of, does, trace_of}
 use Rattle.commands.specs.declared.steps.Act.TheVariants as Act

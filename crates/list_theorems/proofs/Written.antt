@@ -13,9 +13,8 @@ use Rattle.lists.specs.Run.{All}
 use Rattle.lists.specs.Sums.{from}
 use Rattle.panel.specs.Limits.{most_tiles, most_commands}
 use Rattle.panel.specs.Widths.{segment_floats}
-use Rattle.panel.specs.declared.kinds.Answer.{Answer}
-use Rattle.panel.specs.declared.kinds.Answer.TheVariants.{Done}
-use Rattle.panel.specs.declared.kinds.Verdict.{Verdict}
+use Rattle.panel.specs.Answer.{Answer, Done}
+use Rattle.panel.specs.Verdict.{Verdict}
 use Rattle.panel.specs.Segments.{segment_at}
 use Rattle.panel.proofs.CheckLaws.{none_fails}
 use Rattle.panel.proofs.HeldLaws.{is_straight}

@@ -1,6 +1,6 @@
 -- The commands of a list written: its pairs in painting order, with a JUMP before each pair that begins a region, and END. Definitions only.
 use Rattle.std.specs.Prelude.{Bool, true, false, List, [], ◌∷◌, ℕ}
-use Rattle.panel.specs.declared.kinds.Verdict.TheVariants.{Fine}
+use Rattle.panel.specs.Verdict.{Fine}
 use Rattle.commands.specs.Moves.{Trace, ends, does}
 use Rattle.commands.specs.declared.steps.Act.TheVariants.{Color, Jump}
 use Rattle.pairs.specs.Pairs.{cover_of, colour_of}

@@ -3,8 +3,8 @@ use Rattle.std.specs.Prelude.{◌≡◌, true, List, ℕ, ◌*◌, ◌/◌, ◌%
 use Rattle.lists.specs.Run.{All}
 use Rattle.panel.specs.Widths.{segment_floats}
 use Rattle.panel.specs.Segments.{segment_at, Straight}
-use Rattle.panel.specs.declared.kinds.Answer.TheVariants.{Done}
-use Rattle.panel.specs.declared.kinds.Verdict.TheVariants.{Fine}
+use Rattle.panel.specs.Answer.{Done}
+use Rattle.panel.specs.Verdict.{Fine}
 use Rattle.panel.specs.Signed.{in_i32}
 use Rattle.sides.specs.Tile.{tile_width, tile_height}
 use Rattle.screen_tile.specs.Tile.{tile_trace, ends_at}

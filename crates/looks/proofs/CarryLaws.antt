@@ -16,10 +16,10 @@ use Rattle.carry.specs.Carry.{zs_of, no_zs, Carried}
 use Rattle.carry.specs.declared.Zs.{Zs}
 use Rattle.walk.specs.declared.kinds.Pace.{Pace}
 use Rattle.walk.specs.declared.kinds.Walk.{Walk}
-use Rattle.walk.specs.declared.kinds.Walked.{Walked}
-use Rattle.walk.specs.declared.kinds.Walked.TheVariants.{Refused, Skipped, Line}
-use Rattle.walk.specs.declared.step.Step.{Step}
-use Rattle.walk.specs.declared.step.Step.TheVariants as On
+use Rattle.walk.specs.Walked.{Walked}
+use Rattle.walk.specs.Walked.{Refused, Skipped, Line}
+use Rattle.walk.specs.Stepped.{Step}
+use Rattle.walk.specs.Stepped as On
 use Rattle.walk.proofs.Walks.{StartsAt}
 use Rattle.carry.proofs.CarryLaws.{none_carried, own_carried}
 use Rattle.segment.specs.By.{corner_at, piece_by}

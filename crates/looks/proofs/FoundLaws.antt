@@ -13,13 +13,13 @@ use Rattle.util.specs.declared.Vec2.{Vec2}
 use Rattle.panel.specs.Refusals.{no_such, coordinate}
 use Rattle.panel.specs.Paths.{path_at, path_count, paths_answer}
 use Rattle.panel.specs.declared.kinds.Path.{Path}
-use Rattle.panel.specs.declared.kinds.Answer.TheVariants.{Done}
+use Rattle.panel.specs.Answer.{Done}
 use Rattle.panel.proofs.PathLaws.{checked}
 use Rattle.walk.specs.Page.{line_of}
 use Rattle.walk.specs.Lent as Lines
 use Rattle.walk.specs.Lent.{reached_of, walked_of, walk_at}
-use Rattle.walk.specs.declared.kinds.Walked.{Walked}
-use Rattle.walk.specs.declared.kinds.Walked.TheVariants as Found
+use Rattle.walk.specs.Walked.{Walked}
+use Rattle.walk.specs.Walked as Found
 use Rattle.walk.proofs.Boxes.{fits_boxed}
 use Rattle.walk.proofs.Lines.{skipped}
 use Rattle.walk.proofs.Walks.{line_starts}

@@ -11,15 +11,15 @@ use Rattle.panel.specs.Paths.{end_of, tile_of}
 use Rattle.panel.specs.declared.kinds.Path.{Path}
 use Rattle.panel.specs.declared.kinds.TileNo.{TileNo}
 use Rattle.walk.specs.Num.{cut_of}
-use Rattle.walk.specs.Step.{Boxed, Within, tile_in, step_of}
+use Rattle.walk.specs.Step.{Boxed, tile_in, step_of}
 use Rattle.walk.proofs.Walks.{StartsAt}
 use Rattle.walk.proofs.Boxes.{ok_of, ok_told, told_within, tile_below}
 use Rattle.walk.specs.declared.kinds.Pace.{Pace}
 use Rattle.walk.specs.declared.kinds.Walk.{Walk}
-use Rattle.walk.specs.declared.step.Step.{Step}
-use Rattle.walk.specs.declared.step.Step.TheVariants.{Tile, Refused}
-use Rattle.walk.specs.declared.kinds.Walked.{Walked}
-use Rattle.walk.specs.declared.kinds.Walked.TheVariants.{Line}
+use Rattle.walk.specs.Stepped.{Step}
+use Rattle.walk.specs.Stepped.{Tile, Refused}
+use Rattle.walk.specs.Walked.{Walked}
+use Rattle.walk.specs.Walked.{Line}
 use Rattle.looks.specs.Look.{StepFits, FoundFits}
 
 pub tile_fits : {n : ℕ} {s : Step} {t : TileNo} {x y : ℕ} {z : Float} → s ≡ Tile t x y z → StepFits n s → (t.0 < n) × (x ≤ edge_most) × (y ≤ edge_most)

@@ -3,12 +3,11 @@ use Prim.Native.Nat.{ℕ}
 use mathlib.Core.Path.{◌≡◌, refl, sym, ap, subst, ◌∙◌}
 use lib.ListN.{length}
 use Rattle.panel.specs.Pieces.{Pieces, placed}
-use Rattle.panel.specs.declared.kinds.Verdict.{Verdict}
+use Rattle.panel.specs.Verdict.{Verdict}
 use Rattle.panel.specs.declared.segments.Segment.{Segment}
 use Rattle.panel.proofs.PieceLaws.{as_long, as_many}
 use Rattle.looks.specs.One.{One, one, one_of}
-use Rattle.looks.specs.declared.Look.{Look}
-use Rattle.looks.specs.declared.Look.TheVariants.{Put, Empty, Against}
+use Rattle.looks.specs.Looked.{Look, Put, Empty, Against}
 
 pub record AsLong (p q : Pieces) : Type 0 where
   pub segments : length q.segments ≡ length p.segments

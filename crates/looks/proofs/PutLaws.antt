@@ -1,31 +1,29 @@
 -- What is put, for every input: its slot is among the slots, and a fill takes it: both its ends lie in the tile, and its y_edge is finite. Assumes nothing.
-use Prim.Native.Nat.{ℕ, suc, ◌+◌, ◌*◌, ◌≤◌, ◌<◌}
+use Prim.Native.Nat.{ℕ, ◌+◌, ◌<◌}
 use native.Mathlib.Omega.{arith}
-use mathlib.Core.Path.{◌≡◌, refl, sym, ap, ◌∙◌}
+use mathlib.Core.Path.{◌≡◌, refl}
 use mathlib.Core.Bool.{Bool, true, false, cond}
 use mathlib.Core.List.{List}
 use lib.Dec.{ltb}
 use lib.ListN.{get_or}
 use borrow.Author.Tests.{ltb-false}
 use Rattle.panel.specs.Slots.{skips, slot_of}
-use Rattle.panel.specs.Kinds.{slot_no_of}
 use Rattle.panel.specs.Refusals.{no_room_word}
 use Rattle.panel.specs.declared.kinds.SlotNo.{SlotNo}
 use Rattle.walk.specs.Step.{step_of}
 use Rattle.walk.specs.declared.kinds.Walk.{Walk}
-use Rattle.walk.specs.declared.step.Step.{Step}
-use Rattle.walk.specs.declared.step.Step.TheVariants as On
-use Rattle.walk.specs.declared.kinds.Walked.{Walked}
-use Rattle.walk.specs.declared.kinds.Walked.TheVariants as Found
+use Rattle.walk.specs.Stepped.{Step}
+use Rattle.walk.specs.Stepped as On
+use Rattle.walk.specs.Walked.{Walked}
+use Rattle.walk.specs.Walked as Found
 use Rattle.panel.specs.Segments.{Straight}
 use Rattle.segment.specs.Clips.{piece_of}
 use Rattle.panel.specs.declared.segments.Segment.{Segment}
-use Rattle.segment.specs.declared.Piece.{Piece}
-use Rattle.segment.specs.declared.Piece.TheVariants.{Kept, Crooked}
+use Rattle.segment.specs.Piece.{Piece}
+use Rattle.segment.specs.Piece.{Kept, Crooked}
 use Rattle.segment.proofs.Within.{kept_straight}
 use Rattle.looks.specs.Look.{step_no, slice_no, piece_to, word_to, step_to, found_to}
-use Rattle.looks.specs.declared.Look.{Look}
-use Rattle.looks.specs.declared.Look.TheVariants.{Put, Empty, Against}
+use Rattle.looks.specs.Looked.{Put, Empty, Against}
 
 -- what is known of a segment that is put at a slot
 pub record Good (slots slot : ℕ) (s : Segment) : Type 0 where

@@ -1,10 +1,8 @@
 -- One reference, taken: the segments and tags after it. Only proofs lean on this: no promise of a public call does. Definitions only.
 use Rattle.std.specs.Prelude.{ℕ}
 use Rattle.panel.specs.Pieces.{Pieces, placed}
-use Rattle.panel.specs.declared.kinds.Verdict.{Verdict}
-use Rattle.panel.specs.declared.kinds.Verdict.TheVariants as Verdict
-use Rattle.looks.specs.declared.Look.{Look}
-use Rattle.looks.specs.declared.Look.TheVariants.{Put, Empty, Against}
+use Rattle.panel.specs.Verdict.{Verdict}
+use Rattle.looks.specs.Looked.{Look, Put, Empty, Against}
 
 -- one reference, with its line's tag: the verdict on it, and the segments and tags afterwards
 pub record One : Type 0 where

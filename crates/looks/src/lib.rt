@@ -8,72 +8,81 @@ ghost use Rattle.panel.specs.Paths.{end_of};
 ghost use Rattle.exact.specs.Reach.{Starts};
 ghost use Rattle.walk.specs.Step.{Boxed, step_of};
 ghost use Rattle.carry.specs.Carry.{zs_of};
+ghost use Rattle.walk.specs.Walked.{walked_told};
 ghost use Rattle.segment.specs.By.{piece_by};
 ghost use Rattle.panel.specs.Refs.{step_no};
-ghost use Rattle.looks.specs.Look.{StepFits, FoundFits, piece_to, word_to, step_to, found_to, found_of};
+ghost use Rattle.looks.specs.Look.{StepFits, FoundFits, word_to, step_to, found_to, found_of};
+ghost use Rattle.looks.specs.Looked.{look_told};
 ghost use Rattle.looks.specs.Carry.{step_by_word, Carries, HasZs};
 
 use box_edges::{edges_of, step_with};
 use carry::{Zs, zs_at};
-use panel::kinds::{LineNo, Path, SlotNo};
+use panel::kinds::{LineNo, Path, SlotNo, TileNo};
 use panel::refs::{slice_of, step_of};
-use panel::refusals::{CROOKED, NO_ROOM, NO_SUCH, OUTSIDE};
+use panel::refusals::Refusal;
 use panel::segments::Segment;
 use panel::slots::{flipped, skips};
-use segment::Piece;
 use util::Vec2;
-use walk::kinds::{Walk, Walked};
-use walk::step::Step;
+use walk::kinds::Walk;
 
-// A segment and its slot; nothing, where the tile is empty; or a refusal.
-#[derive(Clone, Copy)]
-pub enum Look {
-    Put(SlotNo, Segment),
-    Empty,
-    Against(u32),
-}
-
-fn look_piece(slot: SlotNo, piece: Piece) -> Look
-    ensures { result ≡ piece_to slot.0 piece }
-{
-    match piece {
-        Piece::Kept(s) => Look::Put(slot, s),
-        Piece::Crooked => Look::Against(CROOKED),
-    }
-}
-
-// The word of a step's tile, whose corner is t, with the slice number: the tile is empty, or its slot must be among the
-// slots (9) and the segment's ends in the tile (12).
-fn look_word(w: Walk, s: Zs, t: Vec2, word: u32, slice: u32, slots: u32) -> Look
+// The word of a step's tile, whose corner is t, with the slice number: a segment and its slot, which must be among the
+// slots (9) as the segment's ends must be in the tile (12); or nothing, where the tile is empty.
+fn look_word(
+    w: Walk,
+    s: Zs,
+    t: Vec2,
+    word: u32,
+    slice: u32,
+    slots: u32,
+) -> Result<Option<(SlotNo, Segment)>, Refusal>
     requires { (s.at < step_range) × (slice < 2 ^ 31) }
-    ensures { result ≡ word_to slots word slice (piece_by w s t) }
+    ensures { look_told result ≡ word_to slots word slice (piece_by w s t) }
 {
     if skips(word) {
-        return Look::Empty;
+        return Ok(None);
     }
     let slot = flipped(word) + slice;
     if slot >= slots {
-        return Look::Against(NO_ROOM);
+        return Err(Refusal::NoRoom);
     }
-    look_piece(SlotNo(slot), segment::piece_of(w, s, t))
+    let piece = segment::piece_of(w, s, t);
+    let Some(s) = piece else {
+        return Err(Refusal::Crooked);
+    };
+    Ok(Some((SlotNo(slot), s)))
 }
 
 // A step of a line that is walked, with its z's: its tile must be in the box (10).
-fn look_step(w: Walk, step: Step, s: Zs, t: Vec2, slice: u32, stored: &[u32], slots: u32) -> Look
+fn look_step(
+    w: Walk,
+    step: Option<(TileNo, u32, u32, f32)>,
+    s: Zs,
+    t: Vec2,
+    slice: u32,
+    stored: &[u32],
+    slots: u32,
+) -> Result<Option<(SlotNo, Segment)>, Refusal>
     requires { (s.at < step_range) × (slice < 2 ^ 31) × StepFits (length stored.now) step }
-    ensures { result ≡ step_by_word stored.now slots slice (piece_by w s t) step }
+    ensures { look_told result ≡ step_by_word stored.now slots slice (piece_by w s t) step }
 {
-    let Step::Tile(tile, _, _, _) = step else {
-        return Look::Against(OUTSIDE);
+    let Some((tile, _, _, _)) = step else {
+        return Err(Refusal::Outside);
     };
     look_word(w, s, t, stored[tile.0 as usize], slice, slots)
 }
 
 // The step of a line whose z's are at hand, and its slice number.
-fn look_line(w: Walk, p: Path, s: Zs, slice: u32, stored: &[u32], slots: u32) -> Look
+fn look_line(
+    w: Walk,
+    p: Path,
+    s: Zs,
+    slice: u32,
+    stored: &[u32],
+    slots: u32,
+) -> Result<Option<(SlotNo, Segment)>, Refusal>
     requires { (s.at < step_range) × (slice < 2 ^ 31) × Boxed p × (end_of p ≤ length stored.now) × Starts w.pace.sign w.pace.x0 w.pace.y0
         × (s ≡ zs_of w.pace s.at) }
-    ensures { result ≡ step_to stored.now slots w s.at slice (step_of w.pace p s.at) }
+    ensures { look_told result ≡ step_to stored.now slots w s.at slice (step_of w.pace p s.at) }
 {
     let step = step_with(w.pace, p, edges_of(p), s.at, s.z);
     let t = segment::corner_at(w.pace, s.at, s.z);
@@ -81,37 +90,48 @@ fn look_line(w: Walk, p: Path, s: Zs, slice: u32, stored: &[u32], slots: u32) ->
 }
 
 // The z's of a reference's step, by those of the reference before it; of a line that isn't walked there are none.
-pub fn zs_on(found: Walked, last: Zs, packed: u32) -> Zs
-    requires { Carries last found }
-    ensures { HasZs (step_no packed) result found }
+pub fn zs_on(found: Result<Option<(Walk, Path)>, Refusal>, last: Zs, packed: u32) -> Zs
+    requires { Carries last (walked_told found) }
+    ensures { HasZs (step_no packed) result (walked_told found) }
 {
-    match found {
-        Walked::Refused(_) => last,
-        Walked::Skipped => last,
-        Walked::Line(w, _) => zs_at(w.pace, last, step_of(packed)),
+    if let Ok(Some((w, _))) = found {
+        zs_at(w.pace, last, step_of(packed))
+    } else {
+        last
     }
 }
 
 // A reference's second word, where its line is as the walk found it: refused, or skipped (7). s has its step's z's.
-pub fn look_at(found: Walked, s: Zs, packed: u32, stored: &[u32], slots: u32) -> Look
-    requires { FoundFits (length stored.now) found × HasZs (step_no packed) s found }
-    ensures { result ≡ found_to stored.now slots packed found }
+pub fn look_at(
+    found: Result<Option<(Walk, Path)>, Refusal>,
+    s: Zs,
+    packed: u32,
+    stored: &[u32],
+    slots: u32,
+) -> Result<Option<(SlotNo, Segment)>, Refusal>
+    requires { FoundFits (length stored.now) (walked_told found) × HasZs (step_no packed) s (walked_told found) }
+    ensures { look_told result ≡ found_to stored.now slots packed (walked_told found) }
 {
     match found {
-        Walked::Refused(why) => Look::Against(why),
-        Walked::Skipped => Look::Against(NO_SUCH),
-        Walked::Line(w, p) => look_line(w, p, s, slice_of(packed), stored, slots),
+        Err(why) => Err(why),
+        Ok(None) => Err(Refusal::NoSuch),
+        Ok(Some((w, p))) => look_line(w, p, s, slice_of(packed), stored, slots),
     }
 }
 
 // A line as the walk finds it; no such line is refused (7).
-pub fn found_at(path_nos: &[u32], coords: &[f32], paths: &[u32], line: LineNo) -> Walked
+pub fn found_at(
+    path_nos: &[u32],
+    coords: &[f32],
+    paths: &[u32],
+    line: LineNo,
+) -> Result<Option<(Walk, Path)>, Refusal>
     requires { length path_nos.now * line_floats ≤ length coords.now }
-    ensures { result ≡ found_of path_nos.now coords.now paths.now line.0 }
+    ensures { walked_told result ≡ found_of path_nos.now coords.now paths.now line.0 }
 {
     if (line.0 as usize) < path_nos.len() {
         setup::walk_at(path_nos, coords, paths, line.0)
     } else {
-        Walked::Refused(NO_SUCH)
+        Err(Refusal::NoSuch)
     }
 }

@@ -1,34 +1,29 @@
 -- A step of a clipped walk, by the code's tests. Assumes nothing.
-use mathlib.Core.Path.{◌≡◌, refl, sym, ap, subst, ◌∙◌}
-use mathlib.Core.Bool.{Bool, true, false, not, cond, ◌&&◌}
+use mathlib.Core.Path.{◌≡◌, refl, ap, subst, ◌∙◌}
 use mathlib.Core.List.{List}
-use Prim.Native.Nat.{ℕ, ◌+◌, ◌*◌, ◌-◌, ◌≤◌, ◌<◌}
-use native.Mathlib.Omega.{arith}
-use lib.Dec.{leb, ltb}
-use lib.ListN.{length, get_or}
+use Prim.Native.Nat.{ℕ, ◌-◌, ◌≤◌, ◌<◌}
+use lib.ListN.{length}
 use lib.Ieee.{Float}
 use borrow.Author.Tests.{le-leb, lt-leb, lt-ltb, le-ltb}
 use Rattle.panel.specs.Paths.{paths_answer}
 use Rattle.panel.specs.declared.kinds.Path.{Path}
-use Rattle.panel.specs.declared.kinds.Answer.TheVariants.{Done}
-use Rattle.walk.specs.Step.{Boxed, step_of}
+use Rattle.panel.specs.Answer.{Done}
+use Rattle.walk.specs.Step.{step_of}
 use Rattle.walk.specs.Lent.{walk_at}
 use Rattle.walk.specs.declared.kinds.Pace.{Pace}
 use Rattle.walk.specs.declared.kinds.Walk.{Walk}
-use Rattle.walk.specs.declared.step.Step.{Step}
-use Rattle.walk.specs.declared.step.Step.TheVariants.{Tile, Refused as StepRefused}
-use Rattle.walk.specs.declared.kinds.Walked.{Walked}
-use Rattle.walk.specs.declared.kinds.Walked.TheVariants.{Refused, Skipped, Line}
+use Rattle.walk.specs.Stepped.{Step}
+use Rattle.walk.specs.Stepped.{Tile, Refused as StepRefused}
+use Rattle.walk.specs.Walked.{Walked}
+use Rattle.walk.specs.Walked.{Refused, Skipped, Line}
 use Rattle.clip.specs.Page.{clipped_of}
 use Rattle.clip.specs.declared.Clip.{Clip}
-use Rattle.acts.specs.Acts.{Hit, on, off}
-use Rattle.acts.specs.Line.{Plan}
 use Rattle.hits.specs.Steps.{hit_of, hit_at}
 use Rattle.walked_lines.specs.Line.{plan_of, Lent}
 use Rattle.walked_lines.proofs.Lines.{on_tiles, walkable, starts}
 use Rattle.made.specs.Made.{hit_made, plan_made, walk_made, made_of, step_made, WalkFits}
-use Rattle.made.specs.declared.Made.{Made}
-use Rattle.made.specs.declared.Made.TheVariants.{At, Not}
+use Rattle.made.specs.MadeAt.{Made}
+use Rattle.made.specs.MadeAt.{Not}
 
 -- a step's hit and its tile tell the same
 step_hit : (w : Pace) (b : Path) (i n : ℕ) → step_made n (step_of w b i) ≡ hit_made n (hit_at w b i)
@@ -82,6 +77,3 @@ module _ (nos : List ℕ) (coords : List Float) (paths : List ℕ) (l i : ℕ) w
   pub made_none : length nos ≤ l → Not ≡ made_of nos coords paths l i
   unfolding made_of
   made_none h = rw (le-ltb l (length nos) h)
-
-pub line_fits : (f : Walked) (w : Walk) (b : Path) → f ≡ Line w b → WalkFits f → WalkFits (Line w b)
-line_fits f w b e h = rw e at h

@@ -1,17 +1,17 @@
 -- Whether our lines make a reference, by its line and its step; its tile, and how many steps of the line's clipped walk stand before it. Definitions only.
-use Rattle.std.specs.Prelude.{Bool, cond, ◌&&◌, List, ℕ, ◌-◌, leb, ltb, length, Float}
+use Rattle.std.specs.Prelude.{cond, ◌&&◌, List, ℕ, ◌-◌, leb, ltb, length, Float}
 use Rattle.exact.specs.Reach.{Starts}
 use Rattle.walk.specs.Step.{Boxed}
 use Rattle.walk.specs.Lent.{walk_at}
-use Rattle.walk.specs.declared.step.Step.{Step}
-use Rattle.walk.specs.declared.step.Step.TheVariants.{Tile, Refused as StepRefused}
-use Rattle.walk.specs.declared.kinds.Walked.{Walked}
-use Rattle.walk.specs.declared.kinds.Walked.TheVariants.{Refused, Skipped, Line}
+use Rattle.walk.specs.Stepped.{Step}
+use Rattle.walk.specs.Stepped.{Tile, Refused as StepRefused}
+use Rattle.walk.specs.Walked.{Walked}
+use Rattle.walk.specs.Walked.{Refused, Skipped, Line}
 use Rattle.acts.specs.Acts.{Hit, on, off}
 use Rattle.acts.specs.Line.{Plan}
 use Rattle.walked_lines.specs.Line.{plan_of}
-use Rattle.made.specs.declared.Made.{Made}
-use Rattle.made.specs.declared.Made.TheVariants.{At, Not}
+use Rattle.made.specs.MadeAt.{Made}
+use Rattle.made.specs.MadeAt.{At, Not}
 
 -- a step that falls on a tile, with so many before it
 abbrev pub hit_made : ℕ → Hit → Made

@@ -1,8 +1,8 @@
 -- The exact line: at its last step, n = cx + j, it lies between column cx and the next, (X n + Y c + X t) / (X + Y). Assumes nothing.
 -- In parts of 1 / H: C and T are where the line starts in its first tile, X and Y how far it goes, cx and j how many columns and rows it crosses.
-use mathlib.Core.Path.{◌≡◌, refl, sym, ap, ◌∙◌}
+use mathlib.Core.Path.{◌≡◌, ap, ◌∙◌}
 use Prim.Native.Nat.{ℕ, ◌+◌, ◌*◌, ◌≤◌}
-use native.Mathlib.Nat.{mul_assoc, mul_comm, mul_left_comm, mul-add, add-mul, one-mul, mul-le-mul_left}
+use native.Mathlib.Nat.{mul_comm, mul_left_comm, mul-add, add-mul, mul-le-mul_left}
 use native.Mathlib.Omega.{arith}
 
 pub record Crosses (X Y C T cx j H : ℕ) : Type 0 where

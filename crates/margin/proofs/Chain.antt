@@ -1,9 +1,8 @@
 -- The walk's a and b beside the exact ones, in whole numbers: x / (x + y), and (y c + x t) / (x + y), each by the roundings on its way. Assumes nothing.
 -- X, Y, C and T are the exact numbers, in parts of H; L is what a float's parts are of 1; the others are the floats' parts.
 use mathlib.Core.Path.{◌≡◌, refl, sym, ap, ◌∙◌}
-use Prim.Native.Nat.{ℕ, ◌+◌, ◌*◌, ◌≤◌, ◌<◌}
-use native.Mathlib.Nat.{mul-one, add-mul, mul_assoc, mul_comm, mul_left_comm, mul-pos}
-use native.Mathlib.Omega.{arith}
+use Prim.Native.Nat.{ℕ, ◌+◌, ◌*◌, ◌<◌}
+use native.Mathlib.Nat.{add-mul, mul_assoc, mul_comm, mul_left_comm}
 use lib.Dec.{lit≤}
 use Rattle.errors.proofs.Near.{Near, near_trans, near_turned, near_mul, near_cancel, near_sum, near_as}
 

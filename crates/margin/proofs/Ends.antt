@@ -3,42 +3,19 @@
 --     value_less, value_turned, value_apart   differences
 --     floor_at, ceil_at, span_at_lem   floors, ceilings, and the tiles of a span
 use mathlib.Core.Path.{◌≡◌, refl, sym, ap, ◌∙◌, subst}
-use mathlib.Core.Bool.{Bool, true, false, not, cond, ◌&&◌, true≢false, false≢true}
+use mathlib.Core.Bool.{Bool, true, false, cond, ◌&&◌, true≢false, false≢true}
 use mathlib.Core.Logic.{◌⊎◌, inl, inr}
-use Prim.Native.Nat.{ℕ, zero, suc, ◌+◌, ◌-◌, ◌*◌, ◌/◌, ◌%◌, ◌^◌, ◌≤◌, ◌<◌}
-use native.Mathlib.Nat.{
-  le_trans,
-  le_of_eq,
-  le_of_lt,
-  le_antisymm,
-  lt_of_lt_of_le,
-  lt_of_le_of_lt,
-  lt_irrefl,
-  mul-one,
-  one-mul,
-  mul_assoc,
-  mul_comm,
-  mul_right_comm,
-  mul-pos,
-  mul-sub,
-  mul-le-mul_right,
-  mul-lt-mul_of_pos_right,
-  le_of_mul-le-mul_right,
-  lt_of_mul-lt-mul_right,
-  div-add-mod',
-  le-div_iff_mul-le,
-  mod-lt,
-}
+use Prim.Native.Nat.{ℕ, zero, suc, ◌+◌, ◌-◌, ◌*◌, ◌/◌, ◌^◌, ◌≤◌, ◌<◌}
+use native.Mathlib.Nat.{le_trans, le_of_eq, le_of_lt, le_antisymm, lt_of_le_of_lt, lt_irrefl, mul-one, one-mul, mul_assoc, mul_comm, mul_right_comm, mul-pos, mul-sub, mul-le-mul_right, mul-lt-mul_of_pos_right, le_of_mul-le-mul_right, lt_of_mul-lt-mul_right, div-add-mod', le-div_iff_mul-le, mod-lt}
 use native.Mathlib.Omega.{arith}
-use lib.Dec.{T, ltb, lit<, lit≤}
-use lib.IntN.{ℤ, pos, negsuc, ◌-ℤ◌, nat_abs}
-use lib.Signed.{lt_z}
-use lib.Pow.{pow-add, pow_pos, pow-lt, pow_mono}
-use lib.Ieee.{Float, nan, inf, fin, binary32, up, down, unlike, round, sum, add, sub, mul, neg, lt, eq, fits, of_bits, to_unsigned}
+use lib.Dec.{T, ltb, lit<}
+use lib.IntN.{ℤ, pos, negsuc, nat_abs}
+use lib.Pow.{pow-add, pow_pos, pow_mono}
+use lib.Ieee.{Float, nan, inf, fin, binary32, up, down, unlike, round, sum, add, sub, mul, lt, fits, of_bits, to_unsigned}
 use lib.Ieee.Fits.{down_pos}
 use lib.Ieee.Exact.{HasValue}
 use lib.Ieee.Nearest.{div_same}
-use lib.Ieee.Scale.{round_same, finite}
+use lib.Ieee.Scale.{round_same}
 use borrow.Author.Tests.{lt-ltb, le-ltb}
 use Rattle.float32.specs.Meaning.{whole, up_div, floor_of, ceil_of, abs_of, unit}
 use Rattle.float32.proofs.Tests.{below_or_not}
@@ -50,7 +27,7 @@ use Rattle.util.specs.Constants.{one}
 use Rattle.util.specs.Span.{span_of}
 use Rattle.exact.specs.Whole.{IsWhole, Small}
 use Rattle.exact.specs.Reach.{in_reach, scaled, coord_tiles, Near}
-use Rattle.exact.proofs.Bounds.{scale_is, near_of, near_finite}
+use Rattle.exact.proofs.Bounds.{near_of}
 use Rattle.exact.proofs.Limits.{far}
 use Rattle.exact.proofs.Exact.{value_whole, sub_whole}
 use Rattle.exact.proofs.Compare.{lt_whole}

@@ -4,11 +4,11 @@
 --     unmet_left   a line with no coordinate below 0 that every box refuses: its lower end lies in column 0
 use mathlib.Core.Path.{◌≡◌, refl, sym, ap, ◌∙◌}
 use mathlib.Core.Bool.{Bool, true, false, ◌&&◌}
-use Prim.Native.Nat.{ℕ, ◌+◌, ◌≤◌, ◌<◌}
+use Prim.Native.Nat.{ℕ, ◌≤◌, ◌<◌}
 use native.Mathlib.Omega.{arith}
 use lib.Dec.{lit<}
 use lib.IntN.{ℤ, pos, negsuc}
-use lib.Ieee.{Float, binary32, add, sub, mul, div, neg, round, le, lt, eq, ne, of_int, of_bits, to_signed, to_unsigned, is_nan}
+use lib.Ieee.{binary32, add, sub, mul, div, neg, round, le, lt, eq, ne, of_int, of_bits, to_signed, to_unsigned, is_nan}
 use lib.Ieee.Scale.{finite}
 use Rattle.float32.specs.Meaning.{floor_of, ceil_of, abs_of, min_of, max_of, signed, sign_of}
 use Rattle.util.specs.Span.{span_of}
@@ -22,7 +22,7 @@ use Rattle.walk.specs.Skip.{flat_of}
 use Rattle.walk.specs.Lent.{Reached}
 use Rattle.walk.specs.Step.{Boxed, z_at, step_of}
 use Rattle.walk.specs.declared.kinds.Walk.{Walk}
-use Rattle.walk.specs.declared.step.Step.TheVariants.{Refused}
+use Rattle.walk.specs.Stepped.{Refused}
 use Rattle.walk.proofs.Boxes.{tile_no}
 use Rattle.walk.proofs.StepTiles.{col_of, row_at}
 use Rattle.margin.specs.Room.{tile_at, Inside, HasTile}

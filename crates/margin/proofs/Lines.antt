@@ -1,19 +1,18 @@
 -- A line whose ends are whole numbers of 2 ^ -23 from 1 on, in tiles: every step's z stays within one column and one row of the line's own tiles. Assumes nothing.
 --     line_kept    z of each step
 use mathlib.Core.Path.{◌≡◌, refl, sym, ap, ◌∙◌, subst}
-use mathlib.Core.Bool.{Bool, true, false, cond, ◌||◌, true≢false}
-use mathlib.Core.Logic.{◌⊎◌, inl, inr}
+use mathlib.Core.Bool.{Bool, true, false, cond, true≢false}
+use mathlib.Core.Logic.{inl, inr}
 use Prim.Native.Nat.{ℕ, zero, suc, ◌+◌, ◌-◌, ◌*◌, ◌/◌, ◌^◌, ◌≤◌, ◌<◌}
 use native.Mathlib.Nat.{le_trans, le_of_eq, le_antisymm, mul_assoc, mul_comm, mul-pos, mul-le-mul_right, mul_right_comm, le_of_mul-le-mul_right}
 use native.Mathlib.Omega.{arith}
-use lib.Dec.{T, ltb, lit<, lit≤}
-use lib.IntN.{ℤ, pos, negsuc}
+use lib.Dec.{T, lit<, lit≤}
+use lib.IntN.{pos, negsuc}
 use lib.Ieee.{Float, nan, inf, fin, binary32, up, down, round, sum, add, sub, mul, neg, le, lt, eq, ne, of_bits, of_int}
 use lib.Ieee.Fits.{down_pos}
 use lib.Ieee.Exact.{HasValue}
-use lib.Ieee.Scale.{round_same}
 use borrow.Author.Tests.{ltb-true, ltb-false}
-use Rattle.float32.specs.Meaning.{whole, up_div, floor_of, ceil_of, sign_of, signed, copysign_of, unit}
+use Rattle.float32.specs.Meaning.{whole, up_div, floor_of, ceil_of, sign_of, signed, unit}
 use Rattle.float32.proofs.Order.{not_lt_of_le, le_of_not_lt, eq_not_lt}
 use Rattle.float32.proofs.Whole.{whole_value}
 use Rattle.float32.proofs.Floors.{one_more}
@@ -31,13 +30,12 @@ use Rattle.walk.specs.Skip.{flat_of}
 use Rattle.walk.specs.declared.kinds.Slope.{Slope}
 use Rattle.walk.proofs.Counts.{counts_few}
 use Rattle.errors.specs.Sizes.{parts, Is}
-use Rattle.errors.proofs.Parts.{parts_pos}
 use Rattle.errors.proofs.Slopes.{start_in}
 use Rattle.margin.proofs.Between.{Crosses, line_least, line_most, start_most}
 use Rattle.margin.proofs.Stays.{last_most, last_least, low_least}
 use Rattle.margin.proofs.Ends.{Grid, value_less, value_turned, value_apart, value_lt, floor_at, floor_turned, ceil_at, value_scale, times_unit, span_at_lem}
 use Rattle.margin.proofs.Shares.{Side, side_of, Part, part_of, SetUp, set_up}
-use Rattle.margin.proofs.Rises.{Over, Under, Moved, corrected, Kept, z_over, z_under}
+use Rattle.margin.proofs.Rises.{Moved, corrected, Kept, z_over, z_under}
 
 abbrev H : ℕ
 H = 8388608

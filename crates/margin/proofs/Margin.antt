@@ -2,7 +2,7 @@
 --     margin_tile    every step below the line's count
 use mathlib.Core.Path.{◌≡◌, refl, sym, ap, ◌∙◌, subst}
 use mathlib.Core.Bool.{Bool, true, false, not, cond, ◌&&◌}
-use Prim.Native.Nat.{ℕ, suc, ◌+◌, ◌-◌, ◌*◌, ◌/◌, ◌^◌, ◌≤◌, ◌<◌}
+use Prim.Native.Nat.{ℕ, ◌+◌, ◌-◌, ◌*◌, ◌/◌, ◌^◌, ◌≤◌, ◌<◌}
 use native.Mathlib.Omega.{arith}
 use lib.Dec.{T, lit<}
 use lib.IntN.{ℤ, pos, negsuc, neg_ℤ, ◌+ℤ◌, ◌-ℤ◌, nat_abs}
@@ -36,7 +36,7 @@ use Rattle.walk.specs.Setup.{Scaled, ends_of, counts_of, slope_of, a_of, b_of, w
 use Rattle.walk.specs.Page.{line_of, by_parts}
 use Rattle.walk.specs.Skip.{flat_of}
 use Rattle.walk.specs.Lent.{Reached}
-use Rattle.walk.specs.Step.{Boxed, z_at, tile_in, step_of}
+use Rattle.walk.specs.Step.{Boxed, z_at, step_of}
 use Rattle.walk.specs.declared.kinds.Pace.{Pace}
 use Rattle.walk.specs.declared.kinds.Walk.{Walk}
 use Rattle.walk.proofs.Counts.{ends_scaled, counts_few}
@@ -46,7 +46,7 @@ use Rattle.walk.proofs.StepTiles.{col_of, row_at, z_fits, z_whole, z_whole_lem, 
 use Rattle.margin.specs.Room.{tile_at, Inside, HasTile}
 use Rattle.margin.proofs.Ends.{Grid, grid_of, times_unit, up_same_value}
 use Rattle.margin.proofs.Rises.{Kept}
-use Rattle.margin.proofs.Lines.{tiles_few, rows_ordered, rising, falling, cols_rising, cols_falling, rows_are, count_is, line_kept}
+use Rattle.margin.proofs.Lines.{tiles_few, rising, falling, cols_rising, cols_falling, rows_are, line_kept}
 
 -- ---- a point's tile, in whole numbers of 2 ^ -23
 pub cast-at : (x : Float) (n : ℕ) → HasValue x false n 8388608 → n ≤ 4096 * 8388608 → to_unsigned 32 x ≡ n / 8388608

@@ -2,9 +2,9 @@
 --     corrected     a after its correction: 2 ^ -21 away at most
 --     z_over, z-below   z, for an a that isn't negative and for one that is
 use mathlib.Core.Path.{◌≡◌, refl, sym, ap, ◌∙◌, subst}
-use mathlib.Core.Bool.{Bool, true, false, not, cond, ◌&&◌, true≢false, false≢true}
+use mathlib.Core.Bool.{Bool, true, false, cond, true≢false, false≢true}
 use mathlib.Core.Logic.{◌⊎◌, inl, inr}
-use Prim.Native.Nat.{ℕ, zero, suc, ◌+◌, ◌-◌, ◌*◌, ◌/◌, ◌^◌, ◌≤◌, ◌<◌}
+use Prim.Native.Nat.{ℕ, ◌+◌, ◌-◌, ◌*◌, ◌/◌, ◌^◌, ◌≤◌, ◌<◌}
 use native.Mathlib.Nat.{
   le_trans,
   le_of_eq,
@@ -22,14 +22,13 @@ use native.Mathlib.Nat.{
   lt-div-mul-add,
 }
 use native.Mathlib.Omega.{arith}
-use lib.Dec.{T, ltb, lit<, lit≤}
-use lib.IntN.{ℤ, pos, negsuc, neg_ℤ}
-use lib.Ieee.{Float, nan, inf, fin, binary32, up, down, unlike, round, sum, add, sub, mul, neg}
+use lib.Dec.{T, lit≤}
+use lib.IntN.{pos, negsuc}
+use lib.Ieee.{Float, nan, inf, fin, binary32, up, down, unlike, round, add, sub, mul, neg}
 use lib.Ieee.Fits.{down_pos}
 use lib.Ieee.Exact.{HasValue}
 use lib.Ieee.Nearest.{div_same}
 use lib.Ieee.Scale.{round_same, finite}
-use borrow.Author.Tests.{lt-ltb, le-ltb}
 use Rattle.float32.specs.Meaning.{up_div, signed}
 use Rattle.float32.proofs.Tests.{below_or_not}
 use Rattle.float32.proofs.Laws.{up_most}
@@ -37,8 +36,8 @@ use Rattle.exact.specs.Whole.{floor_z}
 use Rattle.exact.proofs.Exact.{round_signed}
 use Rattle.exact.proofs.Signs.{plus_of, minus_of, neg_plus, neg_minus}
 use Rattle.errors.specs.Sizes.{parts, Is}
-use Rattle.errors.proofs.Parts.{parts_pos, add_is, mul_is}
-use Rattle.errors.proofs.Rounds.{Off, round_error}
+use Rattle.errors.proofs.Parts.{parts_pos, add_is}
+use Rattle.errors.proofs.Rounds.{round_error}
 use Rattle.margin.proofs.Ends.{value_less, value_minus, value_mixed}
 use Rattle.margin.proofs.Shares.{big}
 use Rattle.margin.proofs.Stays.{sum_high, sum_low, Held, held, held_low, held_below}

@@ -3,24 +3,9 @@
 --     last_least, last_most     a n + b beside cx and cx + 1, for an a that isn't negative
 --     low_least                 the same for one that is
 --     held, held_low, held_below   z of step i
-use mathlib.Core.Path.{◌≡◌, refl, sym, ap, ◌∙◌, subst}
-use Prim.Native.Nat.{ℕ, ◌+◌, ◌-◌, ◌*◌, ◌/◌, ◌^◌, ◌≤◌, ◌<◌}
-use native.Mathlib.Nat.{
-  le_trans,
-  le_of_eq,
-  mul_assoc,
-  mul_comm,
-  mul_left_comm,
-  mul_right_comm,
-  mul-add,
-  add-mul,
-  one-mul,
-  mul-pos,
-  mul-le-mul_left,
-  mul-le-mul_right,
-  le_of_mul-le-mul_right,
-  lt_of_mul-lt-mul_right,
-}
+use mathlib.Core.Path.{◌≡◌, sym, ap, ◌∙◌, subst}
+use Prim.Native.Nat.{ℕ, ◌+◌, ◌-◌, ◌*◌, ◌≤◌, ◌<◌}
+use native.Mathlib.Nat.{le_trans, le_of_eq, mul_assoc, mul_comm, mul_left_comm, mul_right_comm, mul-add, add-mul, mul-le-mul_left, mul-le-mul_right, le_of_mul-le-mul_right, lt_of_mul-lt-mul_right}
 use native.Mathlib.Omega.{arith}
 use Rattle.errors.proofs.Near.{Near}
 

@@ -7,7 +7,7 @@ use Rattle.panel.specs.declared.kinds.TileNo.{TileNo}
 use Rattle.exact.specs.Reach.{scaled}
 use Rattle.walk.specs.Step.{step_of}
 use Rattle.walk.specs.declared.kinds.Pace.{Pace}
-use Rattle.walk.specs.declared.step.Step.TheVariants.{Tile}
+use Rattle.walk.specs.Stepped.{Tile}
 
 -- the tile, counted from 0, that a coordinate from 0 up lies in; tile 0 of any other
 abbrev pub tile_at : Float → ℕ

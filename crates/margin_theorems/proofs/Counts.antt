@@ -22,17 +22,16 @@ use Rattle.panel.specs.Signed.{in_i32}
 use Rattle.panel.specs.Widths.{ref_words}
 use Rattle.panel.specs.Kinds.{running_of}
 use Rattle.panel.specs.Paths.{path_at, paths_answer}
-use Rattle.panel.specs.declared.kinds.Answer.TheVariants as Answer
+use Rattle.panel.specs.Answer as Answer
 use Rattle.panel.specs.declared.kinds.Path.{Path}
-use Rattle.panel.specs.declared.kinds.Verdict.{Verdict}
-use Rattle.panel.specs.declared.kinds.Verdict.TheVariants.{Against}
+use Rattle.panel.specs.Verdict.{Against}
 use Rattle.panel.proofs.SignLaws.{mag_in}
 use Rattle.panel.proofs.PathLaws.{checked}
 use Rattle.backdrop.proofs.RowLaws.{sum_mag}
 use Rattle.walk.specs.Lent.{line_at, walk_at}
 use Rattle.walk.specs.Step.{Boxed}
 use Rattle.walk.specs.declared.kinds.Walk.{Walk}
-use Rattle.walk.specs.declared.kinds.Walked.TheVariants.{Line}
+use Rattle.walk.specs.Walked.{Line}
 use Rattle.walk.proofs.Boxes.{fits_boxed}
 use Rattle.walk.proofs.Walks.{line_told}
 use Rattle.acts.specs.Acts.{St, Act, mark, visit, stop, Hit, on, off, row_acts, step_acts, steps_acts, check_no, run_acts, verdict_of, delta_of}
@@ -41,8 +40,7 @@ use Rattle.acts.specs.Line.{Plan, plan_acts, Refusal}
 use Rattle.acts.proofs.Once.{check_run}
 use Rattle.walked_lines.specs.Line.{plan_of, line_step}
 use Rattle.path_count.specs.Count.{Told, batch, batch_told, call_answer, counted, paper_of, CountMet}
-use Rattle.path_count.specs.declared.kinds.Counted.{Counted}
-use Rattle.path_count.specs.declared.kinds.Counted.TheVariants as Counted
+use Rattle.path_count.specs.Counted.{Counted}
 use Rattle.path_count.proofs.Batches.{counted_once}
 use Rattle.theorems.specs.StepNumbers.{few}
 use Rattle.theorems.specs.Refs.{from_zero, AllCounted}

@@ -14,10 +14,9 @@ use Rattle.lists.specs.Occ.{is, occ, is_same, is_other}
 use Rattle.lists.specs.Tally.{zeros, zeros_at}
 use Rattle.panel.specs.Widths.{ref_words}
 use Rattle.panel.specs.Paths.{paths_answer}
-use Rattle.panel.specs.declared.kinds.Answer.TheVariants.{Done}
+use Rattle.panel.specs.Answer.{Done}
 use Rattle.walk.specs.Lent.{walk_at}
-use Rattle.walk.specs.declared.kinds.Walked.{Walked}
-use Rattle.walk.specs.declared.kinds.Walked.TheVariants.{Refused, Skipped, Line}
+use Rattle.walk.specs.Walked.{Walked, Refused, Skipped, Line}
 use Rattle.acts.specs.Acts.{St, st_of, Act, mark, visit, stop}
 use Rattle.acts.specs.Line.{refs_of, plan_acts, at_line, batch_of}
 use Rattle.acts.proofs.Once as Once

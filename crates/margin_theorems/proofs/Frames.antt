@@ -13,15 +13,14 @@ use lib.Ieee.{Float}
 use Rattle.panel.specs.Pieces.{Pieces}
 use Rattle.panel.specs.Refusals.{no_room_word, crooked}
 use Rattle.panel.specs.declared.kinds.Running.{Running}
-use Rattle.panel.specs.declared.kinds.Answer.TheVariants as Answer
+use Rattle.panel.specs.Answer as Answer
 use Rattle.acts.specs.Acts.{st_of}
 use Rattle.path_count.specs.Count.{call_answer}
 use Rattle.hand_out.specs.HandOut.{hand}
 use Rattle.path_tiling.specs.Tiling.{slots_of}
 use Rattle.frame.specs.Frame.{out_of, checks_of, frame_of}
 use Rattle.frame.specs.declared.kinds.Stage.TheVariants as Stage
-use Rattle.frame.specs.declared.kinds.Framed.{Framed}
-use Rattle.frame.specs.declared.kinds.Framed.TheVariants.{Done, Refused}
+use Rattle.frame.specs.Framed.{Framed, Done, Refused}
 use Rattle.theorems.specs.Promises.{FrameMet}
 use Rattle.theorems.specs.Framing.{Way, lent_refused, line_refused, slots_refused, tiled_out}
 use Rattle.theorems.proofs.Exact.{no_clash}

@@ -17,13 +17,12 @@ use borrow.Author.Tests.{leb-true}
 use Rattle.panel.specs.Refusals.{crooked}
 use Rattle.panel.specs.Paths.{boxed}
 use Rattle.panel.specs.declared.kinds.Running.{Running}
-use Rattle.panel.specs.declared.kinds.Answer.TheVariants.{Done}
+use Rattle.panel.specs.Answer.{Done}
 use Rattle.path_count.specs.Count.{call_answer}
 use Rattle.path_tiling.specs.Tiling.{slots_of}
 use Rattle.frame.specs.Frame.{checks_of}
 use Rattle.frame.specs.declared.kinds.Stage.TheVariants as Stage
-use Rattle.frame.specs.declared.kinds.Framed.{Framed}
-use Rattle.frame.specs.declared.kinds.Framed.TheVariants as Framed
+use Rattle.frame.specs.Framed.{Framed}
 use Rattle.theorems.specs.Promises.{FrameMet}
 use Rattle.theorems.specs.Refs.{AllCounted}
 use Rattle.theorems.specs.Starred.{floats_of}

@@ -12,13 +12,11 @@ use lib.Ieee.{Float}
 use Rattle.lists.specs.Sums.{sum, from}
 use Rattle.panel.specs.Paths.{path_at, paths_answer}
 use Rattle.panel.specs.declared.kinds.Path.{Path}
-use Rattle.panel.specs.declared.kinds.Answer.TheVariants as Answer
+use Rattle.panel.specs.Answer as Answer
 use Rattle.walk.specs.Lent.{line_at, walk_at}
 use Rattle.walk.specs.declared.kinds.Walk.{Walk}
-use Rattle.walk.specs.declared.kinds.Walked.{Walked}
-use Rattle.walk.specs.declared.kinds.Walked.TheVariants.{Refused, Skipped, Line}
+use Rattle.walk.specs.Walked.{Walked, Refused, Skipped, Line}
 use Rattle.walk.proofs.Walks.{line_told}
-use Rattle.walked_lines.specs.Line.{plan_of}
 use Rattle.path_count.specs.Count.{call_answer}
 use Rattle.margin.specs.Room.{steps_most}
 use Rattle.margin.proofs.Steps.{steps_most_lem}

@@ -9,16 +9,14 @@ use Rattle.panel.specs.Kinds.{running_of}
 use Rattle.panel.specs.Paths.{path_count}
 use Rattle.panel.specs.declared.kinds.Running.{Running}
 use Rattle.walk.specs.Lent.{line_at, Reached, walk_at}
-use Rattle.walk.specs.declared.kinds.Walked.{Walked}
-use Rattle.walk.specs.declared.kinds.Walked.TheVariants.{Refused as WalkRefused, Skipped, Line}
+use Rattle.walk.specs.Walked.{Walked, Refused as WalkRefused, Skipped, Line}
 use Rattle.acts.specs.Acts.{st_of}
 use Rattle.walked_lines.specs.Line.{plan_of}
 use Rattle.path_count.specs.Count.{told_of, paper_of}
-use Rattle.path_count.specs.declared.kinds.Counted.TheVariants.{Refused}
+use Rattle.path_count.specs.Counted.{Refused}
 use Rattle.path_tiling.specs.Tiling.{slots_of}
 use Rattle.frame.specs.declared.kinds.Stage.TheVariants as Stage
-use Rattle.frame.specs.declared.kinds.Framed.{Framed}
-use Rattle.frame.specs.declared.kinds.Framed.TheVariants as Framed
+use Rattle.frame.specs.Framed.{Framed}
 use Rattle.margin.specs.Room.{steps_most}
 use Rattle.theorems.specs.Margins.{MarginLine}
 use Rattle.theorems.specs.Refs.{from_zero, AllCounted}

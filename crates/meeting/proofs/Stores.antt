@@ -1,5 +1,5 @@
 -- Loops that store 0 or flags into working room: one turn of each. Assumes nothing.
-use mathlib.Core.Path.{◌≡◌, refl, sym, ap, ◌∙◌}
+use mathlib.Core.Path.{◌≡◌, refl, sym, ◌∙◌}
 use mathlib.Core.Logic.{◌≢◌, ◌⊎◌, inl, inr, ⊎_elim}
 use mathlib.Core.List.{List, [], ◌∷◌}
 use Prim.Native.Nat.{ℕ, zero, suc, ◌+◌, ◌-◌, ◌≤◌, ◌<◌}
@@ -79,8 +79,8 @@ pub flag_here : (ws₀ ws : List ℕ) (a b k : ℕ) → a ≤ k → k < b → (g
 flag_here ws₀ ws a b k l h n f e =
     record { from = l; to = omega arith; new = f; stood = λ q z. n (f.after k (omega arith) ∙ z); more = e }
 
-pub flag_end : (ws₀ ws : List ℕ) (a b k : ℕ) → a ≤ k → k ≡ b → FlagsNew ws₀ ws a k → sum ws ≡ sum ws₀ + (k - a) → FlagRan ws₀ ws a b k
-flag_end ws₀ ws a b k l h f e = record { from = l; to = omega arith; new = f; stood = λ q. absurd (omega arith); more = e }
+pub flag_end : (ws₀ ws : List ℕ) (a b : ℕ) → a ≤ b → FlagsNew ws₀ ws a b → sum ws ≡ sum ws₀ + (b - a) → FlagRan ws₀ ws a b b
+flag_end ws₀ ws a b l f e = record { from = l; to = omega arith; new = f; stood = λ q. absurd (omega arith); more = e }
 
 -- ---- flags are 0 or 1, so there are no more of them than words
 

@@ -4,18 +4,18 @@ use mathlib.Core.Bool.{Bool, true, false, ◌&&◌}
 use mathlib.Core.Logic.{◌≢◌, ◌⊎◌, inl, inr, ⊎_elim}
 use mathlib.Core.List.{List}
 use Prim.Native.Nat.{ℕ, ◌+◌, ◌-◌, ◌*◌, ◌≤◌, ◌<◌, min, max}
-use native.Mathlib.Nat.{eq-or-lt_of_le, add-mul, mul-add, mul-le-mul_right}
+use native.Mathlib.Nat.{add-mul, mul-add, mul-le-mul_right}
 use native.Mathlib.Omega.{arith}
 use lib.Dec.{ltb}
 use lib.ListN.{length, get_or}
-use borrow.Author.Tests.{ltb-true, ltb-false, lt-ltb, le-ltb}
+use borrow.Author.Tests.{ltb-false, lt-ltb, le-ltb}
 use Rattle.lists.specs.GridLaws.{le_or_lt}
 use Rattle.lists.specs.Sums.{sum}
-use Rattle.meeting.specs.First.{first_of, some_below_word}
+use Rattle.meeting.specs.First.{some_below_word}
 use Rattle.meeting.specs.Meeting.{meets, meets_earlier, first_meeting, starts_at, lens_in}
 use Rattle.meeting.specs.Found.{Has, FlagStood, FlagsNew, MeetsAt, ApartIn, PassedTo, keys, place_of, window_end, Nearer, NextStart, FewPasses, KeptBelow, FlagRan}
 use Rattle.meeting.proofs.Stores.{kept_trans, kept_less, OnesFrom, ones_new, sum_ones}
-use Rattle.meeting.proofs.FirstLaws.{first_same, first_is, some_below, some_is, none_is, none_below}
+use Rattle.meeting.proofs.FirstLaws.{first_same, first_is, some_is, none_is}
 
 module _ (start len : ℕ → ℕ) where
   -- what a flag v says of a key after the first i ranges

@@ -1,8 +1,7 @@
 -- How much is looked at in a search for a meeting, where the windows are wide enough: no input makes it quadratic. A search over n ranges makes p passes, each
 -- over a window of w keys; v is what it looked at. Assumes nothing.
-use mathlib.Core.Path.{◌≡◌}
 use Prim.Native.Nat.{ℕ, zero, suc, ◌+◌, ◌*◌, ◌/◌, ◌≤◌, ◌<◌}
-use native.Mathlib.Nat.{add-mul, mul-add, mul-le-mul_left, mul-le-mul_right}
+use native.Mathlib.Nat.{add-mul, mul-add, mul-le-mul_left}
 use native.Mathlib.Omega.{arith}
 use Rattle.meeting.specs.Found.{FewPasses}
 

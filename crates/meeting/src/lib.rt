@@ -38,10 +38,8 @@ fn len_at(lens: &[u32], i: usize) -> u32
 fn clear(work: &mut [u32], free: usize)
     ensures { KeptBelow free work.old work.new × ClearFrom free work.new }
 {
-    let mut k = free;
-    while k < work.len() {
+    for k in free..work.len() {
         work[k] = 0;
-        k += 1;
     }
 }
 
@@ -50,15 +48,13 @@ fn flag(work: &mut [u32], a: usize, b: usize) -> usize
     requires { (a ≤ b) × (b ≤ length work.old) }
     ensures { KeptBelow a work.old work.new × FlagRan work.old work.new a b result }
 {
-    let mut k = a;
-    while k < b {
+    for k in a..b {
         if work[k] != 0 {
             return k;
         }
         work[k] = 1;
-        k += 1;
     }
-    k
+    b
 }
 
 // How far a key lies in a window that begins at low, at most its width.
@@ -85,8 +81,7 @@ fn pass(work: &mut [u32], at: usize, lens: &[u32], n: usize, free: usize, low: u
 {
     let width = work.len() - free;
     let mut words: usize = 0;
-    let mut i = 0;
-    while i < n {
+    for i in 0..n {
         let start = work[at + i] as u64;
         let end = start + len_at(lens, i) as u64;
         let from = free + place_of(start, low, width);
@@ -94,20 +89,17 @@ fn pass(work: &mut [u32], at: usize, lens: &[u32], n: usize, free: usize, low: u
         let stop = flag(work, from, to);
         words += stop - from;
         if stop < to {
-            let looked = i + 1;
-            let last = words + 1;
             return Passed {
                 first: i,
-                ranges: looked,
-                words: last,
+                ranges: i + 1,
+                words: words + 1,
             };
         }
-        i += 1;
     }
     Passed {
         first: n,
         ranges: n,
-        words: words,
+        words,
     }
 }
 
@@ -127,10 +119,8 @@ fn next_start(work: &[u32], at: usize, n: usize, end: u64) -> u64
     ensures { NextStart (starts_at work.now at) end n result }
 {
     let mut least = KEYS;
-    let mut i = 0;
-    while i < n {
+    for i in 0..n {
         least = nearer(least, work[at + i] as u64, end);
-        i += 1;
     }
     least
 }
@@ -163,6 +153,7 @@ pub fn meeting(work: &mut [u32], at: usize, lens: &[u32], n: usize, free: usize)
     let mut passes: u64 = 0;
     let mut ranges: u64 = 0;
     let mut words: u64 = 0;
+    // not a `for`: low goes on to the next start that the last window doesn't reach
     while (1 < best) & (low < KEYS) {
         clear(work, free);
         let seen = pass(work, at, lens, best, free, low);
@@ -174,8 +165,8 @@ pub fn meeting(work: &mut [u32], at: usize, lens: &[u32], n: usize, free: usize)
     }
     Met {
         first: best,
-        passes: passes,
-        ranges: ranges,
-        words: words,
+        passes,
+        ranges,
+        words,
     }
 }

@@ -33,8 +33,28 @@ pub struct Four {
     pub n3: f32,
 }
 
+// What is made once and lent to each row, as one made in a row would be written there each time: the left side of each
+// column; and 0 for as many columns as a row has, and then 1. Of the second, read from the place LAST_SPAN - g on, the first
+// 1 is for the column right of the span that starts at column g.
+#[derive(Drop)]
+pub struct Tables {
+    pub cols: [f32; TILE_WIDTH],
+    pub parts: [f32; PARTS],
+    ghost lefts: { cols ≡ column_list },
+    ghost shares: { parts ≡ part_list },
+}
+
+impl Tables {
+    pub fn new() -> Tables {
+        Tables {
+            cols: columns(),
+            parts: parts(),
+        }
+    }
+}
+
 // The left side of each column.
-pub fn columns() -> [f32; TILE_WIDTH]
+fn columns() -> [f32; TILE_WIDTH]
     ensures { result ≡ column_list }
 {
     [
@@ -42,9 +62,8 @@ pub fn columns() -> [f32; TILE_WIDTH]
     ]
 }
 
-// 0 for as many columns as a row has, and then 1. Read from the place LAST_SPAN - g on, the first 1 is for the column right
-// of the span that starts at column g.
-pub fn parts() -> [f32; PARTS]
+// 0 for as many columns as a row has, and then 1.
+fn parts() -> [f32; PARTS]
     ensures { result ≡ part_list }
 {
     [
@@ -106,11 +125,9 @@ pub fn add_parts(area: &mut [f32], edge: f32, dy: f32, yi: usize, g: usize, part
 {
     let base = TILE_WIDTH * yi;
     let from = LAST_SPAN - g;
-    let mut i = 0usize;
-    while i < TILE_WIDTH {
+    for i in 0..TILE_WIDTH {
         let at = base + i;
         area[at] = area[at] + (edge + parts[from + i] * dy);
-        i += 1;
     }
 }
 
@@ -134,14 +151,13 @@ pub fn add_narrow(
     dy: f32,
     yi: usize,
     g: usize,
-    cols: &[f32; TILE_WIDTH],
-    parts: &[f32; PARTS],
+    tables: &Tables,
 )
-    requires { (yi < tile_height) × (g ≤ last_span) × (length area.old ≡ tile_size) × (cols.now ≡ column_list) × (parts.now ≡ part_list) × Narrow p g }
+    requires { (yi < tile_height) × (g ≤ last_span) × (length area.old ≡ tile_size) × Narrow p g }
     ensures { area.new ≡ mapi (within (row_start yi) (row_end yi) (slanted p edge dy)) area.old }
 {
     let at = TILE_WIDTH * yi + g;
-    let four = four_added(area, p, edge, dy, at, g, cols);
-    add_parts(area, edge, dy, yi, g, parts);
+    let four = four_added(area, p, edge, dy, at, g, &tables.cols);
+    add_parts(area, edge, dy, yi, g, &tables.parts);
     put_four(area, at, four);
 }

@@ -1,22 +1,25 @@
 -- Numbers kept of a list; the paths of a row and of a block of columns, from column to column. Assumes nothing.
 use mathlib.Core.Path.{◌≡◌, refl, sym, ap, subst, ◌∙◌}
-use mathlib.Core.Bool.{Bool, true, false, cond, ◌&&◌, and_assoc, and-true}
+use mathlib.Core.Bool.{Bool, true, false, ◌&&◌, and-true}
 use mathlib.Core.List.{List, [], ◌∷◌, ◌++◌, append_assoc, append-nil}
-use Prim.Native.Nat.{ℕ, zero, suc, ◌+◌, ◌-◌, ◌*◌, ◌/◌, ◌%◌, ◌≤◌, ◌<◌}
+use Prim.Native.Nat.{ℕ, zero, suc, ◌+◌, ◌-◌, ◌/◌, ◌%◌, ◌≤◌, ◌<◌}
 use native.Mathlib.Nat.{div-add-mod', mod-lt, zero-mod}
+use native.Mathlib.Numerals.{add-one}
 use native.Mathlib.Omega.{arith}
-use borrow.Author.Tests.{lt-ltb, le-ltb, le-leb, lt-leb, leb-true, ltb-true, ltb-false}
+use borrow.Author.Tests.{lt-ltb, le-ltb, le-leb, lt-leb, ltb-true, ltb-false}
 use lib.Dec.{leb, ltb}
-use lib.ListN.{length, get_or, take, drop, set, replicate, length-replicate}
-use lib.Seq.{take-suc-set, take-set-le, length-take-le, drop-cons, get_or-take, drop-length}
+use lib.ListN.{length, get_or, take, drop, set, drop_of_length-le}
+use Rattle.std.proofs.lemmas.List.{length-take}
+use lib.Seq.{take-suc-set, take-set-le, drop-cons}
 use Rattle.lists.specs.Run.{All}
 use Rattle.lists.specs.Sums.{from}
 use Rattle.panel.specs.Limits.{most_paths, edge_most}
 use Rattle.panel.specs.Paths.{path_at, path_count}
 use Rattle.panel.specs.declared.kinds.Path.{Path}
 use Rattle.panel.proofs.PathLaws.{cell_once}
-use Rattle.near.specs.Near.{one_if, kept, no_paths, has_row, has_columns, block_start, row_paths, column_paths, block_paths, wide_columns, narrow_columns, Boxed, Lists, Listed}
-use Rattle.near.specs.declared.Held.{Held}
+use Rattle.near.specs.Near.{one_if, kept, has_row, has_columns, block_start, row_paths, column_paths, block_paths, wide_columns, narrow_columns, listed, Boxed, Lists, Listed}
+use Rattle.near.specs.declared.Listing.{Listing}
+use Rattle.near.specs.declared.Listings.{Listings}
 
 -- ---- numbers kept
 
@@ -58,11 +61,6 @@ all_from : (a n b : ℕ) → a + n ≤ b → All (λ p. p < b) (from a n)
 all_from a zero b h = tt
 all_from a (suc n) b h = (omega arith, all_from (suc a) n b (omega arith))
 
-all_at : (n : ℕ) (ps : List ℕ) (j : ℕ) → All (λ p. p < n) ps → j < length ps → get_or ps j 0 < n
-all_at n [] j a h = absurd (omega arith)
-all_at n (p ∷ ps) zero a h = a.0
-all_at n (p ∷ ps) (suc j) a h = all_at n ps j a.1 (omega arith)
-
 -- ---- a loop over the numbers of a range
 
 pub from_turn : (k n : ℕ) → k < n → from k (n - k) ≡ k ∷ from (k + 1) (n - (k + 1))
@@ -77,28 +75,18 @@ from_end k n h = let none : n - k ≡ 0 = omega arith in ap (from k) none
 pub from_all : (n : ℕ) → from 0 (n - 0) ≡ from 0 n
 from_all n = let all : n - 0 ≡ n = omega arith in ap (from 0) all
 
--- ---- the first n numbers of a list, from the j-th on
+-- ---- a loop over the numbers of a list
 
-module _ (l : List ℕ) (n j : ℕ) (k : n ≤ length l) where
-  pub list_turn : j < n → drop j (take n l) ≡ get_or l j 0 ∷ drop (j + 1) (take n l)
-  list_turn h =
-      let next : suc j ≡ j + 1 = omega arith in
-      drop-cons (take n l) j 0 (omega (arith, length-take-le n l k)) ∙ ap (λ (p : ℕ). p ∷ drop (suc j) (take n l)) (get_or-take n l j 0 h)
-      ∙ ap (λ (i : ℕ). get_or l j 0 ∷ drop i (take n l)) next
+pub list_turn : (l : List ℕ) (j : ℕ) → j < length l → drop j l ≡ get_or l j 0 ∷ drop (j + 1) l
+list_turn l j h = rw (add-one, drop-cons l j 0)
 
-  pub list_there : (b : ℕ) → All (λ p. p < b) (take n l) → j < n → get_or l j 0 < b
-  list_there b a h = subst (λ (p : ℕ). p < b) (get_or-take n l j 0 h) (all_at b (take n l) j a (omega (arith, length-take-le n l k)))
+pub list_there : (b : ℕ) (l : List ℕ) (j : ℕ) → All (λ p. p < b) l → j < length l → get_or l j 0 < b
+list_there b [] j a h = absurd (omega arith)
+list_there b (p ∷ ps) zero a h = a.0
+list_there b (p ∷ ps) (suc j) a h = list_there b ps j a.1 (omega arith)
 
-  pub list_end : n ≤ j → j ≤ n → drop j (take n l) ≡ []
-  list_end h i =
-      let same : j ≡ length (take n l) = omega (arith, length-take-le n l k) in
-      ap (λ (i : ℕ). drop i (take n l)) same ∙ drop-length (take n l)
-
--- the same where a loop counts those still ahead
-pub list_ahead : (l : List ℕ) (n ahead : ℕ) → n ≤ length l → 0 < ahead → ahead ≤ n → drop (n - ahead) (take n l) ≡ get_or l (n - ahead) 0 ∷ drop (n - (ahead - 1)) (take n l)
-list_ahead l n ahead k h i =
-    let next : n - ahead + 1 ≡ n - (ahead - 1) = omega arith in
-    list_turn l n (n - ahead) k (omega arith) ∙ ap (λ (j : ℕ). get_or l (n - ahead) 0 ∷ drop j (take n l)) next
+pub list_end : (l : List ℕ) (j : ℕ) → length l ≤ j → drop j l ≡ []
+list_end l j h = drop_of_length-le l h
 
 -- ---- what is listed is there
 
@@ -166,47 +154,46 @@ by_ends p a b m h k = go (ltb a p.x1) refl
 pub block_there : (ws : List ℕ) (size x : ℕ) (ps : List ℕ) → All (λ p. p < path_count ws) ps → All (λ p. p < path_count ws) (block_paths ws size x ps)
 block_there ws size x ps h = column_there ws (block_start size x) (block_start size x + size) ps h
 
-pub lists_there : (b k : ℕ) (ns ps : List ℕ) → Lists k ns ps → All (λ p. p < b) ps → All (λ p. p < b) (take k ns)
-lists_there b k ns ps l h = subst (λ (qs : List ℕ). All (λ p. p < b) qs) (sym l.same) h
+pub lists_there : (b : ℕ) (l : Listing) (ps : List ℕ) → Lists l ps → All (λ p. p < b) ps → All (λ p. p < b) (listed l)
+lists_there b l ps h a = subst (λ (qs : List ℕ). All (λ p. p < b) qs) (sym h.same) a
+
+pub lists_few : (l : Listing) (ps : List ℕ) → Lists l ps → length (listed l) ≤ most_paths
+lists_few l ps h = omega (arith, h.few, length-take l.len l.numbers)
 
 -- a block's list for the column before is its list for this one, of the same paths
-pub lists_on : (ws : List ℕ) (size x k : ℕ) (ns : List ℕ) (m : ℕ) (ms ps : List ℕ) → Lists m ms ps → block_start size (x - 1) ≡ block_start size x
-    → Lists k ns (block_paths ws size (x - 1) ps) → Lists k ns (block_paths ws size x (take m ms))
-lists_on ws size x k ns m ms ps l e h =
-    record { few = h.few; room = h.room; same = h.same ∙ block_next ws size x ps e ∙ ap (block_paths ws size x) (sym l.same) }
+pub lists_on : (ws : List ℕ) (size x : ℕ) (m l : Listing) (ps : List ℕ) → Lists m ps → block_start size (x - 1) ≡ block_start size x
+    → Lists l (block_paths ws size (x - 1) ps) → Lists l (block_paths ws size x (listed m))
+lists_on ws size x m l ps h e i =
+    record { few = i.few; same = i.same ∙ block_next ws size x ps e ∙ ap (block_paths ws size x) (sym h.same) }
 
 -- a narrow block lies in one wide block
-pub lists_narrow : (ws : List ℕ) (x y k : ℕ) (ns : List ℕ) → 0 < x % narrow_columns
-    → Lists k ns (block_paths ws narrow_columns (x - 1) (block_paths ws wide_columns (x - 1) (row_paths ws y)))
-    → Lists k ns (block_paths ws narrow_columns (x - 1) (block_paths ws wide_columns x (row_paths ws y)))
-lists_narrow ws x y k ns h l =
+pub lists_narrow : (ws : List ℕ) (x y : ℕ) (l : Listing) → 0 < x % narrow_columns
+    → Lists l (block_paths ws narrow_columns (x - 1) (block_paths ws wide_columns (x - 1) (row_paths ws y)))
+    → Lists l (block_paths ws narrow_columns (x - 1) (block_paths ws wide_columns x (row_paths ws y)))
+lists_narrow ws x y l h i =
     let e : block_start wide_columns (x - 1) ≡ block_start wide_columns x = omega (arith, h) in
-    record { few = l.few; room = l.room; same = l.same ∙ ap (block_paths ws narrow_columns (x - 1)) (block_next ws wide_columns x (row_paths ws y) e) }
+    record { few = i.few; same = i.same ∙ ap (block_paths ws narrow_columns (x - 1)) (block_next ws wide_columns x (row_paths ws y) e) }
 
 -- between the first columns of narrow blocks the lists stay as they are
-pub listed_on : (ws : List ℕ) (x y : ℕ) (h : Held) (ns ms ks : List ℕ) → 0 < x % narrow_columns → Listed ws (x - 1) y h ns ms ks → Listed ws x y h ns ms ks
-listed_on ws x y h ns ms ks k l =
+pub listed_on : (ws : List ℕ) (x y : ℕ) (h : Listings) → 0 < x % narrow_columns → Listed ws (x - 1) y h → Listed ws x y h
+listed_on ws x y h k l =
     let wide : block_start wide_columns (x - 1) ≡ block_start wide_columns x = omega (arith, k) in
     let narrow : block_start narrow_columns (x - 1) ≡ block_start narrow_columns x = omega (arith, k) in
-    let n = lists_narrow ws x y h.narrow ks k l.narrow in
+    let n = lists_narrow ws x y h.narrow k l.narrow in
     record {
       row = l.row;
-      wide = record { few = l.wide.few; room = l.wide.room; same = l.wide.same ∙ block_next ws wide_columns x (row_paths ws y) wide };
-      narrow = record { few = n.few; room = n.room; same = n.same ∙ block_next ws narrow_columns x (block_paths ws wide_columns x (row_paths ws y)) narrow };
+      wide = record { few = l.wide.few; same = l.wide.same ∙ block_next ws wide_columns x (row_paths ws y) wide };
+      narrow = record { few = n.few; same = n.same ∙ block_next ws narrow_columns x (block_paths ws wide_columns x (row_paths ws y)) narrow };
     }
 
 -- ---- from tile to tile
 
-pub no_paths_length : length no_paths ≡ most_paths
-unfolding no_paths
-no_paths_length = length-replicate {A = ℕ} most_paths 0
-
 -- tile 0 is in its row's first column, so nothing is asked of the lists there
-pub listed_first : (ws : List ℕ) (cols : ℕ) (h : Held) (ns ms ks : List ℕ) → 0 < 0 % cols → Listed ws (0 % cols - 1) (0 / cols) h ns ms ks
-listed_first ws cols h ns ms ks k = absurd (omega (arith, k, zero-mod cols))
+pub listed_first : (ws : List ℕ) (cols : ℕ) (h : Listings) → 0 < 0 % cols → Listed ws (0 % cols - 1) (0 / cols) h
+listed_first ws cols h k = absurd (omega (arith, k, zero-mod cols))
 
-pub listed_next : (ws : List ℕ) (cols t : ℕ) (h : Held) (ns ms ks : List ℕ) → 0 < cols → Listed ws (t % cols) (t / cols) h ns ms ks → 0 < (t + 1) % cols
-    → Listed ws ((t + 1) % cols - 1) ((t + 1) / cols) h ns ms ks
-listed_next ws cols t h ns ms ks c l k =
+pub listed_next : (ws : List ℕ) (cols t : ℕ) (h : Listings) → 0 < cols → Listed ws (t % cols) (t / cols) h → 0 < (t + 1) % cols
+    → Listed ws ((t + 1) % cols - 1) ((t + 1) / cols) h
+listed_next ws cols t h c l k =
     let e = next_column cols t c k in
-    subst (λ (x : ℕ). Listed ws x ((t + 1) / cols) h ns ms ks) e.0 (subst (λ (y : ℕ). Listed ws (t % cols) y h ns ms ks) e.1 l)
+    subst (λ (x : ℕ). Listed ws x ((t + 1) / cols) h) e.0 (subst (λ (y : ℕ). Listed ws (t % cols) y h) e.1 l)

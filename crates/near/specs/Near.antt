@@ -1,28 +1,22 @@
 -- The paths that can put something on a screen tile: those whose box has its row, and reaches into the blocks of columns that it lies in. Only
 -- proofs lean on this: no promise of a public call does. Definitions only.
-use Rattle.std.specs.Prelude.{◌≡◌, Bool, true, false, cond, ◌&&◌, List, [], ◌∷◌, ℕ, ◌+◌, ◌-◌, ◌%◌, ◌≤◌, ◌<◌, leb, ltb, take, length, replicate}
+use Rattle.std.specs.Prelude.{◌≡◌, Bool, cond, ◌&&◌, List, [], ◌∷◌, ℕ, ◌+◌, ◌-◌, ◌%◌, ◌≤◌, ◌<◌, leb, ltb, replicate, take}
+use Rattle.std.specs.Int.{from_bool}
 use Rattle.lists.specs.Sums.{from}
 use Rattle.panel.specs.Limits.{most_paths, edge_most}
 use Rattle.panel.specs.Paths.{path_at, path_count}
 use Rattle.panel.specs.declared.kinds.Path.{Path}
-use Rattle.near.specs.declared.Held.{Held}
+use Rattle.near.specs.declared.Listing.{Listing}
+use Rattle.near.specs.declared.Listings.{Listings}
 
 -- ---- the numbers kept of a list, in its order
 
 abbrev pub one_if : Bool → ℕ
-one_if true = 1
-one_if false = 0
+one_if b = from_bool b
 
 abbrev pub kept : (ℕ → Bool) → List ℕ → List ℕ
 kept f [] = []
 kept f (p ∷ ps) = cond (f p) (p ∷ kept f ps) (kept f ps)
-
--- a list of no path yet
-unfoldable pub no_paths : List ℕ
-no_paths = replicate most_paths 0
-
-abbrev pub held_of : ℕ → ℕ → ℕ → Held
-held_of row wide narrow = record { row = row; wide = wide; narrow = narrow }
 
 -- ---- by row and by column
 
@@ -61,14 +55,28 @@ pub record Boxed (ws : List ℕ) : Type 0 where
   pub across : (p : ℕ) → p < path_count ws → (path_at ws p).x0 ≤ (path_at ws p).x1
   pub low : (p : ℕ) → p < path_count ws → (path_at ws p).y1 ≤ edge_most
 
--- the first k numbers there are these paths, and there is room for all
-pub record Lists (k : ℕ) (ns ps : List ℕ) : Type 0 where
-  pub few : k ≤ most_paths
-  pub room : length ns ≡ most_paths
-  pub same : take k ns ≡ ps
+-- a list of no path yet
+abbrev pub no_listing : Listing
+no_listing = record { len = 0; numbers = replicate most_paths 0 }
+
+-- the paths of a list
+abbrev pub listed : Listing → List ℕ
+listed l = take l.len l.numbers
+
+-- it has these paths, and no more than there is room for
+pub record Lists (l : Listing) (ps : List ℕ) : Type 0 where
+  pub few : l.len ≤ most_paths
+  pub same : listed l ≡ ps
 
 -- the three lists are right for column x of row y
-pub record Listed (ws : List ℕ) (x y : ℕ) (h : Held) (ns ms ks : List ℕ) : Type 0 where
-  pub row : Lists h.row ns (row_paths ws y)
-  pub wide : Lists h.wide ms (block_paths ws wide_columns x (row_paths ws y))
-  pub narrow : Lists h.narrow ks (block_paths ws narrow_columns x (block_paths ws wide_columns x (row_paths ws y)))
+pub record Listed (ws : List ℕ) (x y : ℕ) (h : Listings) : Type 0 where
+  pub row : Lists h.row (row_paths ws y)
+  pub wide : Lists h.wide (block_paths ws wide_columns x (row_paths ws y))
+  pub narrow : Lists h.narrow (block_paths ws narrow_columns x (block_paths ws wide_columns x (row_paths ws y)))
+
+-- the paths near a tile: those of the narrow block
+abbrev pub near_of : Listings → List ℕ
+near_of h = listed h.narrow
+
+abbrev pub few_near : Listings → Type 0
+few_near h = h.narrow.len ≤ most_paths

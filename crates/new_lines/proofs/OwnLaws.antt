@@ -11,7 +11,7 @@ use lib.ListN.{get_or, drop}
 use lib.Seq.{get_or-drop}
 use lib.Ieee.{Float, nan}
 use borrow.Author.Tests.{eq-eqb, ne_eqb, lt-ltb}
-use Rattle.lists.specs.Run.{Step, taken, halted}
+use Rattle.lists.specs.Run.{taken, halted}
 use Rattle.panel.specs.Limits.{most_lines}
 use Rattle.panel.specs.Refusals.{line_number, coordinate, no_such}
 use Rattle.panel.specs.Widths.{line_floats}
@@ -19,7 +19,7 @@ use Rattle.panel.specs.Paths.{path_count}
 use Rattle.panel.specs.Lines.{line_at}
 use Rattle.walk.specs.Lent.{reached_of, walk_at}
 use Rattle.panel.specs.declared.lines.LineEnds.{LineEnds}
-use Rattle.walk.specs.declared.kinds.Walked.TheVariants as Walked
+use Rattle.walk.specs.Walked as Walked
 use Rattle.acts.specs.Acts.{St}
 use Rattle.acts.specs.Line.{halt_if}
 use Rattle.walked_lines.specs.Line.{walked_step, line_step}

@@ -1,2 +1,3 @@
 -- The new lines of a recount. Definitions only.
 pub mod Own
+pub mod Recounted

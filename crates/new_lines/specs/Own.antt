@@ -7,14 +7,13 @@ use Rattle.panel.specs.Paths.{path_at}
 use Rattle.panel.specs.Lines.{line_at}
 use Rattle.walk.specs.Lent.{reached_of, walked_of}
 use Rattle.panel.specs.declared.lines.LineEnds.{LineEnds}
-use Rattle.walk.specs.declared.kinds.Walked.{Walked}
-use Rattle.walk.specs.declared.kinds.Walked.TheVariants as Walked
+use Rattle.walk.specs.Walked.{Walked}
 use Rattle.acts.specs.Acts.{St}
 use Rattle.acts.specs.Line.{halt_if, Refusal, batch_of}
 use Rattle.walked_lines.specs.Line.{walked_step}
 use Rattle.path_count.specs.Count.{Told, told_of}
-use Rattle.new_lines.specs.declared.Recounted.{Recounted}
-use Rattle.new_lines.specs.declared.Recounted.TheVariants.{Done, Refused}
+use Rattle.new_lines.specs.Recounted.{Recounted}
+use Rattle.new_lines.specs.Recounted.{Done, Refused}
 
 -- ---- a new line
 

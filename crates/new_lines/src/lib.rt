@@ -8,20 +8,48 @@ ghost use Rattle.acts.specs.Acts.{st_of};
 ghost use Rattle.walked_lines.specs.Line.{Lent};
 ghost use Rattle.path_count.specs.Count.{told_of};
 ghost use Rattle.new_lines.specs.Own.{lines_ran, lines_told, paper_of, made_of};
+ghost use Rattle.new_lines.specs.Recounted.{recounted_told};
 
 use hits::NOTE_ROOM;
-use panel::kinds::{LineNo, Running};
+use panel::kinds::{LineNo, Refused, Running};
+use panel::refusals::Refusal;
 use panel::widths::LINE_FLOATS;
-use path_count::{Counted, count_batch};
+use path_count::{Stopped, count_batch};
 use stretches::{other_no, stretch};
 
-// What a recount answers.
-// All lines counted, with the number of their references; or refused, with the refusal's number, the
-// item's (the path's, or the line's own number), and the references made before it.
+// A recount that is refused: why, the item's number (the path's, or the line's own number), and the references made
+// before it. One that counts all lines has the number of their references as its answer.
 #[derive(Clone, Copy)]
-pub enum Recounted {
-    Done(u32),
-    Refused(u32, u32, u32),
+pub struct RecountRefused {
+    pub why: Refusal,
+    pub item: u32,
+    pub made: u32,
+}
+
+// A line of a batch is refused by its own number.
+impl From<Stopped> for RecountRefused {
+    ghost from_gives = { λ s r. r ≡ record { why = s.why; item = s.item; made = s.running.refs } };
+
+    fn from(s: Stopped) -> Self {
+        RecountRefused {
+            why: s.why,
+            item: s.item,
+            made: s.running.refs,
+        }
+    }
+}
+
+// Before the first line no reference is made.
+impl From<Refused> for RecountRefused {
+    ghost from_gives = { λ a r. r ≡ record { why = a.why; item = a.item; made = 0 } };
+
+    fn from(a: Refused) -> Self {
+        RecountRefused {
+            why: a.why,
+            item: a.item,
+            made: 0,
+        }
+    }
 }
 
 // All of them, as references 0, 1, .. Their numbers are lent beside them. A stretch of lines that are numbered one after
@@ -35,22 +63,27 @@ pub fn count_lines(
     backs: &mut [i32],
     counts: &mut [u32],
     refs: &mut [u32],
-) -> Recounted
+) -> Result<u32, RecountRefused>
     requires { Lent paths.now (length backs.old) (length counts.old) × (path < path_count paths.now)
         × (length line_nos.now ≡ length path_nos.now) × (length path_nos.now * line_floats ≤ length coords.now) }
-    ensures { told_of (paper_of result) (st_of backs.new counts.new refs.new (made_of result))
+    ensures { told_of (paper_of (recounted_told result)) (st_of backs.new counts.new refs.new (made_of (recounted_told result)))
         ≡ lines_told line_nos.now (lines_ran path line_nos.now path_nos.now coords.now paths.now (length refs.old / ref_words)
         (st_of backs.old counts.old refs.old 0)) }
 {
     let mut notes = [0u32; NOTE_ROOM];
     let mut made: u32 = 0;
     let mut k: usize = 0;
+    // A stretch is many lines long, so a turn goes on by as many.
     while k < path_nos.len() {
         let l = line_nos[k];
         let at = k * LINE_FLOATS;
         let n = stretch(path, line_nos, path_nos, k);
         if n == 0 {
-            return Recounted::Refused(other_no(LineNo(l), &coords[at..]), l, made);
+            return Err(RecountRefused {
+                why: other_no(LineNo(l), &coords[at..]),
+                item: l,
+                made,
+            });
         }
         let t = count_batch(
             l,
@@ -67,15 +100,9 @@ pub fn count_lines(
             counts,
             refs,
         );
-        match t {
-            Counted::Refused(why, item, s) => {
-                return Recounted::Refused(why, item, s.refs);
-            }
-            Counted::Done(s) => {
-                made = s.refs;
-            }
-        }
+        let s = t?;
+        made = s.refs;
         k += n as usize;
     }
-    Recounted::Done(made)
+    Ok(made)
 }

@@ -47,20 +47,14 @@ module _ (segs : List Float) where
       inv ∙ ap (λ (n : ℕ). run_from segs (trace_of n ws segs at) a (same_colour c)) more ∙ ap (λ (x : Trace). run_from segs x a (same_colour c)) e
       ∙ alike_goes act t a c k ∙ ap (λ (x : Float). run_from segs t x (same_colour (paint act a c))) (sym p) ∙ ap (λ (x : List Float). run_from segs t a' (same_colour x)) (sym q)
 
--- what a command does to a pixel's colour
-module _ (act : Act) where
-  pub paint_fill : {rule first backdrop : ℕ} (a : Float) (c : List Float) → act ≡ Fill rule first backdrop → c ≡ paint act a c
-  unfolding paint
-  paint_fill a c e = rw e
+-- what a command does to a pixel's colour: nothing, unless it is COLOR
+pub paint_color : (act : Act) (word : ℕ) (a : Float) (c fg n : List Float) → act ≡ Color word → fg ≡ colour_of word → n ≡ over_of fg a c → n ≡ paint act a c
+unfolding paint
+paint_color act word a c fg n e p q = rw e (q ∙ ap (λ (g : List Float). over_of g a c) p)
 
-  pub paint_solid : (a : Float) (c : List Float) → act ≡ Solid → c ≡ paint act a c
-  unfolding paint
-  paint_solid a c e = rw e
-
-  pub paint_jump : (a : Float) (c : List Float) → act ≡ Jump → c ≡ paint act a c
-  unfolding paint
-  paint_jump a c e = rw e
-
-  pub paint_color : (word : ℕ) (a : Float) (c fg n : List Float) → act ≡ Color word → fg ≡ colour_of word → n ≡ over_of fg a c → n ≡ paint act a c
-  unfolding paint
-  paint_color word a c fg n e p q = rw e (q ∙ ap (λ (g : List Float). over_of g a c) p)
+pub paint_other : (act : Act) (a : Float) (c : List Float) → ((word : ℕ) → act ≡ Color word → ⊥) → c ≡ paint act a c
+unfolding paint
+paint_other (Fill rule first backdrop) a c h = refl
+paint_other Solid a c h = refl
+paint_other (Color word) a c h = absurd (h word refl)
+paint_other Jump a c h = refl

@@ -16,13 +16,13 @@ ghost use Rattle.on_pixels.specs.One.{alike, cover_one};
 use colours::layer::composite;
 use colours::{colour, over};
 use commands::numbers::{END, FILL};
-use commands::steps::{Act, Move, move_at, op_of};
+use commands::steps::{Act, move_at, op_of};
 use coverage::area::{fill_path, set_all};
 use panel::limits::MOST_COMMANDS;
-use reader::{Look, peek_from};
+use reader::peek_from;
 use sides::{TILE_HEIGHT, TILE_SIZE};
 
-// A word's 32 bits as a signed number.
+// A word's 32 bits as a signed number. By hand: `as` asks that the number fits, and a word from the half on doesn't.
 pub fn signed(w: u32) -> i32
     ensures { result ≡ signed_of w }
 {
@@ -81,9 +81,7 @@ pub fn alike(act: Act) -> bool
 {
     match act {
         Act::Fill(_, _, _) => false,
-        Act::Solid => true,
-        Act::Color(_) => true,
-        Act::Jump => true,
+        _ => true,
     }
 }
 
@@ -92,10 +90,8 @@ pub fn cover_one(act: Act, a: f32) -> f32
     ensures { result ≡ cover_one act a }
 {
     match act {
-        Act::Fill(_, _, _) => a,
         Act::Solid => 1.0,
-        Act::Color(_) => a,
-        Act::Jump => a,
+        _ => a,
     }
 }
 
@@ -103,14 +99,8 @@ pub fn cover_one(act: Act, a: f32) -> f32
 pub fn paint_one(act: Act, a: f32, px: &mut [f32; 4])
     ensures { px.new ≡ paint act a px.old }
 {
-    match act {
-        Act::Fill(_, _, _) => {}
-        Act::Solid => {}
-        Act::Color(word) => {
-            let one = *px;
-            *px = over(one, colour(word), a);
-        }
-        Act::Jump => {}
+    if let Act::Color(word) = act {
+        *px = over(*px, colour(word), a);
     }
 }
 
@@ -124,15 +114,14 @@ pub fn begin(words: &[u32], segments: &[f32], start: usize, px: &mut [f32; 4]) -
 {
     let mut area = 0.0f32;
     let mut at = start;
-    let mut count = 0u32;
-    while count < MOST_COMMANDS {
-        let Look::Word(tag) = peek_from(words, at) else {
+    for count in 0..MOST_COMMANDS {
+        let Some(tag) = peek_from(words, at) else {
             return Opening { at, count, area };
         };
         if (tag == END) | (tag == FILL) {
             return Opening { at, count, area };
         }
-        let Move::Goes(act, next) = move_at(words, segments, at, op_of(tag)) else {
+        let Ok((act, next)) = move_at(words, segments, at, op_of(tag)) else {
             return Opening { at, count, area };
         };
         if !alike(act) {
@@ -141,7 +130,10 @@ pub fn begin(words: &[u32], segments: &[f32], start: usize, px: &mut [f32; 4]) -
         paint_one(act, area, px);
         area = cover_one(act, area);
         at = next;
-        count += 1;
     }
-    Opening { at, count, area }
+    Opening {
+        at,
+        count: MOST_COMMANDS,
+        area,
+    }
 }

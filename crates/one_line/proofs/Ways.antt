@@ -13,12 +13,12 @@ use Rattle.panel.specs.Widths.{ref_words}
 use Rattle.panel.specs.declared.kinds.Path.{Path}
 use Rattle.walk.specs.Lent.{walk_at}
 use Rattle.walk.specs.declared.kinds.Walk.{Walk}
-use Rattle.walk.specs.declared.kinds.Walked.{Walked}
-use Rattle.walk.specs.declared.kinds.Walked.TheVariants.{Refused as WalkRefused, Skipped, Line}
+use Rattle.walk.specs.Walked.{Walked}
+use Rattle.walk.specs.Walked.{Refused as WalkRefused, Skipped, Line}
 use Rattle.acts.specs.Acts.{St, st_of}
 use Rattle.acts.specs.Line.{plan_step}
 use Rattle.walked_lines.specs.Line.{plan_of, line_step, line_ran, tally_ran, unwalked_of}
-use Rattle.walked_lines.specs.declared.Tallied.{Tallied}
+use Rattle.walked_lines.specs.Tallied.{Tallied}
 use Rattle.walked_lines.proofs.Lines.{line_walked}
 
 -- ---- a line with no walk
@@ -28,14 +28,14 @@ NoWalk (WalkRefused n) = Unit {0}
 NoWalk Skipped = Unit {0}
 NoWalk (Line w b) = ⊥
 
-pub line_unwalked : (nos : List ℕ) (coords : List Float) (paths : List ℕ) (room l k : ℕ) (bs : List ℤ) (cs rs : List ℕ) (made : ℕ) (x : Walked) (t : Tallied)
-    → l < most_lines → walk_at nos coords paths k ≡ x → NoWalk x → t ≡ unwalked_of x
-    → tally_ran t (st_of bs cs rs) made ≡ line_ran (line_step nos coords paths room l k (st_of bs cs rs made)) (st_of bs cs rs made)
-line_unwalked nos coords paths room l k bs cs rs made (WalkRefused n) t h e u f =
-    rw (f, line_walked nos coords paths room l k (st_of bs cs rs made) (WalkRefused n) h e)
-line_unwalked nos coords paths room l k bs cs rs made Skipped t h e u f =
-    rw (f, line_walked nos coords paths room l k (st_of bs cs rs made) Skipped h e, add-zero made)
-line_unwalked nos coords paths room l k bs cs rs made (Line w b) t h e u f = absurd u
+pub line_unwalked : (nos : List ℕ) (coords : List Float) (paths : List ℕ) (room l k : ℕ) (bs : List ℤ) (cs rs : List ℕ) (made : ℕ) (x : Walked)
+    → l < most_lines → walk_at nos coords paths k ≡ x → NoWalk x
+    → tally_ran (unwalked_of x) (st_of bs cs rs) made ≡ line_ran (line_step nos coords paths room l k (st_of bs cs rs made)) (st_of bs cs rs made)
+line_unwalked nos coords paths room l k bs cs rs made (WalkRefused n) h e u =
+    rw (line_walked nos coords paths room l k (st_of bs cs rs made) (WalkRefused n) h e)
+line_unwalked nos coords paths room l k bs cs rs made Skipped h e u =
+    rw (line_walked nos coords paths room l k (st_of bs cs rs made) Skipped h e, add-zero made)
+line_unwalked nos coords paths room l k bs cs rs made (Line w b) h e u = absurd u
 
 -- ---- where nothing is said of a line, what is lent is as it was
 

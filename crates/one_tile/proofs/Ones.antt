@@ -14,20 +14,20 @@ use Rattle.panel.specs.Lines.{line_at}
 use Rattle.panel.specs.declared.lines.LineEnds.{LineEnds}
 use Rattle.panel.specs.Paths.{path_at, path_count, paths_answer, tile_of}
 use Rattle.panel.specs.Widths.{ref_words}
-use Rattle.panel.specs.declared.kinds.Answer.TheVariants.{Done}
+use Rattle.panel.specs.Answer.{Done}
 use Rattle.panel.specs.declared.kinds.Path.{Path}
 use Rattle.panel.specs.declared.kinds.TileNo.{TileNo}
 use Rattle.panel.proofs.PathLaws.{checked}
 use Rattle.walk.specs.Num.{float}
 use Rattle.walk.specs.Page.{line_of}
 use Rattle.walk.specs.Step.{z_at}
-use Rattle.walk.specs.declared.kinds.Walked.TheVariants.{Line}
-use Rattle.walk.specs.declared.step.Step.TheVariants.{Tile}
+use Rattle.walk.specs.Walked.{Line}
+use Rattle.walk.specs.Stepped.{Tile}
 use Rattle.walk.proofs.Boxes.{fits_boxed, tile_below}
 use Rattle.walk.proofs.Lines.{goes}
 use Rattle.spot.specs.Spot.{SpotMet}
-use Rattle.spot.specs.declared.Spot.{Spot}
-use Rattle.spot.specs.declared.Spot.TheVariants.{In as SpotIn, Other as SpotOther}
+use Rattle.spot.specs.Place.{Spot}
+use Rattle.spot.specs.Place.{In as SpotIn, Other as SpotOther}
 use Rattle.one_tile.specs.One.{Boxes, SpotAt, Alone}
 
 pub boxes : (paths : List ℕ) (tiles : ℕ) → paths_answer paths tiles ≡ Done → Boxes paths

@@ -10,14 +10,14 @@ use Rattle.panel.specs.declared.kinds.TileNo.{TileNo}
 use Rattle.walk.specs.Lent.{walk_at}
 use Rattle.walk.specs.Step.{Boxed, step_of}
 use Rattle.walk.specs.declared.kinds.Walk.{Walk}
-use Rattle.walk.specs.declared.kinds.Walked.TheVariants.{Line}
-use Rattle.walk.specs.declared.step.Step.TheVariants.{Tile}
+use Rattle.walk.specs.Walked.{Line}
+use Rattle.walk.specs.Stepped.{Tile}
 use Rattle.clip.specs.Page.{clipped_of}
 use Rattle.spot.specs.Spot.{SpotMet}
-use Rattle.spot.specs.declared.Spot.{Spot}
-use Rattle.spot.specs.declared.Spot.TheVariants.{In as SpotIn, Other as SpotOther}
-use Rattle.one_tile.specs.declared.One.{One}
-use Rattle.one_tile.specs.declared.One.TheVariants.{In, Other}
+use Rattle.spot.specs.Place.{Spot}
+use Rattle.spot.specs.Place.{In as SpotIn, Other as SpotOther}
+use Rattle.one_tile.specs.TileFound.{One}
+use Rattle.one_tile.specs.TileFound.{In, Other}
 
 -- each path that is there passed its checks
 abbrev pub Boxes : List ℕ → Type 0

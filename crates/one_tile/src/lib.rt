@@ -6,7 +6,7 @@
 ghost use Rattle.std.specs.Prelude.{◌≡◌, ◌+◌, ◌*◌, ◌<◌, ◌≤◌, length};
 ghost use Rattle.panel.specs.Paths.{paths_answer};
 ghost use Rattle.panel.specs.Widths.{line_floats};
-ghost use Rattle.panel.specs.declared.kinds.Answer.TheVariants.{Done};
+ghost use Rattle.panel.specs.Answer.{Done};
 ghost use Rattle.one_tile.specs.One.{Boxes, SpotAt, OneMet};
 
 use panel::kinds::TileNo;
@@ -14,29 +14,28 @@ use panel::limits::{MOST_COUNT, MOST_SLOTS};
 use panel::lines::line_at;
 use panel::paths::path_at;
 use panel::widths::{PATH_WORDS, REF_WORDS};
-use spot::{Spot, spot_of};
+use spot::spot_of;
 
-// The tile of a line that may be counted so; or a line to be walked.
-#[derive(Clone, Copy)]
-pub enum One {
-    In(TileNo),
-    Other,
-}
-
-// The tile that the line at a place of those lent lies in.
-fn spot_at(path_nos: &[u32], coords: &[f32], paths: &[u32], place: u32) -> Spot
+// The tile that the line at a place of those lent lies in: its number, its column and its row.
+fn spot_at(
+    path_nos: &[u32],
+    coords: &[f32],
+    paths: &[u32],
+    place: u32,
+) -> Option<(TileNo, u32, u32)>
     requires { Boxes paths.now × (place < length path_nos.now) × (place * line_floats + line_floats ≤ length coords.now) }
     ensures { SpotAt path_nos.now coords.now paths.now place result }
 {
     let path_no = path_nos[place as usize];
     if (path_no as usize) >= paths.len() / PATH_WORDS {
-        return Spot::Other;
+        return None;
     }
     let line = line_at(coords, place);
     spot_of(line.p0, line.p1, path_at(paths, path_no))
 }
 
-// The same, where the tile can be counted once more and there is room for reference number made.
+// That tile, where it can be counted once more and there is room for reference number made; nothing of a line that is to
+// be walked.
 pub fn one_at(
     place: u32,
     made: u32,
@@ -45,17 +44,15 @@ pub fn one_at(
     paths: &[u32],
     counts: &[u32],
     refs: &[u32],
-) -> One
+) -> Option<TileNo>
     requires { (paths_answer paths.now (length counts.now) ≡ Done)
         × (place < length path_nos.now) × (place * line_floats + line_floats ≤ length coords.now) }
     ensures { OneMet path_nos.now coords.now paths.now place made counts.now (length refs.now) result }
 {
-    let Spot::In(tile, _, _) = spot_at(path_nos, coords, paths, place) else {
-        return One::Other;
-    };
+    let (tile, _, _) = spot_at(path_nos, coords, paths, place)?;
     let n = counts[tile.0 as usize];
     if (made as usize >= refs.len() / REF_WORDS) | (made >= MOST_SLOTS) | (n >= MOST_COUNT) {
-        return One::Other;
+        return None;
     }
-    One::In(tile)
+    Some(tile)
 }

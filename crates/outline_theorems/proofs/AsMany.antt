@@ -13,7 +13,6 @@ use Rattle.util.specs.declared.Vec2.{Vec2}
 use Rattle.panel.specs.Widths.{line_floats}
 use Rattle.meeting.proofs.FirstLaws.{first_missed}
 use Rattle.outlines.specs.Outlines.{last_of, before, reaches, goes_on, head_of, meets, left_open, first_open}
-use Rattle.outlines.specs.Told.{Ended}
 use Rattle.outlines.proofs.Lasts.{last_none, last_mine, last_other, last_most, last_path}
 use Rattle.outlines.proofs.Heads.{head_step, head_most}
 use Rattle.outlines.proofs.Turns.{reaches_is}

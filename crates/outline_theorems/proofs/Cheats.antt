@@ -7,12 +7,11 @@ use lib.ListN.{get_or}
 use lib.Ieee.{Float, nan, eq}
 use Rattle.panel.specs.Refusals.{left_open}
 use Rattle.panel.specs.Lines.{line_at}
-use Rattle.panel.specs.declared.kinds.Answer.{Answer}
-use Rattle.panel.specs.declared.kinds.Answer.TheVariants.{Done, Refused}
+use Rattle.panel.specs.Answer.{Answer, Done, Refused}
 use Rattle.meeting.specs.First.{first_from}
 use Rattle.outlines.specs.Outlines as Outlines
 use Rattle.outlines.specs.Outlines.{same_bits, same_point, meets, last_of, back_from, first_open}
-use Rattle.outlines.specs.Call.{first_bad, bad_answer, open_if, outlines_of, OutlinesMet}
+use Rattle.outlines.specs.Call.{first_bad, open_if, outlines_of, OutlinesMet}
 use Rattle.call_theorems.specs.Cheats.{Shut, Refuses}
 use Rattle.call_theorems.proofs.Cheats.{shut}
 use Rattle.outline_theorems.proofs.Exact.{one_outlines}

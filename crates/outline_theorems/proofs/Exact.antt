@@ -14,14 +14,13 @@ use Rattle.panel.specs.Limits.{most_paths, most_lines}
 use Rattle.panel.specs.Refusals.{not_whole, too_many, line_number, no_such, no_room_word, left_open}
 use Rattle.panel.specs.Widths.{line_floats}
 use Rattle.panel.specs.Checks.{first_no}
-use Rattle.panel.specs.declared.kinds.Verdict.TheVariants.{Fine, Against}
-use Rattle.panel.specs.declared.kinds.Answer.{Answer}
-use Rattle.panel.specs.declared.kinds.Answer.TheVariants.{Done, Refused}
+use Rattle.panel.specs.Verdict.{Fine}
+use Rattle.panel.specs.Answer.{Answer, Done, Refused}
 use Rattle.panel.proofs.CheckLaws.{none_fails, fails_at}
-use Rattle.meeting.proofs.FirstLaws.{first_is, first_hit, first_missed, first_most}
+use Rattle.meeting.proofs.FirstLaws.{first_is, first_hit, first_missed}
 use Rattle.outlines.specs.Outlines as Outlines
 use Rattle.outlines.specs.Outlines.{first_open}
-use Rattle.outlines.specs.Call.{room_words, lent_checks, bad_line, first_bad, bad_answer, open_if, Out, out_of, cleared, outlines_of, OutlinesMet}
+use Rattle.outlines.specs.Call.{room_words, lent_checks, bad_line, first_bad, bad_answer, open_if, Out, cleared, outlines_of, OutlinesMet}
 use Rattle.outlines.proofs.Opens.{open_first}
 use Rattle.outlines.proofs.CallLaws.{bad_most, met_refused, met_bad, met_open}
 use Rattle.groatpocket.specs.Seen.{SeenAt}

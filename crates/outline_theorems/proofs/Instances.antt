@@ -2,13 +2,13 @@
 --     leaks    a triangle whose marks in tile row 2 don't add up to 0, over all columns of its box
 use mathlib.Core.Path.{◌≡◌, refl, sym, ap, ◌∙◌}
 use mathlib.Core.List.{List, [], ◌∷◌, map}
-use Prim.Native.Nat.{ℕ, zero, suc, ◌+◌, ◌<◌, ◌≤◌}
+use Prim.Native.Nat.{ℕ, zero, suc, ◌<◌}
 use native.Mathlib.Nat.{not-suc-le-zero, le_of_suc-le-suc}
 use native.Mathlib.Omega.{arith}
-use lib.Dec.{T, leb}
-use lib.IntN.{ℤ, pos, nat_abs}
+use lib.Dec.{T}
+use lib.IntN.{pos, nat_abs}
 use lib.ListN.{length, get_or}
-use lib.Ieee.{Float, nan, binary32, fits, of_bits, to_bits, eq}
+use lib.Ieee.{Float, nan, binary32, fits, of_bits, to_bits}
 use lib.Ieee.Bits.{of_bits-fits}
 use borrow.Author.Tests.{leb-true}
 use Rattle.panel.specs.Paths.{boxed, path_at}

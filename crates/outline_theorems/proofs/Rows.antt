@@ -1,6 +1,6 @@
 -- Where a path's lines mark a tile row as their ends say, and make closed outlines, the row's marks add up to 0. Assumes nothing.
 use mathlib.Core.Path.{◌≡◌, refl, sym, ap, subst, ◌∙◌}
-use mathlib.Core.Bool.{Bool, true, false, cond}
+use mathlib.Core.Bool.{Bool, true, false}
 use mathlib.Core.List.{List, map}
 use Prim.Native.Nat.{ℕ, zero, suc, ◌+◌, ◌≤◌, ◌<◌}
 use native.Mathlib.Nat.{add-zero, zero-add}
@@ -10,13 +10,13 @@ use lib.ListN.{length, get_or}
 use lib.IntN.{ℤ, pos, ◌+ℤ◌}
 use lib.Ieee.{Float}
 use borrow.Author.Tests.{eqb-true, eqb-false}
-use Rattle.lists.specs.Run.{act_all, sift, keep_if}
+use Rattle.lists.specs.Run.{act_all, keep_if}
 use Rattle.lists.specs.Sums.{from}
 use Rattle.exact.proofs.Signs.{plus_of, minus_of, one_part, sum_parts, same_parts}
-use Rattle.theorems.specs.Drawn.{Drawn, drawn_at, drawn, walk_of, is_of, of_path}
+use Rattle.theorems.specs.Drawn.{Drawn, drawn_at, drawn, walk_of, of_path}
 use Rattle.picture.specs.Picture.{line_winding, winding_of}
 use Rattle.outline_theorems.specs.Closed.{Closed}
-use Rattle.outline_theorems.specs.Crossings.{sum_of, leaving, coming, at_or_above}
+use Rattle.outline_theorems.specs.Crossings.{leaving, coming, at_or_above}
 use Rattle.outline_theorems.specs.Marks.{goes_down, goes_up, Honest}
 use Rattle.outline_theorems.proofs.Sums.{sum_none, sum_mine, sum_other}
 use Rattle.outline_theorems.proofs.AsMany.{as_many_down}

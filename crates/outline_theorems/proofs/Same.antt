@@ -1,6 +1,6 @@
 -- Points that are the same bit for bit are one point. Assumes nothing.
 use mathlib.Core.Path.{◌≡◌, sym, ap, ap₂, ◌∙◌}
-use mathlib.Core.Bool.{Bool, true, false, ◌&&◌}
+use mathlib.Core.Bool.{true}
 use mathlib.Core.List.{List}
 use Prim.Native.Nat.{ℕ, ◌+◌, ◌*◌, ◌≤◌, ◌<◌}
 use native.Mathlib.Omega.{arith}
@@ -14,7 +14,6 @@ use Rattle.util.specs.declared.Vec2.{Vec2}
 use Rattle.panel.specs.Lines.{line_at}
 use Rattle.panel.specs.Widths.{line_floats}
 use Rattle.outlines.specs.Outlines.{same_bits, same_point, meets}
-use Rattle.outline_theorems.specs.Closed.{Closed}
 use Rattle.outline_theorems.specs.Crossings.{start_of, end_of}
 
 same_float : (x y : Float) → T (fits binary32 x) → T (fits binary32 y) → same_bits x y ≡ true → x ≡ y

@@ -1,5 +1,5 @@
 -- A line that marks a tile row as its ends say: once where it crosses the row's top edge, and else not. Definitions only.
-use Rattle.std.specs.Prelude.{◌≡◌, Bool, not, ◌&&◌, List, ℕ, ℤ, pos, ◌+ℤ◌, Float}
+use Rattle.std.specs.Prelude.{◌≡◌, not, ◌&&◌, List, ℕ, pos, ◌+ℤ◌, Float}
 use Rattle.theorems.specs.Drawn.{drawn_at, walk_of}
 use Rattle.picture.specs.Picture.{line_winding}
 use Rattle.outline_theorems.specs.Crossings.{start_of, end_of, one_if, at_or_above}

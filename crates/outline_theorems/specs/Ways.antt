@@ -3,8 +3,7 @@ use Rattle.std.specs.Prelude.{◌≡◌, true, false, List, ℕ, ◌*◌, ◌≤
 use Rattle.panel.specs.Limits.{most_paths, most_lines}
 use Rattle.panel.specs.Refusals.{not_whole, too_many, line_number, no_such, no_room_word, left_open}
 use Rattle.panel.specs.Widths.{line_floats}
-use Rattle.panel.specs.declared.kinds.Answer.{Answer}
-use Rattle.panel.specs.declared.kinds.Answer.TheVariants.{Done, Refused}
+use Rattle.panel.specs.Answer.{Answer, Done, Refused}
 use Rattle.outlines.specs.Outlines as Outlines
 use Rattle.outlines.specs.Call.{room_words, cleared}
 

@@ -1,12 +1,12 @@
 -- What the checks tell, the working room cleared, and the call's answers. Assumes nothing.
-use mathlib.Core.Path.{◌≡◌, refl, sym, ap, subst, ◌∙◌}
-use mathlib.Core.Bool.{Bool, true, false, cond, ◌||◌}
+use mathlib.Core.Path.{◌≡◌, refl, sym, ap, ◌∙◌}
+use mathlib.Core.Bool.{Bool, true, false, ◌||◌}
 use mathlib.Core.List.{List, ◌++◌}
 use mathlib.Core.Logic.{◌⊎◌, inl, inr}
 use Prim.Native.Nat.{ℕ, ◌+◌, ◌-◌, ◌*◌, ◌/◌, ◌≤◌, ◌<◌}
 use native.Mathlib.Decide.{dec_lt}
 use native.Mathlib.Omega.{arith}
-use lib.Dec.{leb, ltb}
+use lib.Dec.{leb}
 use lib.ListN.{length, get_or, take, drop, replicate, length-append, length-drop, length-replicate, get_or-replicate, get_or-append, get_or-eq_default}
 use lib.Seq.{ext_get_or, get_or-append-add, length-take-le}
 use lib.Ieee.{Float}
@@ -15,16 +15,15 @@ use Rattle.float32.proofs.Tests.{below_or_not}
 use Rattle.panel.specs.Limits.{most_lines}
 use Rattle.panel.specs.Widths.{line_floats}
 use Rattle.panel.specs.Checks.{first_no}
-use Rattle.panel.specs.declared.kinds.Verdict.{Verdict}
-use Rattle.panel.specs.declared.kinds.Verdict.TheVariants.{Fine, Against}
-use Rattle.panel.specs.declared.kinds.Answer.{Answer}
-use Rattle.panel.specs.declared.kinds.Answer.TheVariants.{Refused}
+use Rattle.panel.specs.Verdict.{Verdict}
+use Rattle.panel.specs.Verdict.{Fine, Against}
+use Rattle.panel.specs.Answer.{Refused}
 use Rattle.panel.proofs.CheckLaws.{all_ok}
 use Rattle.ranges.specs.Ranges.{cleared_of}
 use Rattle.ranges.proofs.RangeLaws.{length_cleared, cleared_in, cleared_out}
 use Rattle.meeting.proofs.FirstLaws.{first_missed}
 use Rattle.outlines.specs.Outlines.{first_open}
-use Rattle.outlines.specs.Call.{room_words, lent_checks, bad_line, first_bad, bad_answer, open_if, Out, out_of, cleared, asked, outlines_of, OutlinesMet}
+use Rattle.outlines.specs.Call.{room_words, lent_checks, bad_line, first_bad, bad_answer, open_if, cleared, outlines_of, OutlinesMet}
 use Rattle.outlines.specs.Told.{HasWords, Ready, Clear}
 use Rattle.outlines.proofs.Least.{clash}
 

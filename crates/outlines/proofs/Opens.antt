@@ -1,21 +1,20 @@
 -- When an outline stands open after a line: another line has ended it, or none is to come. Assumes nothing.
-use mathlib.Core.Path.{◌≡◌, refl, sym, ap, subst, ◌∙◌}
-use mathlib.Core.Bool.{Bool, true, false, not, cond, ◌&&◌}
+use mathlib.Core.Path.{◌≡◌, refl, sym, ap, ◌∙◌}
+use mathlib.Core.Bool.{Bool, true, false, not, ◌&&◌}
 use mathlib.Core.List.{List}
 use mathlib.Core.Logic.{◌⊎◌, inl, inr}
-use Prim.Native.Nat.{ℕ, ◌+◌, ◌-◌, ◌≤◌, ◌<◌}
+use Prim.Native.Nat.{ℕ, ◌+◌, ◌≤◌, ◌<◌}
 use native.Mathlib.Omega.{arith}
 use native.Mathlib.Decide.{dec_lt}
 use lib.Dec.{eqb}
 use lib.ListN.{length, get_or}
 use lib.Ieee.{Float}
 use borrow.Author.Tests.{eqb-true, eq-eqb}
-use Rattle.meeting.specs.First.{first_of, some_below_word}
+use Rattle.meeting.specs.First.{some_below_word}
 use Rattle.meeting.proofs.FirstLaws.{first_is, some_is, none_is}
 use Rattle.outlines.specs.Outlines.{last_of, before, goes_on, head_of, meets, follows, left_open, first_open}
-use Rattle.outlines.specs.Told.{Ended, LeastEnded}
+use Rattle.outlines.specs.Told.{Ended}
 use Rattle.outlines.proofs.Lasts.{last_most, last_path, last_seen, last_next, before_once}
-use Rattle.outlines.proofs.Least.{clash}
 
 module _ (nos : List ℕ) (fs : List Float) where
   abbrev n : ℕ

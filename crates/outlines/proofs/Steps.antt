@@ -1,5 +1,5 @@
 -- What the loops hand to the calls in them, and the first open line. Assumes nothing.
-use mathlib.Core.Path.{◌≡◌, refl, sym, ap, subst, ◌∙◌}
+use mathlib.Core.Path.{◌≡◌, refl, sym, ap, ◌∙◌}
 use mathlib.Core.Bool.{Bool, true, false, not, ◌&&◌}
 use mathlib.Core.List.{List}
 use Prim.Native.Nat.{ℕ, ◌+◌, ◌-◌, ◌*◌, ◌≤◌, ◌<◌}
@@ -10,7 +10,7 @@ use lib.Ieee.{Float}
 use borrow.Author.Tests.{eqb-true, eq-eqb, not-true}
 use Rattle.panel.specs.Limits.{most_lines}
 use Rattle.panel.specs.Widths.{line_floats}
-use Rattle.outlines.specs.Outlines.{last_of, before, head_of, meets, left_open, first_open}
+use Rattle.outlines.specs.Outlines.{last_of, head_of, meets, left_open, first_open}
 use Rattle.outlines.specs.Call.{room_words}
 use Rattle.outlines.specs.Told.{Lent, HasWords, Noted, LeastEnded, Ready}
 use Rattle.outlines.proofs.Lasts.{last_most, last_seen}

@@ -5,10 +5,9 @@ use Rattle.panel.specs.Limits.{most_paths, most_lines}
 use Rattle.panel.specs.Refusals.{not_whole, too_many, line_number, no_such, no_room_word, left_open}
 use Rattle.panel.specs.Widths.{line_floats}
 use Rattle.panel.specs.Checks.{Check, check, first_no}
-use Rattle.panel.specs.declared.kinds.Verdict.{Verdict}
-use Rattle.panel.specs.declared.kinds.Verdict.TheVariants as Verdict
-use Rattle.panel.specs.declared.kinds.Answer.{Answer}
-use Rattle.panel.specs.declared.kinds.Answer.TheVariants.{Done, Refused}
+use Rattle.panel.specs.Verdict.{Verdict}
+use Rattle.panel.specs.Answer.{Answer}
+use Rattle.panel.specs.Answer.{Done, Refused}
 use Rattle.meeting.specs.First.{first_of}
 use Rattle.outlines.specs.Outlines.{first_open}
 

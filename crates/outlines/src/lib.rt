@@ -2,19 +2,21 @@
 // began. The Rust has no such call. docs/RULES.md, "Closed outlines".
 #![tactic(auto)]
 
-ghost use Rattle.std.specs.Prelude.{◌≡◌, cond, not, ◌&&◌, ◌+◌, ◌-◌, ◌*◌, ◌≤◌, ◌<◌, eqb, length, get_or};
+ghost use Rattle.std.specs.Prelude.{Err, ◌≡◌, cond, not, ◌&&◌, ◌+◌, ◌-◌, ◌*◌, ◌≤◌, ◌<◌, eqb, length, get_or};
 ghost use Rattle.panel.specs.Limits.{most_lines};
 ghost use Rattle.panel.specs.Checks.{first_no};
+ghost use Rattle.panel.specs.Verdict.{verdict_told};
+ghost use Rattle.panel.specs.Answer.{answer_told};
 ghost use Rattle.outlines.specs.Outlines.{same_bits, same_point, meets, reaches, first_open};
 ghost use Rattle.outlines.specs.Call.{room_words, lent_checks, first_bad, bad_answer, open_if, OutlinesMet};
 ghost use Rattle.outlines.specs.Told.{Lent, HasWords, Noted, turned, sooner_of, turned_best, LeastEnded, Ready, Clear, Passed};
 
-use panel::kinds::{Answer, Verdict};
+use panel::kinds::Refused;
 use panel::limits::{MOST_LINES, MOST_PATHS};
 use panel::lines::line_at;
-use panel::refusals::{LEFT_OPEN, LINE_NUMBER, NO_ROOM, NO_SUCH, NOT_WHOLE, TOO_MANY};
+use panel::refusals::Refusal;
 use panel::widths::LINE_FLOATS;
-use ranges::clear_words;
+use ranges::clear;
 use util::Vec2;
 
 // Words of working room for each path: the first line of its last outline; its last line, and 1.
@@ -31,6 +33,7 @@ fn same_bits(x: f32, y: f32) -> bool
     }
 }
 
+#[tactic(auto, unfolding(crate::specs::Outlines::same_point))]
 fn same_point(p: Vec2, q: Vec2) -> bool
     ensures { result ≡ same_point p q }
 {
@@ -38,6 +41,7 @@ fn same_point(p: Vec2, q: Vec2) -> bool
 }
 
 // Whether line k ends where line l starts.
+#[tactic(auto, unfolding(crate::specs::Outlines::meets))]
 fn line_meets(coords: &[f32], k: u32, l: u32) -> bool
     requires { Lent coords.now k × Lent coords.now l }
     ensures { result ≡ meets coords.now k l }
@@ -58,6 +62,7 @@ fn line_reaches(coords: &[f32], last: u32, l: u32) -> bool
     line_meets(coords, last - 1, l)
 }
 
+// A function, and no `if` in its place: so `turn` has one path, and its proof one case.
 fn pick(t: bool, a: u32, b: u32) -> u32
     ensures { result ≡ cond t a b }
 {
@@ -100,10 +105,8 @@ fn pass(path_nos: &[u32], coords: &[f32], work: &mut [u32]) -> u32
 {
     let n = path_nos.len() as u32;
     let mut best = n;
-    let mut i: u32 = 0;
-    while i < n {
+    for i in 0..n {
         best = turn(coords, work, path_nos[i as usize], i, best);
-        i += 1;
     }
     best
 }
@@ -125,13 +128,11 @@ fn settle(path_nos: &[u32], coords: &[f32], work: &[u32], best: u32) -> u32
         × LeastEnded path_nos.now coords.now (length path_nos.now) (length path_nos.now) best }
     ensures { result ≡ first_open path_nos.now coords.now }
 {
-    let mut l: u32 = 0;
-    while l < best {
+    for l in 0..best {
         let at = (path_nos[l as usize] as usize) * ROOM_WORDS;
         if ends_open(coords, work[at + 1], work[at], l) {
             return l;
         }
-        l += 1;
     }
     best
 }
@@ -141,54 +142,54 @@ fn settle(path_nos: &[u32], coords: &[f32], work: &[u32], best: u32) -> u32
 fn first_bad(path_nos: &[u32], paths: u32) -> usize
     ensures { result ≡ first_bad path_nos.now paths }
 {
-    let mut l: usize = 0;
-    while l < path_nos.len() {
-        if (MOST_LINES as usize <= l) | (paths <= path_nos[l]) {
+    for (l, no) in path_nos.iter().enumerate() {
+        if (MOST_LINES as usize <= l) | (paths <= *no) {
             return l;
         }
-        l += 1;
     }
-    l
+    path_nos.len()
 }
 
 // Checks 1, 2 and 9 of what is lent.
-fn check_lent(nn: usize, nc: usize, paths: u32, nw: usize) -> Verdict
-    ensures { result ≡ first_no (lent_checks nn nc paths nw) }
+fn check_lent(nn: usize, nc: usize, paths: u32, nw: usize) -> Result<(), Refusal>
+    ensures { verdict_told result ≡ first_no (lent_checks nn nc paths nw) }
 {
     if nc % LINE_FLOATS != 0 {
-        return Verdict::Against(NOT_WHOLE);
+        return Err(Refusal::NotWhole);
     }
     if nn != nc / LINE_FLOATS {
-        return Verdict::Against(NOT_WHOLE);
+        return Err(Refusal::NotWhole);
     }
     if paths > MOST_PATHS {
-        return Verdict::Against(TOO_MANY);
+        return Err(Refusal::TooMany);
     }
     if (paths as usize) * ROOM_WORDS > nw {
-        return Verdict::Against(NO_ROOM);
+        return Err(Refusal::NoRoom);
     }
-    Verdict::Fine
+    Ok(())
 }
 
-// 5, and then 7.
-fn bad_answer(l: usize) -> Answer
+// Why counting would refuse line l: 5, and then 7.
+#[tactic(auto, unfolding(crate::specs::Call::bad_answer))]
+fn bad_answer(l: usize) -> Refused
     requires { l ≤ most_lines }
-    ensures { result ≡ bad_answer l }
+    ensures { answer_told (Err result) ≡ bad_answer l }
 {
     if MOST_LINES as usize <= l {
-        return Answer::Refused(LINE_NUMBER, l as u32);
+        return Refusal::LineNumber.at(l as u32);
     }
-    Answer::Refused(NO_SUCH, l as u32)
+    Refusal::NoSuch.at(l as u32)
 }
 
 // Done where the first open outline is none of n lines.
-fn open_answer(l: u32, n: usize) -> Answer
-    ensures { result ≡ open_if l n }
+#[tactic(auto, unfolding(crate::specs::Call::open_if))]
+fn open_answer(l: u32, n: usize) -> Result<(), Refused>
+    ensures { answer_told result ≡ open_if l n }
 {
     if (l as usize) < n {
-        return Answer::Refused(LEFT_OPEN, l);
+        return Err(Refusal::LeftOpen.at(l));
     }
-    Answer::Done
+    Ok(())
 }
 
 // The first open outline of checked lines.
@@ -196,26 +197,28 @@ fn first_open(path_nos: &[u32], coords: &[f32], work: &mut [u32]) -> u32
     requires { Ready path_nos.now coords.now work.old }
     ensures { result ≡ first_open path_nos.now coords.now }
 {
-    clear_words(work, 0, work.len());
+    clear(work, 0, work.len(), 0);
     let best = pass(path_nos, coords, work);
     settle(path_nos, coords, work, best)
 }
 
 // Whether each path's lines, in order, make closed outlines; if not, the first line after which one
 // stands open. The working room is cleared afterwards, so far as it is asked for.
-pub fn outlines(path_nos: &[u32], coords: &[f32], paths: u32, work: &mut [u32]) -> Answer
-    ensures { OutlinesMet path_nos.now coords.now paths work.old result work.new }
+pub fn outlines(
+    path_nos: &[u32],
+    coords: &[f32],
+    paths: u32,
+    work: &mut [u32],
+) -> Result<(), Refused>
+    ensures { OutlinesMet path_nos.now coords.now paths work.old (answer_told result) work.new }
 {
-    let v = check_lent(path_nos.len(), coords.len(), paths, work.len());
-    if let Verdict::Against(why) = v {
-        return Answer::Refused(why, 0);
-    }
+    check_lent(path_nos.len(), coords.len(), paths, work.len())?;
     let bad = first_bad(path_nos, paths);
     if bad < path_nos.len() {
-        return bad_answer(bad);
+        return Err(bad_answer(bad));
     }
     let n = (paths as usize) * ROOM_WORDS;
     let l = first_open(path_nos, coords, &mut work[..n]);
-    clear_words(work, 0, n);
+    clear(work, 0, n, 0);
     open_answer(l, path_nos.len())
 }

@@ -1,10 +1,10 @@
 -- A line of our own count, and all lines one after another.
 -- Assumes nothing.
 use mathlib.Core.Path.{◌≡◌, refl, sym, ap, ◌∙◌, subst}
-use mathlib.Core.Bool.{Bool, true, false, not, ◌&&◌}
+use mathlib.Core.Bool.{true, false, not, ◌&&◌}
 use mathlib.Core.Logic.{◌⊎◌, inl, inr}
 use mathlib.Core.List.{List}
-use Prim.Native.Nat.{ℕ, ◌+◌, ◌-◌, ◌≤◌, ◌<◌, ◌^◌, min}
+use Prim.Native.Nat.{ℕ, ◌+◌, ◌-◌, ◌≤◌, ◌<◌, ◌^◌}
 use native.Mathlib.Nat.{add-zero, le_refl}
 use native.Mathlib.Omega.{arith}
 use lib.Dec.{ltb}
@@ -16,18 +16,18 @@ use Rattle.lists.specs.Run.{Step, taken, halted, Ran, done, refused, and_then, l
 use Rattle.panel.specs.Limits.{most_lines, most_steps, most_slots}
 use Rattle.panel.specs.Refusals.{count_over, no_room_word, line_number}
 use Rattle.panel.specs.declared.kinds.Path.{Path}
-use Rattle.panel.specs.declared.kinds.Verdict.{Verdict}
-use Rattle.panel.specs.declared.kinds.Verdict.TheVariants.{Fine, Against}
+use Rattle.panel.specs.Verdict.{Verdict}
+use Rattle.panel.specs.Verdict.{Fine, Against}
 use Rattle.walk.specs.declared.kinds.Walk.{Walk}
 use Rattle.clip.specs.Page.{clipped_of}
 use Rattle.clip.specs.declared.Clip.{Clip}
 use Rattle.acts.specs.Acts.{St, run_acts, delta_of}
-use Rattle.acts.specs.Line.{Plan, plan_acts, plan_step, Refusal, batch_of}
+use Rattle.acts.specs.Line.{Plan, plan_acts, plan_step, Refusal}
 use Rattle.acts.proofs.Once.{said_no}
-use Rattle.acts.proofs.Lines.{plan_far, plan_full, plan_runs, plan_done, batch_goes, batch_stops, batch_ends}
-use Rattle.walked_lines.specs.Line.{plan_by, plan_of, line_step, line_ran}
+use Rattle.acts.proofs.Lines.{plan_far, plan_full, plan_runs, batch_goes, batch_stops, batch_ends}
+use Rattle.walked_lines.specs.Line.{plan_by, plan_of, line_step}
 use Rattle.path_count.specs.Count.{batch}
-use Rattle.walked_lines.specs.declared.Tallied.{Tallied}
+use Rattle.walked_lines.specs.Tallied.{Tallied}
 use Rattle.walked_lines.proofs.Lines.{not_far, is_far, line_over, line_made, ran_halted}
 use Rattle.path_count.proofs.Batches.{batches}
 use Rattle.own_count.specs.Own.{zeroed, own_to}

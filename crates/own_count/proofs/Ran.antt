@@ -6,7 +6,6 @@ use mathlib.Core.List.{List, [], ◌∷◌, ◌++◌}
 use Prim.Native.Nat.{ℕ, ◌+◌, ◌-◌, ◌≤◌, ◌<◌, ◌^◌}
 use native.Mathlib.Nat.{add-zero, add_assoc}
 use native.Mathlib.Omega.{arith}
-use lib.Dec.{ltb}
 use lib.ListN.{length, get_or, set}
 use lib.IntN.{ℤ, pos, negsuc, ◌+ℤ◌}
 use borrow.Author.Tests.{lt-ltb, le-ltb}
@@ -14,9 +13,9 @@ use Rattle.lists.specs.Run.{Ran, done, refused, and_then}
 use Rattle.panel.specs.Limits.{most_count}
 use Rattle.panel.specs.Refusals.{count_over, sum_over, outside}
 use Rattle.panel.specs.Signed.{in_i32}
-use Rattle.panel.specs.declared.kinds.Verdict.{Verdict}
-use Rattle.panel.specs.declared.kinds.Verdict.TheVariants.{Fine, Against}
-use Rattle.acts.specs.Acts.{St, st_of, Act, mark, visit, Hit, off, step_acts, run_acts, verdict_of, delta_of, marked, visited}
+use Rattle.panel.specs.Verdict.{Verdict}
+use Rattle.panel.specs.Verdict.{Fine, Against}
+use Rattle.acts.specs.Acts.{St, Act, mark, visit, Hit, off, step_acts, run_acts, verdict_of, delta_of}
 use Rattle.acts.proofs.Laws.{runs_append}
 use Rattle.own_count.specs.View.{back_of, view_of, KeptFrom, ActsRan, Acted}
 use Rattle.own_count.proofs.Shown.{back_up, back_down, back_in, back_top, back_bottom, count_at, back_at, view_back, view_count, kept_refl, kept_set, kept_then}
@@ -136,10 +135,6 @@ module _ (δ : ℤ) (xs ys zs : List Act) (n : ℕ) (us vs : List ℕ) (j : ℕ)
   turn_stops why e m =
       acts_same δ (xs ++ ys) zs n us vs m m (Against why) (sym z) refl
       (acts_stop δ xs ys n us vs vs j m why (subst (Acted δ xs n us vs j) e a) (kept_refl (n + n) vs))
-
--- the same where the answer is handed on
-pub turn_stays : (δ : ℤ) (xs ys : List Act) (n : ℕ) (us vs : List ℕ) (j m : ℕ) (v : Verdict) (why : ℕ) → v ≡ Against why → Acted δ xs n us vs j v → Acted δ (xs ++ ys) n us vs m v
-turn_stays δ xs ys n us vs j m v why e a = subst (Acted δ (xs ++ ys) n us vs m) (sym e) (turn_stops δ xs ys (xs ++ ys) n us vs j v refl a why e m)
 
 -- nothing is left
 pub turn_ends : (δ : ℤ) (zs : List Act) (n : ℕ) (ws : List ℕ) (m : ℕ) → zs ≡ [] → m ≡ 0 → Acted δ zs n ws ws m Fine

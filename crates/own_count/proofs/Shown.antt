@@ -1,6 +1,6 @@
 -- The words of tiles as counting's state has them: a backdrop's word, one more and one less; what a store does to the state.
 -- Assumes nothing.
-use mathlib.Core.Path.{◌≡◌, refl, sym, ap, ap₂, ◌∙◌, subst}
+use mathlib.Core.Path.{◌≡◌, refl, sym, ap, ap₂, ◌∙◌}
 use mathlib.Core.Bool.{Bool, true, false, cond}
 use mathlib.Core.Logic.{◌⊎◌, inl, inr}
 use mathlib.Core.List.{List, [], ◌∷◌, map}
@@ -11,12 +11,11 @@ use lib.Dec.{ltb}
 use lib.ListN.{length, get_or, set, take, drop, replicate, length-set, length-take, length-drop, length-map, length-replicate, get_or-replicate}
 use lib.Seq.{get_or-set_same, get_or-set_other, take-set-le, take-set-lt, drop-set-lt, drop-set-add, get_or-take, get_or-drop, ext_get_or}
 use lib.IntN.{ℤ, pos, negsuc, suc_ℤ, pred_ℤ, ◌+ℤ◌, +ℤ_one, -ℤ_one, pred-suc}
-use lib.Signed.{mag}
 use borrow.Author.Tests.{ltb-true, ltb-false}
 use Rattle.float32.proofs.Tests.{below_or_not}
 use Rattle.panel.specs.Signed.{in_i32}
 use Rattle.panel.proofs.SignLaws.{mag_in}
-use Rattle.acts.specs.Acts.{St, st_of}
+use Rattle.acts.specs.Acts.{st_of}
 use Rattle.own_count.specs.Own.{zeroed}
 use Rattle.own_count.specs.View.{zero_back, back_of, view_of, KeptFrom, Filled}
 

@@ -3,3 +3,4 @@
 --     View   how it stands in the working room; only proofs lean on it
 pub mod Own
 pub mod View
+pub mod Counted

@@ -1,6 +1,6 @@
 -- Our own count of all lines, from zeroed tiles, with room for as many references as there can be. The references themselves are kept by nobody: their
 -- list is empty. docs/RULES.md, "When the panel says no", counting. Definitions only.
-use Rattle.std.specs.Prelude.{List, [], ℕ, length, replicate, ℤ, pos, Float}
+use Rattle.std.specs.Prelude.{List, [], ℕ, length, replicate, pos, Float}
 use Rattle.lists.specs.Run.{Ran}
 use Rattle.panel.specs.Limits.{most_slots}
 use Rattle.acts.specs.Acts.{St, st_of}

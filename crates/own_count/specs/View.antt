@@ -2,16 +2,15 @@
 -- public call does. Definitions only.
 use Rattle.std.specs.Prelude.{◌≡◌, List, [], map, ℕ, ◌+◌, ◌≤◌, ◌<◌, length, get_or, take, drop, ℤ, Float}
 use Rattle.std.proofs.Math.IntN.{sub_ℕ}
-use Rattle.lists.specs.Run.{Step, taken, halted, Ran, done, refused, left}
-use Rattle.panel.specs.declared.kinds.Verdict.{Verdict}
-use Rattle.panel.specs.declared.kinds.Verdict.TheVariants.{Fine, Against}
+use Rattle.lists.specs.Run.{Step, taken, halted, done, refused, left}
+use Rattle.panel.specs.Verdict.{Verdict}
+use Rattle.panel.specs.Verdict.{Fine, Against}
 use Rattle.acts.specs.Acts.{St, st_of, Act, run_acts, verdict_of}
-use Rattle.acts.specs.Line.{Refusal}
-use Rattle.walked_lines.specs.declared.Tallied.{Tallied}
-use Rattle.walked_lines.specs.declared.Tallied.TheVariants.{On, Against as TallyAgainst}
+use Rattle.walked_lines.specs.Tallied.{Tallied}
+use Rattle.walked_lines.specs.Tallied.{On, Against as TallyAgainst}
 use Rattle.own_count.specs.Own.{own_to, own_ran}
-use Rattle.own_count.specs.declared.Own.{Own}
-use Rattle.own_count.specs.declared.Own.TheVariants.{Done, Refused}
+use Rattle.own_count.specs.Counted.{Own}
+use Rattle.own_count.specs.Counted.{Done, Refused}
 
 -- a backdrop stands as a word, with half of all words added
 abbrev pub zero_back : ℕ

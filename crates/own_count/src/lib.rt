@@ -12,11 +12,3 @@ pub use lines::own_count;
 
 // The word of backdrop 0.
 pub const ZERO_BACK: u32 = 2147483648;
-
-// All lines, with the number of references that they make; or the first refusal's number, and its
-// line's.
-#[derive(Clone, Copy)]
-pub enum Own {
-    Done(u32),
-    Refused(u32, u32),
-}

@@ -7,25 +7,33 @@ ghost use Rattle.acts.specs.Line.{plan_acts, plan_step};
 ghost use Rattle.hits.specs.Steps.{hit_at};
 ghost use Rattle.hits.specs.Notes.{OnTiles};
 ghost use Rattle.walked_lines.specs.Line.{plan_by, plan_of, Walkable, Clipped};
+ghost use Rattle.walked_lines.specs.Tallied.{tallied_told};
+ghost use Rattle.panel.specs.Verdict.{verdict_told};
 ghost use Rattle.own_count.specs.View.{view_of, KeptFrom, Acted, StepAs};
 
 use super::words::{own_hit, own_rows};
-use acts::Rows;
 use clip::{Clip, clip_to};
-use panel::kinds::{Path, Verdict};
+use panel::kinds::Path;
 use panel::limits::{MOST_SLOTS, MOST_STEPS};
-use panel::refusals::{COUNT_OVER, NO_ROOM, OUTSIDE};
+use panel::refusals::Refusal;
 use walk::kinds::{Pace, Walk};
-use walk::step::{Step, crosses, step_at, z_at};
-use walked_lines::Tallied;
+use walk::step::{crosses, step_at, z_at};
+use walked_lines::rows_by;
 
 // One step.
-fn own_step(work: &mut [u32], n: usize, pace: Pace, path: Path, up: bool, i: u32) -> Verdict
+fn own_step(
+    work: &mut [u32],
+    n: usize,
+    pace: Pace,
+    path: Path,
+    up: bool,
+    i: u32,
+) -> Result<(), Refusal>
     requires { OnTiles path n n × (n + n ≤ length work.old) × (i < step_range) }
-    ensures { Acted (delta_of up) (step_acts (hit_at pace path i) i) n work.old work.new 1 result }
+    ensures { Acted (delta_of up) (step_acts (hit_at pace path i) i) n work.old work.new 1 (verdict_told result) }
 {
-    let Step::Tile(tile, x, _, z) = step_at(pace, path, i) else {
-        return Verdict::Against(OUTSIDE);
+    let Some((tile, x, _, z)) = step_at(pace, path, i) else {
+        return Err(Refusal::Outside);
     };
     let last_z = z_at(pace.a, pace.b, i as f32 - 1.0);
     let marks = crosses(pace.on_top, path.x1, i, last_z, x, z);
@@ -41,44 +49,42 @@ fn own_steps(
     up: bool,
     from: u32,
     to: u32,
-) -> Verdict
+) -> Result<(), Refusal>
     requires { OnTiles path n n × (n + n ≤ length work.old) × («from» ≤ to) × («from» < to → to ≤ step_range) }
-    ensures { Acted (delta_of up) (steps_acts (hit_at pace path) (to - «from») «from») n work.old work.new (to - «from») result }
+    ensures { Acted (delta_of up) (steps_acts (hit_at pace path) (to - «from») «from») n work.old work.new (to - «from») (verdict_told result) }
 {
-    let mut i = from;
-    while i < to {
-        let v = own_step(work, n, pace, path, up, i);
-        if let Verdict::Against(why) = v {
-            return Verdict::Against(why);
-        }
-        i += 1;
+    for i in from..to {
+        own_step(work, n, pace, path, up, i)?;
     }
-    Verdict::Fine
+    Ok(())
 }
 
 // Row marks, then steps.
-fn own_acts(work: &mut [u32], n: usize, up: bool, pace: Pace, path: Path, clip: Clip) -> Verdict
+fn own_acts(
+    work: &mut [u32],
+    n: usize,
+    up: bool,
+    pace: Pace,
+    path: Path,
+    clip: Clip,
+) -> Result<(), Refusal>
     requires { OnTiles path n n × (n + n ≤ length work.old) × Clipped path clip }
-    ensures { Acted (delta_of up) (plan_acts (plan_by up pace path clip)) n work.old work.new (clip.imax - clip.imin) result }
+    ensures { Acted (delta_of up) (plan_acts (plan_by up pace path clip)) n work.old work.new (clip.imax - clip.imin) (verdict_told result) }
 {
-    let rows = Rows {
-        first: path.first,
-        top: path.y0,
-        width: path.x1 - path.x0,
-        low: clip.ymin,
-        high: clip.ymax,
-    };
-    let v = own_rows(work, n, rows, up);
-    let Verdict::Fine = v else {
-        return v;
-    };
+    own_rows(work, n, rows_by(path, clip), up)?;
     own_steps(work, n, pace, path, up, clip.imin, clip.imax)
 }
 
 // A walk, after made references: 8 for its largest step number, 9 for the room, then its acts.
-pub fn own_walk(work: &mut [u32], n: usize, made: u32, walk: Walk, path: Path) -> Tallied
+pub fn own_walk(
+    work: &mut [u32],
+    n: usize,
+    made: u32,
+    walk: Walk,
+    path: Path,
+) -> Result<u32, Refusal>
     requires { OnTiles path n n × (n + n ≤ length work.old) × Walkable walk path }
-    ensures { ((l : ℕ) → StepAs n work.new made (plan_step most_slots l (plan_of walk path) (view_of n work.old made)) result)
+    ensures { ((l : ℕ) → StepAs n work.new made (plan_step most_slots l (plan_of walk path) (view_of n work.old made)) (tallied_told result))
         × KeptFrom (n + n) work.old work.new }
 {
     let up = !walk.e.is_down;
@@ -87,15 +93,12 @@ pub fn own_walk(work: &mut [u32], n: usize, made: u32, walk: Walk, path: Path) -
     let imin = clip.imin;
     let imax = clip.imax;
     if (imin < imax) & (imax > MOST_STEPS) {
-        return Tallied::Against(COUNT_OVER);
+        return Err(Refusal::CountOver);
     }
     let k = imax - imin;
     if (made as u64) + (k as u64) > MOST_SLOTS as u64 {
-        return Tallied::Against(NO_ROOM);
+        return Err(Refusal::NoRoom);
     }
-    let v = own_acts(work, n, up, pace, path, clip);
-    if let Verdict::Against(why) = v {
-        return Tallied::Against(why);
-    }
-    Tallied::On(k)
+    own_acts(work, n, up, pace, path, clip)?;
+    Ok(k)
 }

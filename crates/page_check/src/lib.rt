@@ -5,11 +5,11 @@
 
 ghost use Rattle.std.specs.Prelude.{◌≡◌};
 ghost use Rattle.panel.specs.Checks.{first_no};
+ghost use Rattle.panel.specs.Verdict.{verdict_told};
 ghost use Rattle.page_check.specs.Page.{page_checks};
 
-use panel::kinds::Verdict;
 use panel::limits::{MOST_PATHS, MOST_TILES};
-use panel::refusals::{BAD_SCREEN, NOT_WHOLE, TOO_MANY};
+use panel::refusals::Refusal;
 use panel::widths::{PAINT_WORDS, PATH_WORDS};
 use sides::{TILE_HEIGHT, TILE_WIDTH};
 
@@ -23,31 +23,31 @@ pub fn check_page(
     cols: u32,
     rows: u32,
     pixels: usize,
-) -> Verdict
-    ensures { result ≡ first_no (page_checks np na nt width cols rows pixels) }
+) -> Result<(), Refusal>
+    ensures { verdict_told result ≡ first_no (page_checks np na nt width cols rows pixels) }
 {
     if np % PATH_WORDS != 0 {
-        return Verdict::Against(NOT_WHOLE);
+        return Err(Refusal::NotWhole);
     }
     let n = np / PATH_WORDS;
     if na != PAINT_WORDS * n {
-        return Verdict::Against(NOT_WHOLE);
+        return Err(Refusal::NotWhole);
     }
     if n > MOST_PATHS as usize {
-        return Verdict::Against(TOO_MANY);
+        return Err(Refusal::TooMany);
     }
     if nt > MOST_TILES as usize {
-        return Verdict::Against(TOO_MANY);
+        return Err(Refusal::TooMany);
     }
     let m = (cols as u64) * (rows as u64);
     if m > MOST_TILES as u64 {
-        return Verdict::Against(TOO_MANY);
+        return Err(Refusal::TooMany);
     }
     if TILE_WIDTH * (cols as usize) > width as usize {
-        return Verdict::Against(BAD_SCREEN);
+        return Err(Refusal::BadScreen);
     }
     if (width as usize) * (rows as usize) > pixels / TILE_HEIGHT {
-        return Verdict::Against(BAD_SCREEN);
+        return Err(Refusal::BadScreen);
     }
-    Verdict::Fine
+    Ok(())
 }

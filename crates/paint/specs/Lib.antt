@@ -1,2 +1,4 @@
 -- The lists and the pixels, over what a frame left. Definitions only.
 pub mod Paint
+pub mod Drawn
+pub mod Parts

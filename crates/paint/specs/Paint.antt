@@ -3,24 +3,18 @@
 use Rattle.std.specs.Prelude.{List, [], ◌∷◌, ℕ, ◌*◌, length, Float}
 use Rattle.panel.specs.Refusals.{done_no}
 use Rattle.panel.specs.declared.kinds.Running.{Running}
-use Rattle.panel.specs.declared.kinds.Answer.{Answer}
-use Rattle.panel.specs.declared.kinds.Answer.TheVariants as Answer
+use Rattle.panel.specs.Answer.{Answer}
+use Rattle.panel.specs.Answer as Answer
 use Rattle.path_tiling.specs.Tiling.{slots_of}
 use Rattle.frame.specs.Frame.{answer_on}
 use Rattle.pairs.specs.Pairs.{Tables}
 use Rattle.write_lists.specs.Lists.{write_lists_of}
 use Rattle.fine.specs.Fine.{fine_of}
-use Rattle.paint.specs.declared.kinds.Drawn.{Drawn}
-use Rattle.paint.specs.declared.kinds.Drawn.TheVariants.{Done, Refused}
+use Rattle.paint.specs.Parts.{lists_no, fine_no}
+use Rattle.paint.specs.Drawn.{Drawn}
+use Rattle.paint.specs.Drawn.{Done, Refused}
 
 -- ---- the answer on paper
-
--- the parts after a frame's five
-abbrev pub lists_no : ℕ
-lists_no = 6
-
-abbrev pub fine_no : ℕ
-fine_no = 7
 
 -- as a frame's: the number, then of a refusal the part's and the item's, then lines and references counted
 abbrev pub paper_of : Drawn → List ℕ

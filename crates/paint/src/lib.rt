@@ -8,12 +8,14 @@ ghost use Rattle.std.specs.Prelude.{◌≡◌, ◌*◌, ◌≤◌};
 ghost use Rattle.panel.specs.Limits.{most_tiles};
 ghost use Rattle.pairs.specs.Pairs.{tables};
 ghost use Rattle.paint.specs.Paint.{paint_of, painted_of};
+ghost use Rattle.paint.specs.Drawn.{drawn_told};
 
-use kinds::{Drawn, FINE, LISTS};
-use panel::kinds::{Answer, Running};
+use kinds::{DrawRefused, Part};
+use panel::kinds::Running;
 
 // Over what the frame left. There is as much room for slots as segments are lent, and all screen tiles
 // are drawn.
+#[tactic(auto, unfolding(crate::specs::Paint::painted_of))]
 pub fn paint(
     s: Running,
     paths: &[u32],
@@ -27,9 +29,9 @@ pub fn paint(
     rows: u32,
     words: &mut [u32],
     pixels: &mut [u32],
-) -> Drawn
+) -> Result<Running, DrawRefused>
     requires { cols * rows ≤ most_tiles }
-    ensures { paint_of result words.new pixels.new
+    ensures { paint_of (drawn_told result) words.new pixels.new
         ≡ painted_of s (tables paths.now paints.now backdrops.now stored.now tally.now)
         segments.now width cols rows words.old pixels.old }
 {
@@ -37,13 +39,13 @@ pub fn paint(
     let listed = write_lists::write_lists(
         paths, paints, backdrops, stored, tally, cols, rows, room, words,
     );
-    if let Answer::Refused(why, item) = listed {
-        return Drawn::Refused(LISTS, why, item, s);
+    if let Err(refused) = listed {
+        return Err(Part::Lists.refuses(refused, s));
     }
     let tiles = cols * rows;
     let shown = fine::fine(words, segments, width, cols, rows, 0, tiles, pixels);
-    if let Answer::Refused(why, item) = shown {
-        return Drawn::Refused(FINE, why, item, s);
+    if let Err(refused) = shown {
+        return Err(Part::Fine.refuses(refused, s));
     }
-    Drawn::Done(s)
+    Ok(s)
 }

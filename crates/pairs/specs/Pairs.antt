@@ -11,8 +11,8 @@ use Rattle.commands.specs.declared.steps.Act.{Act}
 use Rattle.commands.specs.declared.steps.Act.TheVariants as Does
 use Rattle.pairs.specs.declared.Pair.{Pair}
 use Rattle.pairs.specs.declared.Pair.TheVariants.{Fill, Solid}
-use Rattle.pairs.specs.declared.Put.{Put}
-use Rattle.pairs.specs.declared.Put.TheVariants.{Nothing, Puts}
+use Rattle.pairs.specs.Put.{Put}
+use Rattle.pairs.specs.Put.{Nothing, Puts}
 
 -- what is lent to be read: the paths in painting order, a paint for each, and the tiles' backdrops, stored words and tally
 pub record Tables : Type 0 where

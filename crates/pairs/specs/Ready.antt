@@ -2,7 +2,7 @@
 use Rattle.std.specs.Prelude.{◌≡◌, ◌*◌, length}
 use Rattle.panel.specs.Widths.{paint_words}
 use Rattle.panel.specs.Paths.{path_count, paths_answer}
-use Rattle.panel.specs.declared.kinds.Answer.TheVariants.{Done}
+use Rattle.panel.specs.Answer.{Done}
 use Rattle.pairs.specs.Pairs.{Tables}
 
 -- what is lent has passed 1 to 4

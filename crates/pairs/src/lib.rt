@@ -2,15 +2,17 @@
 // "Command lists". Added: it is in none of the files ported.
 #![tactic(auto)]
 
-ghost use Rattle.std.specs.Prelude.{◌≡◌, true, ◌+◌, ◌*◌, ◌%◌, ◌≤◌, ◌<◌, pos, length, get_or};
+ghost use Rattle.std.specs.Prelude.{◌≡◌, true, ◌+◌, ◌*◌, ◌%◌, ◌≤◌, ◌<◌, length};
 ghost use Rattle.panel.specs.Limits.{most_tiles};
 ghost use Rattle.panel.specs.Widths.{paint_words};
 ghost use Rattle.panel.specs.Paths.{path_count, end_of, tile_of};
-ghost use Rattle.pairs.specs.Pairs.{tables, colour_at, rule_at, covers, bits_of, in_box, on_tile, on_path, put_list};
+ghost use Rattle.pairs.specs.Pairs.{covers, in_box, on_tile, by_path, on_path, put_list};
+ghost use Rattle.pairs.specs.Lent.{tables_of};
 ghost use Rattle.pairs.specs.Ready.{Ready};
 
 use panel::kinds::Path;
 use panel::paths::path_at;
+use panel::slots::flipped;
 use panel::widths::{PAINT_COLOUR, PAINT_RULE, PAINT_WORDS};
 
 // FILL and COLOR: so many segments from the first on, the rule's word, the backdrop's bits and the
@@ -27,17 +29,15 @@ pub enum Pair {
     Solid(u32),
 }
 
+// What is lent to be read: the paths in painting order, a paint for each, and the tiles' backdrops, stored
+// words and tally.
 #[derive(Clone, Copy)]
-pub enum Put {
-    Nothing,
-    Puts(Pair),
-}
-
-// A backdrop's 32 bits.
-fn bits(b: i32) -> u32
-    ensures { result ≡ bits_of b }
-{
-    if b < 0 { !((-1 - b) as u32) } else { b as u32 }
+pub struct Lent<'a> {
+    pub paths: &'a [u32],
+    pub paints: &'a [u32],
+    pub backdrops: &'a [i32],
+    pub stored: &'a [u32],
+    pub tally: &'a [u32],
 }
 
 // 1 where n is odd, as a whole number. A float loses that bit from 2^24 on.
@@ -52,32 +52,30 @@ fn covers(even_odd: bool, b: i32) -> bool
     ensures { result ≡ covers even_odd b }
 {
     if even_odd {
-        last_bit(float32::size_of(b)) == 1
+        last_bit(b.unsigned_abs()) == 1
     } else {
         b != 0
     }
 }
 
 // What goes on a tile with this tally, stored index and backdrop.
-fn on_tile(colour: u32, rule: u32, count: u32, stored: u32, b: i32) -> Put
+fn on_tile(colour: u32, rule: u32, count: u32, stored: u32, b: i32) -> Option<Pair>
     ensures { put_list result ≡ on_tile colour rule count stored b }
 {
     if count > 0 {
-        let first = !stored;
-        let backdrop = bits(b);
-        return Put::Puts(Pair::Fill {
+        return Some(Pair::Fill {
             count,
             rule,
-            first,
-            backdrop,
+            first: flipped(stored),
+            backdrop: b.cast_unsigned(),
             colour,
         });
     }
     let even_odd = rule % 2 == 1;
     if covers(even_odd, b) {
-        return Put::Puts(Pair::Solid(colour));
+        return Some(Pair::Solid(colour));
     }
-    Put::Nothing
+    None
 }
 
 // Whether the tile in column x and row y is one of the path's box.
@@ -96,45 +94,29 @@ fn tile_in(p: Path, x: u32, y: u32) -> usize
 }
 
 // What path p puts on its tile number t.
-fn by_path(
-    paints: &[u32],
-    backdrops: &[i32],
-    stored: &[u32],
-    tally: &[u32],
-    p: u32,
-    t: usize,
-) -> Put
-    requires { (p * paint_words + paint_words ≤ length paints.now) × (t < length backdrops.now) × (t < length stored.now) × (t < length tally.now) }
-    ensures { put_list result ≡ on_tile (colour_at paints.now p) (rule_at paints.now p) (get_or tally.now t 0)
-        (get_or stored.now t 0) (get_or backdrops.now t (pos 0)) }
+fn by_path(lent: &Lent, p: u32, t: usize) -> Option<Pair>
+    requires { (p * paint_words + paint_words ≤ length lent.now.paints.now) × (t < length lent.now.backdrops.now) × (t < length lent.now.stored.now)
+        × (t < length lent.now.tally.now) }
+    ensures { put_list result ≡ by_path (tables_of lent.now) p t }
 {
     let k = (p as usize) * PAINT_WORDS;
-    let colour = paints[k + PAINT_COLOUR];
-    let rule = paints[k + PAINT_RULE];
-    let count = tally[t];
-    let word = stored[t];
-    let back = backdrops[t];
+    let colour = lent.paints[k + PAINT_COLOUR];
+    let rule = lent.paints[k + PAINT_RULE];
+    let count = lent.tally[t];
+    let word = lent.stored[t];
+    let back = lent.backdrops[t];
     on_tile(colour, rule, count, word, back)
 }
 
 // What path p puts on the screen tile in column x and row y.
-pub fn on_path(
-    paths: &[u32],
-    paints: &[u32],
-    backdrops: &[i32],
-    stored: &[u32],
-    tally: &[u32],
-    x: u32,
-    y: u32,
-    p: u32,
-) -> Put
-    requires { (Ready (tables paths.now paints.now backdrops.now stored.now tally.now)) × (p < path_count paths.now) }
-    ensures { put_list result ≡ on_path (tables paths.now paints.now backdrops.now stored.now tally.now) x y p }
+pub fn on_path(lent: &Lent, x: u32, y: u32, p: u32) -> Option<Pair>
+    requires { (Ready (tables_of lent.now)) × (p < path_count lent.now.paths.now) }
+    ensures { put_list result ≡ on_path (tables_of lent.now) x y p }
 {
-    let b = path_at(paths, p);
+    let b = path_at(lent.paths, p);
     if !in_box(b, x, y) {
-        return Put::Nothing;
+        return None;
     }
     let t = tile_in(b, x, y);
-    by_path(paints, backdrops, stored, tally, p, t)
+    by_path(lent, p, t)
 }

@@ -9,3 +9,4 @@ pub mod SegmentLaws
 pub mod PieceLaws
 pub mod RecordLaws
 pub mod HeldLaws
+pub mod ToldLaws

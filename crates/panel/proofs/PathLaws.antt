@@ -1,7 +1,7 @@
 -- Paths that pass the checks: their boxes and their tiles' ranges. A tile number belongs to at most one path, and a tile of a path's box lies
 -- in its own path's range. Assumes nothing.
 use mathlib.Core.Path.{◌≡◌, refl, sym, ap, ◌∙◌}
-use mathlib.Core.Bool.{Bool, true, false, ◌&&◌}
+use mathlib.Core.Bool.{Bool, true, ◌&&◌}
 use mathlib.Core.List.{List}
 use Prim.Native.Nat.{ℕ, zero, suc, ◌+◌, ◌-◌, ◌*◌, ◌/◌, ◌%◌, ◌≤◌, ◌<◌, ◌^◌}
 use native.Mathlib.Nat.{mul-le-mul_right, mul-le-mul, mul_comm, add-mul}
@@ -16,8 +16,8 @@ use Rattle.panel.specs.Widths.{path_words}
 use Rattle.panel.specs.Checks.{first_no, unless}
 use Rattle.panel.specs.Paths.{path_at, path_count, width_of, height_of, end_of, tile_of, box_fits, path_checks, paths_from, lent_checks, paths_answer}
 use Rattle.panel.specs.declared.kinds.Path.{Path}
-use Rattle.panel.specs.declared.kinds.Verdict.TheVariants.{Fine, Against}
-use Rattle.panel.specs.declared.kinds.Answer.TheVariants.{Done, Refused}
+use Rattle.panel.specs.Verdict.{Fine, Against}
+use Rattle.panel.specs.Answer.{Done, Refused}
 use Rattle.panel.proofs.BoolLaws.{both}
 use Rattle.panel.proofs.CheckLaws.{all_ok, unless_no, unless_fine, unless_done}
 

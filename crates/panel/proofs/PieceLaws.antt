@@ -3,7 +3,7 @@
 use mathlib.Core.Path.{◌≡◌}
 use mathlib.Core.Logic.{◌≢◌}
 use Prim.Native.Nat.{ℕ, ◌*◌, ◌<◌}
-use lib.ListN.{length, get_or, set, length-set}
+use lib.ListN.{length, get_or, length-set}
 use lib.Seq.{length-sets, get_or-set_same, get_or-set_other}
 use Rattle.panel.specs.Widths.{segment_floats}
 use Rattle.panel.specs.Segments.{floats_of}

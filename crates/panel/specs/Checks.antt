@@ -1,9 +1,9 @@
 -- What a call checks before it starts: a row of checks, in order, of which the first that fails speaks. Definitions only.
 use Rattle.std.specs.Prelude.{Bool, cond, List, [], ◌∷◌, ℕ}
-use Rattle.panel.specs.declared.kinds.Verdict.{Verdict}
-use Rattle.panel.specs.declared.kinds.Verdict.TheVariants.{Fine, Against}
-use Rattle.panel.specs.declared.kinds.Answer.{Answer}
-use Rattle.panel.specs.declared.kinds.Answer.TheVariants.{Refused}
+use Rattle.panel.specs.Verdict.{Verdict}
+use Rattle.panel.specs.Verdict.{Fine, Against}
+use Rattle.panel.specs.Answer.{Answer}
+use Rattle.panel.specs.Answer.{Refused}
 
 -- a check, with the number of its refusal
 pub record Check : Type 0 where

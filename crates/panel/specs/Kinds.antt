@@ -1,11 +1,13 @@
 -- What the kinds stand for on paper. Definitions only.
 use Rattle.std.specs.Prelude.{ℕ, ◌+◌, List, [], ◌∷◌}
+use Rattle.panel.specs.declared.refusals.Refusal.{Refusal}
+use Rattle.panel.specs.declared.kinds.Refused as E
 use Rattle.panel.specs.Refusals.{done_no}
 use Rattle.panel.specs.declared.kinds.Running.{Running}
 use Rattle.panel.specs.declared.kinds.TileNo.{TileNo}
 use Rattle.panel.specs.declared.kinds.SlotNo.{SlotNo}
-use Rattle.panel.specs.declared.kinds.Answer.{Answer}
-use Rattle.panel.specs.declared.kinds.Answer.TheVariants.{Done, Refused}
+use Rattle.panel.specs.Answer.{Answer}
+use Rattle.panel.specs.Answer.{Done, Refused}
 
 abbrev pub tile_no_of : ℕ → TileNo
 tile_no_of n = record { 0 = n }
@@ -33,3 +35,7 @@ number_of (Refused n item) = n
 abbrev pub item_of : Answer → ℕ
 item_of Done = 0
 item_of (Refused n item) = item
+
+-- a refusal of an item, as code has it
+abbrev pub refused_at : Refusal → ℕ → E.Refused
+refused_at why item = record { why = why; item = item }

@@ -12,3 +12,5 @@ pub mod Slots
 pub mod Signed
 pub mod Segments
 pub mod Pieces
+pub mod Verdict
+pub mod Answer

@@ -7,8 +7,8 @@ use Rattle.panel.specs.Refusals.{not_whole, too_many, bad_box, bad_range}
 use Rattle.panel.specs.Widths.{path_words, place_x0, place_y0, place_x1, place_y1, place_first, place_beam}
 use Rattle.panel.specs.Checks.{Check, check, first_no, unless}
 use Rattle.panel.specs.declared.kinds.Path.{Path}
-use Rattle.panel.specs.declared.kinds.Answer.{Answer}
-use Rattle.panel.specs.declared.kinds.Answer.TheVariants.{Done}
+use Rattle.panel.specs.Answer.{Answer}
+use Rattle.panel.specs.Answer.{Done}
 
 -- path p's record
 unfoldable pub path_at : List ℕ → ℕ → Path

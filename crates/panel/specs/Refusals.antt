@@ -1,5 +1,6 @@
 -- The refusal numbers of docs/RULES.md, each named once for the contracts. Definitions only.
 use Rattle.std.specs.Prelude.{List, [], ◌∷◌, ℕ}
+use Rattle.panel.specs.declared.refusals.Refusal.{Refusal}
 
 abbrev pub done_no : ℕ
 done_no = 0
@@ -72,6 +73,32 @@ too_deep = 22
 
 abbrev pub left_open : ℕ
 left_open = 23
+
+-- the number of a refusal as code has it
+abbrev pub no_of : Refusal → ℕ
+no_of Refusal.NotWhole = not_whole
+no_of Refusal.TooMany = too_many
+no_of Refusal.BadBox = bad_box
+no_of Refusal.BadRange = bad_range
+no_of Refusal.LineNumber = line_number
+no_of Refusal.Coordinate = coordinate
+no_of Refusal.NoSuch = no_such
+no_of Refusal.CountOver = count_over
+no_of Refusal.NoRoom = no_room_word
+no_of Refusal.Outside = outside
+no_of Refusal.SumOver = sum_over
+no_of Refusal.Crooked = crooked
+no_of Refusal.PastEnd = past_end
+no_of Refusal.Unknown = unknown
+no_of Refusal.TooLong = too_long_word
+no_of Refusal.BadScreen = bad_screen
+no_of Refusal.BadSize = bad_size
+no_of Refusal.BadFile = bad_file
+no_of Refusal.OffTile = off_tile
+no_of Refusal.BadSegment = bad_segment
+no_of Refusal.BadText = bad_text
+no_of Refusal.TooDeep = too_deep
+no_of Refusal.LeftOpen = left_open
 
 -- all of them, in order
 abbrev pub refusal_numbers : List ℕ

@@ -1,8 +1,9 @@
 // The kinds of number, and what goes by value between the stages.
 ghost use Rattle.std.specs.Prelude.{◌≡◌, ◌+◌, ◌<◌, ◌^◌};
-ghost use Rattle.panel.specs.Kinds.{stepped_of, number_of, item_of};
+ghost use Rattle.panel.specs.Kinds.{stepped_of, number_of, item_of, refused_at};
+ghost use Rattle.panel.specs.Answer.{answer_told};
 
-use super::refusals::DONE;
+use super::refusals::{DONE, Refusal};
 
 // A line's number, a tile's and a slot's: three kinds that can't be mixed.
 #[derive(Clone, Copy)]
@@ -43,37 +44,48 @@ impl Running {
     }
 }
 
-// What a call answers that has nothing to hand back: done, or refused with the number and the
-// item's (the path's, the reference's, the screen tile's).
-#[derive(Clone, Copy)]
-pub enum Answer {
-    Done,
-    Refused(u32, u32),
+// What a call refuses: why, and the item's number (the path's, the reference's, the screen tile's), 0 where no item is
+// to blame. A call that has nothing to hand back answers `Result<(), Refused>`.
+#[derive(Clone, Copy, PartialEq, Eq)]
+pub struct Refused {
+    pub why: Refusal,
+    pub item: u32,
+}
+
+// A check of what is lent blames no item.
+impl From<Refusal> for Refused {
+    ghost from_gives = { λ why r. r ≡ refused_at why 0 };
+
+    fn from(why: Refusal) -> Self {
+        why.at(0)
+    }
+}
+
+impl Refusal {
+    // This refusal, of an item.
+    pub fn at(self, item: u32) -> Refused
+        ensures { result ≡ refused_at self item }
+    {
+        Refused { why: self, item }
+    }
 }
 
 // An answer's number: 0, or the refusal's.
-pub fn number(a: Answer) -> u32
-    ensures { result ≡ number_of a }
+pub fn number(a: Result<(), Refused>) -> u32
+    ensures { result ≡ number_of (answer_told a) }
 {
     match a {
-        Answer::Done => DONE,
-        Answer::Refused(n, _) => n,
+        Ok(()) => DONE,
+        Err(refused) => refused.why.number(),
     }
 }
 
 // The item's number of a refusal, and 0 where nothing is refused.
-pub fn item(a: Answer) -> u32
-    ensures { result ≡ item_of a }
+pub fn item(a: Result<(), Refused>) -> u32
+    ensures { result ≡ item_of (answer_told a) }
 {
     match a {
-        Answer::Done => 0,
-        Answer::Refused(_, i) => i,
+        Ok(()) => 0,
+        Err(refused) => refused.item,
     }
-}
-
-// What a check finds: nothing against it, or the number of the refusal.
-#[derive(Clone, Copy)]
-pub enum Verdict {
-    Fine,
-    Against(u32),
 }

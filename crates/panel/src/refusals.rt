@@ -1,107 +1,99 @@
-// The refusal numbers, each named once in code. specs/Refusals.antt names them for the contracts,
-// and the function at the end says that the two agree. docs/RULES.md, "When the panel says no".
+// The refusals, each named once in code with its number. specs/Refusals.antt names the numbers for the contracts,
+// and `number` and `all` say that the two agree. docs/RULES.md, "When the panel says no".
 ghost use Rattle.std.specs.Prelude.{◌≡◌};
-ghost use Rattle.panel.specs.Refusals.{refusal_numbers};
+ghost use Rattle.panel.specs.Refusals.{no_of, refusal_numbers};
 
+// The number of an answer that refuses nothing.
 pub const DONE: u32 = 0;
 
-// 1: lengths that are no whole records, paired slices that differ, a range that is none
-pub const NOT_WHOLE: u32 = 1;
+// Why a call refuses. The numbers are those of the C interface.
+#[derive(Clone, Copy, PartialEq, Eq)]
+pub enum Refusal {
+    // lengths that are no whole records, paired slices that differ, a range that is none
+    NotWhole = 1,
+    // too many paths, tiles or screen tiles
+    TooMany = 2,
+    // a box edge over the limit, or edges the wrong way round
+    BadBox = 3,
+    // a path's tiles before the end of those of the path before it, or past the tiles lent
+    BadRange = 4,
+    // a line number over the limit, when counting
+    LineNumber = 5,
+    // a coordinate not finite, or too large
+    Coordinate = 6,
+    // no such path; in a reference, no such line or one that the walk skips
+    NoSuch = 7,
+    // a step number or a tile's count over its limit
+    CountOver = 8,
+    // no room
+    NoRoom = 9,
+    // a step that is no number, or outside its path's box
+    Outside = 10,
+    // a backdrop or a running sum leaves i32
+    SumOver = 11,
+    // a segment end outside its tile
+    Crooked = 12,
+    // words or segments past the end of those lent
+    PastEnd = 13,
+    // an unknown command
+    Unknown = 14,
+    // too many commands
+    TooLong = 15,
+    // a screen too narrow, or too few pixels
+    BadScreen = 16,
+    // a picture's width or height outside 1..SIDE_MOST
+    BadSize = 17,
+    // no P6 file: another header, or bytes missing or left over
+    BadFile = 18,
+    // a pixel's column or row outside its tile
+    OffTile = 19,
+    // a fill's segment with an end outside its tile, or a y_edge not finite
+    BadSegment = 20,
+    // a text that is no path data of SVG
+    BadText = 21,
+    // a curve halved too often
+    TooDeep = 22,
+    // an outline that doesn't end where it began
+    LeftOpen = 23,
+}
 
-// 2: too many paths, tiles or screen tiles
-pub const TOO_MANY: u32 = 2;
+impl Refusal {
+    // Its number.
+    pub fn number(self) -> u32
+        ensures { result ≡ no_of self }
+    {
+        self as u32
+    }
+}
 
-// 3: a box edge over the limit, or edges the wrong way round
-pub const BAD_BOX: u32 = 3;
-
-// 4: a path's tiles before the end of those of the path before it, or past the tiles lent
-pub const BAD_RANGE: u32 = 4;
-
-// 5: a line number over the limit, when counting
-pub const LINE_NUMBER: u32 = 5;
-
-// 6: a coordinate not finite, or too large
-pub const COORDINATE: u32 = 6;
-
-// 7: no such path; in a reference, no such line or one that the walk skips
-pub const NO_SUCH: u32 = 7;
-
-// 8: a step number or a tile's count over its limit
-pub const COUNT_OVER: u32 = 8;
-
-// 9: no room
-pub const NO_ROOM: u32 = 9;
-
-// 10: a step that is no number, or outside its path's box
-pub const OUTSIDE: u32 = 10;
-
-// 11: a backdrop or a running sum leaves i32
-pub const SUM_OVER: u32 = 11;
-
-// 12: a segment end outside its tile
-pub const CROOKED: u32 = 12;
-
-// 13: words or segments past the end of those lent
-pub const PAST_END: u32 = 13;
-
-// 14: an unknown command
-pub const UNKNOWN: u32 = 14;
-
-// 15: too many commands
-pub const TOO_LONG: u32 = 15;
-
-// 16: a screen too narrow, or too few pixels
-pub const BAD_SCREEN: u32 = 16;
-
-// 17: a picture's width or height outside 1..SIDE_MOST
-pub const BAD_SIZE: u32 = 17;
-
-// 18: no P6 file: another header, or bytes missing or left over
-pub const BAD_FILE: u32 = 18;
-
-// 19: a pixel's column or row outside its tile
-pub const OFF_TILE: u32 = 19;
-
-// 20: a fill's segment with an end outside its tile, or a y_edge not finite
-pub const BAD_SEGMENT: u32 = 20;
-
-// 21: a text that is no path data of SVG
-pub const BAD_TEXT: u32 = 21;
-
-// 22: a curve halved too often
-pub const TOO_DEEP: u32 = 22;
-
-// 23: an outline that doesn't end where it began
-pub const LEFT_OPEN: u32 = 23;
-
-// All of them, in order.
+// All numbers, in order.
 pub fn all() -> [u32; 24]
     ensures { result ≡ refusal_numbers }
 {
     [
         DONE,
-        NOT_WHOLE,
-        TOO_MANY,
-        BAD_BOX,
-        BAD_RANGE,
-        LINE_NUMBER,
-        COORDINATE,
-        NO_SUCH,
-        COUNT_OVER,
-        NO_ROOM,
-        OUTSIDE,
-        SUM_OVER,
-        CROOKED,
-        PAST_END,
-        UNKNOWN,
-        TOO_LONG,
-        BAD_SCREEN,
-        BAD_SIZE,
-        BAD_FILE,
-        OFF_TILE,
-        BAD_SEGMENT,
-        BAD_TEXT,
-        TOO_DEEP,
-        LEFT_OPEN,
+        Refusal::NotWhole as u32,
+        Refusal::TooMany as u32,
+        Refusal::BadBox as u32,
+        Refusal::BadRange as u32,
+        Refusal::LineNumber as u32,
+        Refusal::Coordinate as u32,
+        Refusal::NoSuch as u32,
+        Refusal::CountOver as u32,
+        Refusal::NoRoom as u32,
+        Refusal::Outside as u32,
+        Refusal::SumOver as u32,
+        Refusal::Crooked as u32,
+        Refusal::PastEnd as u32,
+        Refusal::Unknown as u32,
+        Refusal::TooLong as u32,
+        Refusal::BadScreen as u32,
+        Refusal::BadSize as u32,
+        Refusal::BadFile as u32,
+        Refusal::OffTile as u32,
+        Refusal::BadSegment as u32,
+        Refusal::BadText as u32,
+        Refusal::TooDeep as u32,
+        Refusal::LeftOpen as u32,
     ]
 }

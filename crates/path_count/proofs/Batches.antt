@@ -1,9 +1,8 @@
 -- A batch's answer, and a call's.
 -- Assumes nothing.
 use mathlib.Core.Path.{◌≡◌, refl, sym, ap, ap₂, ◌∙◌}
-use mathlib.Core.Bool.{true}
 use mathlib.Core.List.{List, [], ◌∷◌}
-use Prim.Native.Nat.{ℕ, ◌+◌, ◌-◌, ◌*◌, ◌/◌, ◌%◌, ◌≤◌}
+use Prim.Native.Nat.{ℕ, ◌+◌, ◌-◌, ◌*◌, ◌/◌, ◌≤◌}
 use native.Mathlib.Nat.{zero-add}
 use native.Mathlib.Omega.{arith}
 use lib.ListN.{length}
@@ -13,25 +12,25 @@ use borrow.Author.Tests.{leb-true, eqb-true}
 use Rattle.lists.specs.Run.{Ran, done, refused, and_then}
 use Rattle.panel.specs.Refusals.{done_no}
 use Rattle.panel.specs.Widths.{line_floats, ref_words}
-use Rattle.panel.specs.Checks.{first_no, unless}
+use Rattle.panel.specs.Checks.{first_no}
 use Rattle.panel.specs.Paths.{paths_answer}
 use Rattle.panel.specs.declared.kinds.Running.{Running}
-use Rattle.panel.specs.declared.kinds.Answer.{Answer}
-use Rattle.panel.specs.declared.kinds.Answer.TheVariants.{Done as AnswerDone, Refused as AnswerRefused}
-use Rattle.panel.specs.declared.kinds.Verdict.{Verdict}
-use Rattle.panel.specs.declared.kinds.Verdict.TheVariants.{Fine, Against}
+use Rattle.panel.specs.Answer.{Answer}
+use Rattle.panel.specs.Answer.{Done as AnswerDone, Refused as AnswerRefused}
+use Rattle.panel.specs.Verdict.{Verdict}
+use Rattle.panel.specs.Verdict.{Fine, Against}
 use Rattle.panel.proofs.CheckLaws.{all_ok, unless_no, unless_fine}
 use Rattle.acts.specs.Acts.{St, st_of}
 use Rattle.acts.specs.Line.{Refusal, batch_of}
 use Rattle.acts.proofs.Lines.{batch_cut}
 use Rattle.panel.specs.Kinds.{running_of}
 use Rattle.walked_lines.specs.Line.{line_step}
-use Rattle.path_count.specs.Count.{paper_of, batch, Told, told_of, batch_told, lent_checks, call_answer, call_told, counted}
+use Rattle.path_count.specs.Count.{paper_of, batch, Told, told_of, batch_told, lent_checks, call_answer, counted}
 use Rattle.short_runs.specs.Ones.{first_ran}
 use Rattle.short_runs.proofs.Ones.{run_left}
 use Rattle.path_count.specs.Runs.{batch_from, from_told}
-use Rattle.path_count.specs.declared.kinds.Counted.{Counted}
-use Rattle.path_count.specs.declared.kinds.Counted.TheVariants.{Done, Refused}
+use Rattle.path_count.specs.Counted.{Counted}
+use Rattle.path_count.specs.Counted.{Done, Refused}
 
 -- ---- a batch
 

@@ -6,13 +6,13 @@ use Rattle.panel.specs.Widths.{line_floats, ref_words}
 use Rattle.panel.specs.Checks.{Check, check, first_no, unless}
 use Rattle.panel.specs.Paths.{paths_answer}
 use Rattle.panel.specs.declared.kinds.Running.{Running}
-use Rattle.panel.specs.declared.kinds.Answer.{Answer}
-use Rattle.panel.specs.declared.kinds.Answer.TheVariants.{Done as AnswerDone, Refused as AnswerRefused}
+use Rattle.panel.specs.Answer.{Answer}
+use Rattle.panel.specs.Answer.{Done as AnswerDone, Refused as AnswerRefused}
 use Rattle.acts.specs.Acts.{St, st_of}
 use Rattle.acts.specs.Line.{Refusal, batch_of}
 use Rattle.walked_lines.specs.Line.{line_step}
-use Rattle.path_count.specs.declared.kinds.Counted.{Counted}
-use Rattle.path_count.specs.declared.kinds.Counted.TheVariants.{Done, Refused}
+use Rattle.path_count.specs.Counted.{Counted}
+use Rattle.path_count.specs.Counted.{Done, Refused}
 
 -- ---- a batch
 

@@ -3,32 +3,24 @@ ghost use Rattle.std.specs.Prelude.{◌≡◌, ◌+◌, ◌*◌, ◌/◌, ◌≤
 ghost use Rattle.panel.specs.Widths.{ref_words, line_floats};
 ghost use Rattle.panel.specs.Checks.{first_no};
 ghost use Rattle.panel.specs.Paths.{paths_answer};
-ghost use Rattle.panel.specs.declared.kinds.Answer.TheVariants.{Done};
+ghost use Rattle.panel.specs.Answer.{Done};
+ghost use Rattle.panel.specs.Verdict.{verdict_told};
 ghost use Rattle.acts.specs.Acts.{st_of};
 ghost use Rattle.hits.specs.Notes.{note_words};
-ghost use Rattle.walked_lines.specs.Line.{number_of, line_step, line_ran, tally_ran, Lent, There};
+ghost use Rattle.walked_lines.specs.Line.{line_step, line_ran, tally_ran, Lent, There};
+ghost use Rattle.walked_lines.specs.Tallied.{tallied_told};
 ghost use Rattle.path_count.specs.Count.{paper_of, made_of, told_of, lent_checks, CountMet};
+ghost use Rattle.path_count.specs.Counted.{counted_told};
 ghost use Rattle.path_count.specs.Runs.{batch_from, from_told};
 
-use super::kinds::Counted;
+use super::kinds::Stopped;
 use super::runs::{TRIES, misses_after, ones_if};
 use hits::NOTE_ROOM;
 use one_line::count_other;
 use panel::checks::check_paths;
-use panel::kinds::{Answer, LineNo, Running, Verdict};
-use panel::refusals::{DONE, NOT_WHOLE};
+use panel::kinds::{LineNo, Refused, Running};
+use panel::refusals::Refusal;
 use panel::widths::{LINE_FLOATS, REF_WORDS};
-use walked_lines::Tallied;
-
-// The number of a refusal, which `let .. else` can't bind.
-fn number(t: Tallied) -> u32
-    ensures { result ≡ number_of t }
-{
-    match t {
-        Tallied::On(_) => DONE,
-        Tallied::Against(why) => why,
-    }
-}
 
 // The next line, which doesn't lie within one tile or wasn't asked. The number of the line at place k is base + k.
 fn count_at(
@@ -41,10 +33,10 @@ fn count_at(
     backs: &mut [i32],
     counts: &mut [u32],
     refs: &mut [u32],
-) -> Tallied
+) -> Result<u32, Refusal>
     requires { Lent paths.now (length backs.old) (length counts.old) × There s.lines (length path_nos.now) (length coords.now) × (length notes.old ≡ note_words)
         × (base + s.lines < 2 ^ 32) }
-    ensures { tally_ran result (st_of backs.new counts.new refs.new) s.refs
+    ensures { tally_ran (tallied_told result) (st_of backs.new counts.new refs.new) s.refs
         ≡ line_ran (line_step path_nos.now coords.now paths.now (length refs.old / ref_words) (base + s.lines) s.lines
         (st_of backs.old counts.old refs.old s.refs))
         (st_of backs.old counts.old refs.old s.refs) }
@@ -78,15 +70,16 @@ pub fn count_batch(
     backs: &mut [i32],
     counts: &mut [u32],
     refs: &mut [u32],
-) -> Counted
+) -> Result<Running, Stopped>
     requires { Lent paths.now (length backs.old) (length counts.old) × (running.lines ≤ end)
         × (end ≤ length path_nos.now) × (end * line_floats ≤ length coords.now) × (length notes.old ≡ note_words) × (base + end ≤ 2 ^ 32) }
-    ensures { told_of (paper_of result) (st_of backs.new counts.new refs.new (made_of result))
+    ensures { told_of (paper_of (counted_told result)) (st_of backs.new counts.new refs.new (made_of (counted_told result)))
         ≡ from_told base end (batch_from base path_nos.now coords.now paths.now (length refs.old / ref_words) running.lines end
         (st_of backs.old counts.old refs.old running.refs)) }
 {
     let mut misses: u32 = 0;
     let mut s = running;
+    // A run is many lines long, so a turn goes on by as many.
     while s.lines < end {
         let at = s.lines;
         s = ones_if(
@@ -101,41 +94,56 @@ pub fn count_batch(
             refs,
         );
         if s.lines == end {
-            return Counted::Done(s);
+            return Ok(s);
         }
         let t = count_at(base, s, path_nos, coords, paths, notes, backs, counts, refs);
-        let Tallied::On(n) = t else {
-            return Counted::Refused(number(t), base + s.lines, s);
+        let n = match t {
+            Ok(n) => n,
+            Err(why) => {
+                return Err(Stopped {
+                    why,
+                    item: base + s.lines,
+                    running: s,
+                });
+            }
         };
         misses = misses_after(misses, (s.lines > at) | (n <= 1));
         s = s.stepped(n);
     }
-    Counted::Done(s)
+    Ok(s)
 }
 
 // Check 1 of the lengths lent, in the order of the parameters, and of the batch's range.
-fn check_lent(nn: usize, nc: usize, nb: usize, nt: usize, nr: usize, a: u32, b: u32) -> Verdict
-    ensures { result ≡ first_no (lent_checks nn nc nb nt nr a b) }
+fn check_lent(
+    nn: usize,
+    nc: usize,
+    nb: usize,
+    nt: usize,
+    nr: usize,
+    a: u32,
+    b: u32,
+) -> Result<(), Refusal>
+    ensures { verdict_told result ≡ first_no (lent_checks nn nc nb nt nr a b) }
 {
     if nc % LINE_FLOATS != 0 {
-        return Verdict::Against(NOT_WHOLE);
+        return Err(Refusal::NotWhole);
     }
     if nn != nc / LINE_FLOATS {
-        return Verdict::Against(NOT_WHOLE);
+        return Err(Refusal::NotWhole);
     }
     if nb != nt {
-        return Verdict::Against(NOT_WHOLE);
+        return Err(Refusal::NotWhole);
     }
     if nr % REF_WORDS != 0 {
-        return Verdict::Against(NOT_WHOLE);
+        return Err(Refusal::NotWhole);
     }
     if b < a {
-        return Verdict::Against(NOT_WHOLE);
+        return Err(Refusal::NotWhole);
     }
     if nc / LINE_FLOATS < b as usize {
-        return Verdict::Against(NOT_WHOLE);
+        return Err(Refusal::NotWhole);
     }
-    Verdict::Fine
+    Ok(())
 }
 
 // What `count` does over paths that are checked.
@@ -148,10 +156,10 @@ pub fn count_checked(
     backdrops: &mut [i32],
     counts: &mut [u32],
     refs: &mut [u32],
-) -> Counted
+) -> Result<Running, Stopped>
     requires { paths_answer paths.now (length counts.old) ≡ Done }
     ensures { CountMet running end path_nos.now coords.now paths.now backdrops.old counts.old refs.old
-        result backdrops.new counts.new refs.new }
+        (counted_told result) backdrops.new counts.new refs.new }
 {
     let v = check_lent(
         path_nos.len(),
@@ -162,8 +170,12 @@ pub fn count_checked(
         running.lines,
         end,
     );
-    if let Verdict::Against(why) = v {
-        return Counted::Refused(why, 0, running);
+    if let Err(why) = v {
+        return Err(Stopped {
+            why,
+            item: 0,
+            running,
+        });
     }
     let mut notes = [0u32; NOTE_ROOM];
     count_batch(
@@ -181,9 +193,9 @@ pub fn count(
     backdrops: &mut [i32],
     counts: &mut [u32],
     refs: &mut [u32],
-) -> Counted
+) -> Result<Running, Stopped>
     ensures { CountMet running end path_nos.now coords.now paths.now backdrops.old counts.old refs.old
-        result backdrops.new counts.new refs.new }
+        (counted_told result) backdrops.new counts.new refs.new }
 {
     let v = check_lent(
         path_nos.len(),
@@ -194,12 +206,16 @@ pub fn count(
         running.lines,
         end,
     );
-    if let Verdict::Against(why) = v {
-        return Counted::Refused(why, 0, running);
+    if let Err(why) = v {
+        return Err(Stopped {
+            why,
+            item: 0,
+            running,
+        });
     }
     let a = check_paths(paths, counts.len());
-    if let Answer::Refused(why, item) = a {
-        return Counted::Refused(why, item, running);
+    if let Err(Refused { why, item }) = a {
+        return Err(Stopped { why, item, running });
     }
     count_checked(
         running, end, path_nos, coords, paths, backdrops, counts, refs,

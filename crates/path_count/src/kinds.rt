@@ -1,10 +1,12 @@
 // What counting answers.
 use panel::kinds::Running;
+use panel::refusals::Refusal;
 
-// A batch: all its lines, or stopped before the line, or at the path, that is refused, with the
-// refusal's number and the item's. Lines and references so far are carried on.
+// A batch that is refused stops before the line, or at the path, that is refused: why, the item's number, and lines and
+// references so far, which are carried on. A done one has them as its answer.
 #[derive(Clone, Copy)]
-pub enum Counted {
-    Done(Running),
-    Refused(u32, u32, Running),
+pub struct Stopped {
+    pub why: Refusal,
+    pub item: u32,
+    pub running: Running,
 }

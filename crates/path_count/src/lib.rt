@@ -9,4 +9,4 @@ mod kinds;
 mod runs;
 
 pub use call::{count, count_batch, count_checked};
-pub use kinds::Counted;
+pub use kinds::Stopped;

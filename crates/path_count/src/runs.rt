@@ -2,7 +2,7 @@
 ghost use Rattle.std.specs.Prelude.{◌≡◌, ◌+◌, ◌*◌, ◌≤◌, ◌<◌, ◌^◌, length};
 ghost use Rattle.panel.specs.Paths.{paths_answer};
 ghost use Rattle.panel.specs.Widths.{line_floats};
-ghost use Rattle.panel.specs.declared.kinds.Answer.TheVariants.{Done};
+ghost use Rattle.panel.specs.Answer.{Done};
 ghost use Rattle.path_count.specs.Runs.{misses_of, LeftMet};
 
 use panel::kinds::{LineNo, Running};
@@ -16,9 +16,10 @@ pub(crate) fn misses_after(misses: u32, hit: bool) -> u32
     ensures { result ≡ misses_of misses hit }
 {
     if hit {
-        return 0;
+        0
+    } else {
+        misses.saturating_add(1).min(TRIES)
     }
-    if misses < TRIES { misses + 1 } else { TRIES }
 }
 
 // The running numbers after the first lines of those up to end that each lie within one tile, where this is asked. The

@@ -4,11 +4,11 @@
 // none of the files ported.
 #![tactic(auto)]
 
-ghost use Rattle.std.specs.Prelude.{◌≡◌, ◌+◌, ◌-◌, ◌*◌, ◌≤◌, ◌<◌, max, length, get_or};
+ghost use Rattle.std.specs.Prelude.{◌≡◌, ◌+◌, ◌*◌, ◌≤◌, ◌<◌, length, get_or};
 ghost use Rattle.panel.specs.Limits.{edge_most};
 ghost use Rattle.panel.specs.Widths.{line_floats};
 ghost use Rattle.panel.specs.Lines.{line_at};
-ghost use Rattle.panel.specs.declared.kinds.Answer.TheVariants.{Done};
+ghost use Rattle.panel.specs.Answer.{Done};
 ghost use Rattle.end_tiles.specs.Lines.{tile_at, lines_from, LineOk};
 ghost use Rattle.path_reach.specs.Room.{box_words};
 ghost use Rattle.path_reach.specs.Words.{raised_at, end_reach, line_reach, gather_from};
@@ -21,27 +21,12 @@ use util::Vec2;
 // Words of working room for each path.
 pub const BOX_WORDS: usize = 4;
 
-fn larger(a: u32, b: u32) -> u32
-    ensures { result ≡ max a b }
-{
-    if a < b { b } else { a }
-}
-
-// a less b, or 0.
-pub fn less(a: u32, b: u32) -> u32
-    ensures { result ≡ a - b }
-{
-    if a < b { 0 } else { a - b }
-}
-
 // A word that only grows.
 fn raise(work: &mut [u32], at: usize, v: u32)
     requires { at < length work.old }
     ensures { work.new ≡ raised_at at v work.old }
 {
-    let old = work[at];
-    let grown = larger(old, v);
-    work[at] = grown;
+    work[at] = work[at].max(v);
 }
 
 // One end of a line of path k.
@@ -52,8 +37,8 @@ fn reach_end(work: &mut [u32], k: u32, p: Vec2)
     let at = (k as usize) * BOX_WORDS;
     let x = tile_at(p.x);
     let y = tile_at(p.y);
-    raise(work, at, less(EDGE_MOST, x));
-    raise(work, at + 1, less(EDGE_MOST, y));
+    raise(work, at, EDGE_MOST - x);
+    raise(work, at + 1, EDGE_MOST - y);
     raise(work, at + 2, x + 1);
     raise(work, at + 3, y + 1);
 }
@@ -78,9 +63,7 @@ pub fn gather(path_nos: &[u32], coords: &[f32], n: u32, work: &mut [u32])
         × (lines_from path_nos.now coords.now n (length path_nos.now) 0 ≡ Done) }
     ensures { work.new ≡ gather_from path_nos.now coords.now (length path_nos.now) 0 work.old }
 {
-    let mut l: u32 = 0;
-    while (l as usize) < path_nos.len() {
-        reach_line(path_nos, coords, l, n, work);
-        l += 1;
+    for l in 0..path_nos.len() {
+        reach_line(path_nos, coords, l as u32, n, work);
     }
 }

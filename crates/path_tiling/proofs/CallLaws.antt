@@ -1,11 +1,10 @@
 -- A call, by what it checks first. Assumes nothing.
 --     not_whole_lem, bad_paths   a check that fails: nothing is written
 --     ready, called          all checks pass: what is known then, and the range is tiled
-use Prim.Native.Nat.{ℕ, ◌+◌, ◌-◌, ◌*◌, ◌/◌, ◌%◌, ◌≤◌, ◌<◌}
+use Prim.Native.Nat.{ℕ, ◌-◌, ◌/◌, ◌%◌}
 use native.Mathlib.Omega.{arith}
-use mathlib.Core.Path.{◌≡◌, refl, sym, ap, ◌∙◌}
-use mathlib.Core.Bool.{Bool, true, false, cond, ◌&&◌}
-use mathlib.Core.List.{List, [], ◌∷◌}
+use mathlib.Core.Path.{◌≡◌}
+use mathlib.Core.Bool.{Bool, true, false, ◌&&◌}
 use lib.Dec.{leb, eqb}
 use lib.ListN.{length}
 use borrow.Author.Tests.{leb-true, eqb-true}
@@ -13,11 +12,10 @@ use Rattle.panel.specs.Refusals.{not_whole}
 use Rattle.panel.specs.Widths.{path_words, line_floats, ref_words, segment_floats}
 use Rattle.panel.specs.Paths.{paths_answer}
 use Rattle.panel.specs.Pieces.{Pieces}
-use Rattle.panel.specs.declared.kinds.Answer.{Answer}
-use Rattle.panel.specs.declared.kinds.Answer.TheVariants.{Done, Refused}
+use Rattle.panel.specs.Answer.{Done, Refused}
 use Rattle.panel.proofs.BoolLaws.{both}
 use Rattle.looks.specs.Look.{Lent}
-use Rattle.path_tiling.specs.Tiling.{Tiled, tiled, range_tiled, range_of, slots_of, whole_of, checks_of, checked_then, call_of, tiled_of, Ready}
+use Rattle.path_tiling.specs.Tiling.{tiled, range_tiled, range_of, slots_of, whole_of, checks_of, call_of, tiled_of, Ready}
 
 -- the lengths lent are whole records, and the range is one
 abbrev pub Whole : ℕ → ℕ → Lent → Pieces → Bool

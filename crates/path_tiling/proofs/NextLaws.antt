@@ -5,7 +5,7 @@ use Prim.Native.Nat.{ℕ, ◌+◌, ◌<◌}
 use mathlib.Core.Path.{◌≡◌}
 use mathlib.Core.Bool.{Bool, true, false}
 use Rattle.panel.specs.Pieces.{Pieces}
-use Rattle.panel.specs.declared.kinds.Answer.TheVariants.{Done}
+use Rattle.panel.specs.Answer.{Done}
 use Rattle.looks.specs.Look.{Lent, line_at, packed_at}
 use Rattle.line_runs.specs.Runs.{Run, run, line_run}
 use Rattle.path_tiling.specs.Runs.{NextMet}

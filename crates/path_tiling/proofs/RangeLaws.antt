@@ -6,7 +6,7 @@ use native.Mathlib.Omega.{arith}
 use mathlib.Core.Path.{◌≡◌}
 use Rattle.panel.specs.Widths.{segment_floats}
 use Rattle.panel.specs.Pieces.{Pieces}
-use Rattle.panel.specs.declared.kinds.Answer.TheVariants.{Done}
+use Rattle.panel.specs.Answer.{Done}
 use Rattle.looks.specs.Look.{Lent}
 use Rattle.path_tiling.specs.Tiling.{range_of, tiled, range_tiled, slots_of}
 

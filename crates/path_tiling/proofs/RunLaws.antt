@@ -12,13 +12,11 @@ use lib.ListN.{length}
 use lib.Dec.{eqb}
 use borrow.Author.Tests.{eqb-true, eq-eqb}
 use Rattle.panel.specs.Pieces.{Pieces, placed}
-use Rattle.panel.specs.declared.kinds.Answer.{Answer}
-use Rattle.panel.specs.declared.kinds.Answer.TheVariants.{Done, Refused}
-use Rattle.panel.specs.declared.kinds.Verdict.TheVariants as Verdict
+use Rattle.panel.specs.Answer.{Answer, Done, Refused}
+use Rattle.panel.specs.Verdict as Verdict
 use Rattle.looks.specs.Look.{Lent, line_at, packed_at, tag_of, found_of, found_to, look_of}
 use Rattle.looks.specs.One.{One, one, one_of}
-use Rattle.looks.specs.declared.Look.{Look}
-use Rattle.looks.specs.declared.Look.TheVariants.{Put, Empty, Against}
+use Rattle.looks.specs.Looked.{Look, Put, Empty, Against}
 use Rattle.looks.proofs.FoundLaws.{look_is}
 use Rattle.looks.proofs.OneLaws.{AsLong, long_then, one_long}
 use Rattle.line_runs.specs.Runs.{Run, run, look_on, run_of, line_run}

@@ -10,7 +10,7 @@ use Rattle.util.specs.Span.{span_of}
 use Rattle.panel.specs.Limits.{edge_most, coord_most}
 use Rattle.panel.specs.Widths.{step_range, segment_floats}
 use Rattle.panel.specs.Paths.{stamped, path_at, paths_from, paths_answer}
-use Rattle.panel.specs.declared.kinds.Answer.TheVariants.{Done, Refused}
+use Rattle.panel.specs.Answer.{Done, Refused}
 use Rattle.panel.specs.Refusals.{no_such, no_room_word, outside}
 use Rattle.walk.specs.Num.{float, cut_of, inside_of}
 use Rattle.walk.specs.Setup.{ends_of}

@@ -3,45 +3,21 @@
 --     range_good     each write's slot is among the slots, and both ends of its segment lie in the tile, for every input
 --     range_append   two ranges one after another are one
 --     calls_join     two calls one after another are one; then_tiled says it of the segments and tags
-use Prim.Native.Nat.{ℕ, zero, suc, ◌+◌, ◌-◌, ◌*◌, ◌/◌, ◌≤◌, ◌<◌}
+use Prim.Native.Nat.{ℕ, zero, suc, ◌+◌, ◌-◌, ◌/◌, ◌≤◌}
 use native.Mathlib.Omega.{arith}
 use mathlib.Core.Path.{◌≡◌, refl, sym, ap, ◌∙◌}
-use mathlib.Core.Bool.{Bool, true, false, cond, ◌&&◌}
-use mathlib.Core.List.{List, [], ◌∷◌, ◌++◌}
+use mathlib.Core.List.{List, [], ◌∷◌}
 use lib.ListN.{length}
-use lib.Dec.{leb, eqb}
 use borrow.Author.Tests.{le-leb}
 use Rattle.lists.specs.Run.{All, act_all_append}
 use Rattle.panel.specs.Widths.{ref_words}
-use Rattle.panel.specs.Kinds.{slot_no_of}
-use Rattle.panel.specs.Paths.{paths_answer}
-use Rattle.panel.specs.declared.kinds.Answer.{Answer}
-use Rattle.panel.specs.declared.kinds.Answer.TheVariants.{Done, Refused}
-use Rattle.panel.specs.declared.segments.Segment.{Segment}
-use Rattle.looks.specs.Look.{Lent, line_at, packed_at, found_of, look_of}
+use Rattle.panel.specs.Answer.{Answer}
+use Rattle.panel.specs.Answer.{Done, Refused}
+use Rattle.looks.specs.Look.{Lent, packed_at, look_of}
 use Rattle.panel.specs.Pieces.{Pieces, placed}
-use Rattle.path_tiling.specs.Tiling.{
-  Write,
-  write_of,
-  Range,
-  range,
-  look_then_word,
-  range_of,
-  slots_of,
-  applied,
-  whole_of,
-  checks_of,
-  checked_then,
-  call_of,
-  Tiled,
-  tiled,
-  range_tiled,
-  then_on,
-  then_range,
-  Made,
-}
-use Rattle.looks.specs.declared.Look.{Look}
-use Rattle.looks.specs.declared.Look.TheVariants.{Put, Empty, Against}
+use Rattle.path_tiling.specs.Tiling.{Write, write_of, Range, range, look_then_word, range_of, slots_of, applied, whole_of, checks_of, checked_then, call_of, tiled, range_tiled, then_on, then_range, Made}
+use Rattle.looks.specs.Looked.{Look}
+use Rattle.looks.specs.Looked.{Put, Empty, Against}
 use Rattle.looks.proofs.PutLaws.{Good, put_good}
 use Rattle.looks.proofs.FoundLaws.{look_is}
 use Rattle.looks.proofs.OneLaws.{AsLong, long_self, long_then, long_placed}

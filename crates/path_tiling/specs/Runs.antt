@@ -1,8 +1,7 @@
 -- A range, some references at once: how the code goes over it. Only proofs lean on this: no promise of a public call does. Definitions only.
 use Rattle.std.specs.Prelude.{ℕ, ◌+◌, ◌-◌, ◌≤◌, ◌<◌, ◌≡◌, Bool, true, cond, not, List, eqb, length}
 use Rattle.panel.specs.Pieces.{Pieces}
-use Rattle.panel.specs.declared.kinds.Answer.{Answer}
-use Rattle.panel.specs.declared.kinds.Answer.TheVariants.{Done, Refused}
+use Rattle.panel.specs.Answer.{Answer, Done, Refused}
 use Rattle.looks.specs.Look.{Lent, line_at}
 use Rattle.line_runs.specs.Runs.{Run}
 use Rattle.path_tiling.specs.Tiling.{range_of, Tiled, tiled, range_tiled}

@@ -7,13 +7,11 @@ use Rattle.panel.specs.Refusals.{not_whole}
 use Rattle.panel.specs.Widths.{path_words, line_floats, ref_words, segment_floats}
 use Rattle.panel.specs.Kinds.{paper_of, slot_no_of}
 use Rattle.panel.specs.Paths.{beam_at, paths_answer}
-use Rattle.panel.specs.declared.kinds.Answer.{Answer}
-use Rattle.panel.specs.declared.kinds.Answer.TheVariants.{Done, Refused}
+use Rattle.panel.specs.Answer.{Answer, Done, Refused}
 use Rattle.panel.specs.Pieces.{Pieces, placed}
 use Rattle.panel.specs.declared.segments.Segment.{Segment}
 use Rattle.looks.specs.Look.{Lent, line_at, tag_of, look_of}
-use Rattle.looks.specs.declared.Look.{Look}
-use Rattle.looks.specs.declared.Look.TheVariants.{Put, Empty, Against}
+use Rattle.looks.specs.Looked.{Look, Put, Empty, Against}
 
 -- a write: the slot, and what is written there, with the reference, the line and the path that it comes from; the tag is the path's beam number
 pub record Write : Type 0 where

@@ -6,17 +6,17 @@ ghost use Rattle.std.specs.Prelude.{◌≡◌, ◌-◌, ◌/◌, ◌≤◌, ◌<
 ghost use Rattle.panel.specs.Widths.{ref_words};
 ghost use Rattle.panel.specs.Paths.{paths_answer};
 ghost use Rattle.panel.specs.Pieces.{pieces};
-ghost use Rattle.panel.specs.declared.kinds.Answer.TheVariants.{Done};
+ghost use Rattle.panel.specs.Answer.{Done, answer_told};
 ghost use Rattle.looks.specs.Look.{lent};
 ghost use Rattle.line_runs.specs.Runs.{ran_of, Some};
 ghost use Rattle.path_tiling.specs.Tiling.{slots_of, whole_of, Ready, range_of, tiled, range_tiled, TileMet};
 ghost use Rattle.path_tiling.specs.Runs.{alone_of, NextMet};
 
-use line_runs::{Ran, tile_line};
-use panel::kinds::{Answer, LineNo};
+use line_runs::tile_line;
+use panel::kinds::{LineNo, Refused};
 use panel::limits::MOST_SLOTS;
 use panel::refs::{named_at, packed_at};
-use panel::refusals::NOT_WHOLE;
+use panel::refusals::Refusal;
 use panel::widths::{LINE_FLOATS, PATH_WORDS, REF_WORDS, SEGMENT_FLOATS};
 use short_lines::{put_tried, try_short};
 
@@ -24,12 +24,7 @@ use short_lines::{put_tried, try_short};
 pub fn slots_of(floats: usize) -> u32
     ensures { result ≡ slots_of floats }
 {
-    let room = floats / SEGMENT_FLOATS;
-    if room < (MOST_SLOTS as usize) {
-        room as u32
-    } else {
-        MOST_SLOTS
-    }
+    (floats / SEGMENT_FLOATS).min(MOST_SLOTS as usize) as u32
 }
 
 // Whether the reference after `from` names another line, or there is none up to `to`: a line within one tile has one
@@ -59,7 +54,7 @@ fn tile_next(
     slots: u32,
     segments: &mut [f32],
     tags: &mut [u32],
-) -> Ran
+) -> Result<u32, Refused>
     requires { Some from to (lent path_nos.now coords.now paths.now stored.now refs.now) slots (pieces segments.old tags.old) }
     ensures { NextMet from to (lent path_nos.now coords.now paths.now stored.now refs.now)
         slots (pieces segments.old tags.old) (ran_of result (pieces segments.new tags.new)) }
@@ -69,9 +64,8 @@ fn tile_next(
     let tried = alone(refs, from, to);
     let short = try_short(tried, path_nos, coords, paths, stored, line);
     if put_tried(short, packed, slots, segments, tags) {
-        let answer = Answer::Done;
         let next = from + 1;
-        return Ran { answer, next };
+        return Ok(next);
     }
     tile_line(
         line, from, to, path_nos, coords, paths, stored, refs, slots, segments, tags,
@@ -89,25 +83,21 @@ fn tile_range(
     refs: &[u32],
     segments: &mut [f32],
     tags: &mut [u32],
-) -> Answer
+) -> Result<(), Refused>
     requires { Ready from to (lent path_nos.now coords.now paths.now stored.now refs.now) (pieces segments.old tags.old) }
-    ensures { tiled result (pieces segments.new tags.new) ≡ range_tiled
+    ensures { tiled (answer_told result) (pieces segments.new tags.new) ≡ range_tiled
         (range_of (lent path_nos.now coords.now paths.now stored.now refs.now)
         (slots_of (length segments.old)) (to - from) from) (pieces segments.old tags.old) }
 {
     let slots = slots_of(segments.len());
     let mut k = from;
+    // not a `for`: a turn takes as many references as name one line
     while k < to {
-        let ran = tile_next(
+        k = tile_next(
             k, to, path_nos, coords, paths, stored, refs, slots, segments, tags,
-        );
-        let answer = ran.answer;
-        if let Answer::Refused(why, item) = answer {
-            return Answer::Refused(why, item);
-        }
-        k = ran.next;
+        )?;
     }
-    Answer::Done
+    Ok(())
 }
 
 // Refusal 1: whole records, paired slices as long as each other, a range that is one.
@@ -144,10 +134,10 @@ pub fn tile_checked(
     refs: &[u32],
     segments: &mut [f32],
     tags: &mut [u32],
-) -> Answer
+) -> Result<(), Refused>
     requires { paths_answer paths.now (length stored.now) ≡ Done }
     ensures { TileMet from to (lent path_nos.now coords.now paths.now stored.now refs.now)
-        (pieces segments.old tags.old) result (pieces segments.new tags.new) }
+        (pieces segments.old tags.old) (answer_told result) (pieces segments.new tags.new) }
 {
     if !whole(
         from,
@@ -159,7 +149,7 @@ pub fn tile_checked(
         segments.len(),
         tags.len(),
     ) {
-        return Answer::Refused(NOT_WHOLE, 0);
+        return Err(Refusal::NotWhole.at(0));
     }
     tile_range(
         from, to, path_nos, coords, paths, stored, refs, segments, tags,
@@ -167,8 +157,8 @@ pub fn tile_checked(
 }
 
 // A segment for each of the references from `from` up to `to`, and beside it its tag, the beam number
-// of its line's path. It stops before the first refused, with its number. Lines are given by their path numbers and their coordinates, the tiles by what
-// hand-out left in them.
+// of its line's path. It stops before the first refused, with its number. Lines are given by their path
+// numbers and their coordinates, the tiles by what hand-out left in them.
 pub fn tile(
     from: u32,
     to: u32,
@@ -179,9 +169,9 @@ pub fn tile(
     refs: &[u32],
     segments: &mut [f32],
     tags: &mut [u32],
-) -> Answer
+) -> Result<(), Refused>
     ensures { TileMet from to (lent path_nos.now coords.now paths.now stored.now refs.now)
-        (pieces segments.old tags.old) result (pieces segments.new tags.new) }
+        (pieces segments.old tags.old) (answer_told result) (pieces segments.new tags.new) }
 {
     if !whole(
         from,
@@ -193,12 +183,9 @@ pub fn tile(
         segments.len(),
         tags.len(),
     ) {
-        return Answer::Refused(NOT_WHOLE, 0);
+        return Err(Refusal::NotWhole.at(0));
     }
-    let checked = panel::checks::check_paths(paths, stored.len());
-    if let Answer::Refused(why, item) = checked {
-        return Answer::Refused(why, item);
-    }
+    panel::checks::check_paths(paths, stored.len())?;
     tile_checked(
         from, to, path_nos, coords, paths, stored, refs, segments, tags,
     )

@@ -1,10 +1,10 @@
 -- What follows from the theorem on the picture: lines in batches and references in ranges cut anywhere; which call can refuse after a done frame; where a
 -- path's pieces come from, and what a tile without any tells. Assumes nothing.
 use mathlib.Core.Path.{◌≡◌, refl, sym, ap, subst, ◌∙◌}
-use mathlib.Core.Logic.{◌⊎◌, inl, inr}
+use mathlib.Core.Logic.{inl, inr}
 use mathlib.Core.Bool.{Bool, true, false, cond}
-use mathlib.Core.List.{List, [], ◌∷◌, ◌++◌}
-use Prim.Native.Nat.{ℕ, zero, suc, ◌+◌, ◌-◌, ◌*◌, ◌/◌, ◌≤◌, ◌<◌}
+use mathlib.Core.List.{List, [], ◌∷◌}
+use Prim.Native.Nat.{ℕ, ◌*◌, ◌/◌, ◌≤◌, ◌<◌}
 use native.Mathlib.Decide.{dec_lt}
 use native.Mathlib.Omega.{arith}
 use lib.Dec.{eqb}
@@ -13,33 +13,31 @@ use lib.IntN.{ℤ, pos}
 use lib.Ieee.{Float}
 use borrow.Author.Tests.{eqb-true}
 use Rattle.lists.specs.Run.{All, all_append, keep_if}
-use Rattle.lists.specs.Sums.{sum}
 use Rattle.lists.specs.Tally.{zeros}
 use Rattle.lists.specs.Occ.{occ}
-use Rattle.panel.specs.Refusals.{done_no}
 use Rattle.panel.specs.Widths.{line_floats, segment_floats}
 use Rattle.panel.specs.Kinds.{running_of}
 use Rattle.panel.specs.Paths.{path_at, path_count, tile_of}
 use Rattle.panel.specs.Pieces.{Pieces}
 use Rattle.panel.specs.declared.kinds.Running.{Running}
-use Rattle.panel.specs.declared.kinds.Answer.TheVariants as Answer
+use Rattle.panel.specs.Answer as Answer
 use Rattle.panel.specs.declared.segments.Segment.{Segment}
 use Rattle.panel.proofs.KindLaws.{paper_once}
 use Rattle.panel.proofs.PathLaws.{InBox, own_tile, checked}
 use Rattle.acts.specs.Acts.{st_of}
 use Rattle.path_count.specs.Count.{told_of, paper_of}
-use Rattle.path_count.specs.declared.kinds.Counted.TheVariants.{Done}
+use Rattle.path_count.specs.Counted.{Done}
 use Rattle.backdrop.specs.Backdrop as Backdrop
 use Rattle.hand_out.specs.HandOut.{hand, hand_out_of, out_of}
 use Rattle.looks.specs.Look.{lent}
-use Rattle.path_tiling.specs.Tiling.{Tiled, Range, tiled, range_tiled, applied, call_of}
+use Rattle.path_tiling.specs.Tiling.{Tiled, tiled, range_tiled, applied, call_of}
 use Rattle.frame.specs.Frame as Frame
-use Rattle.frame.specs.declared.kinds.Framed.TheVariants as Framed
+use Rattle.frame.specs.Framed as Framed
 use Rattle.commands.specs.Numbers.{tile_words}
 use Rattle.commands.specs.Pixel.{even_odd_of}
-use Rattle.pairs.specs.Pairs.{Tables, tables, colour_at, rule_at, in_box, covers}
+use Rattle.pairs.specs.Pairs.{tables, colour_at, rule_at, in_box, covers}
 use Rattle.lay_pairs.specs.Layout.{written}
-use Rattle.write_lists.specs.Lists.{call_answer, regions_of, lists_of, Left, left, write_lists_of}
+use Rattle.write_lists.specs.Lists.{call_answer, regions_of, lists_of, Left}
 use Rattle.theorems.specs.Batches.{Rising, last_of, in_batches, in_ranges}
 use Rattle.theorems.specs.Drawn.{Drawn, drawn, walk_of, of_path}
 use Rattle.theorems.specs.Refs.{AllCounted, ref_tiles}

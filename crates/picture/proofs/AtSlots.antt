@@ -1,10 +1,9 @@
 -- A pixel's coverage by the segments that stand at slots, as the picture's own fold over a list of pieces. Assumes nothing.
-use mathlib.Core.Path.{◌≡◌, refl, sym, ap, ◌∙◌}
-use mathlib.Core.Bool.{Bool, true, false, cond}
+use mathlib.Core.Path.{◌≡◌, refl, ap, ◌∙◌}
+use mathlib.Core.Bool.{Bool}
 use mathlib.Core.List.{List, [], ◌∷◌}
 use Prim.Native.Nat.{ℕ, zero, suc, ◌+◌, ◌<◌}
 use native.Mathlib.Omega.{arith}
-use lib.Dec.{ltb}
 use borrow.Author.Tests.{lt-ltb}
 use lib.IntN.{ℤ}
 use lib.ListN.{length}
@@ -18,7 +17,6 @@ use Rattle.one_row.specs.Row.{step_segment}
 use Rattle.coverage.specs.Coverage.{area_after, finish_of, sum_of, pixel_of}
 use Rattle.colours.specs.Colour.{colour_of, over_of}
 use Rattle.commands.specs.Pixel.{even_odd_of}
-use Rattle.pairs.specs.Pairs.{covers}
 use Rattle.list_theorems.specs.Painted.{paint_tile}
 use Rattle.picture.specs.Picture.{cover_of, lay_of}
 

@@ -11,40 +11,34 @@ use lib.ListN.{length, get_or}
 use lib.IntN.{ℤ}
 use lib.Ieee.{Float}
 use Rattle.lists.specs.Run.{All}
-use Rattle.lists.specs.Sums.{sum, first, from}
+use Rattle.lists.specs.Sums.{first, from}
 use Rattle.lists.specs.Tally.{zeros, slices, length_slices, slices_are_from}
-use Rattle.panel.specs.Limits.{most_slots}
 use Rattle.panel.specs.Refusals.{no_such, no_room_word}
-use Rattle.panel.specs.Kinds.{slot_no_of}
 use Rattle.panel.specs.Paths.{path_at, path_count, tile_of}
-use Rattle.panel.specs.Slots.{not32, skips, slot_of as word_slot}
+use Rattle.panel.specs.Slots.{skips, slot_of as word_slot}
 use Rattle.panel.specs.Segments.{segment_at}
 use Rattle.panel.specs.declared.kinds.SlotNo.{SlotNo}
-use Rattle.panel.specs.declared.kinds.Answer.TheVariants.{Done, Refused}
+use Rattle.panel.specs.Answer.{Done}
 use Rattle.panel.specs.declared.segments.Segment.{Segment}
 use Rattle.panel.proofs.PathLaws.{InBox, own_tile, checked}
 use Rattle.walk.specs.Step.{step_of}
 use Rattle.walk.specs.Lent.{walk_at}
 use Rattle.walk.specs.declared.kinds.Walk.{Walk}
-use Rattle.walk.specs.declared.kinds.Walked.{Walked}
-use Rattle.walk.specs.declared.kinds.Walked.TheVariants as Found
-use Rattle.walk.specs.declared.step.Step as S
-use Rattle.walk.specs.declared.step.Step.TheVariants as On
+use Rattle.walk.specs.Walked.{Walked}
+use Rattle.walk.specs.Walked as Found
+use Rattle.walk.specs.Stepped as On
 use Rattle.segment.specs.Clips.{piece_of}
-use Rattle.segment.specs.declared.Piece.{Piece}
-use Rattle.segment.specs.declared.Piece.TheVariants.{Kept, Crooked}
+use Rattle.segment.specs.Piece.{Piece, Kept, Crooked}
 use Rattle.hand_out.specs.HandOut.{hand}
-use Rattle.hand_out.proofs.HandLaws.{reads_back}
 use Rattle.looks.specs.Look.{Lent, lent, line_at, packed_at, step_no, slice_no, piece_to, word_to, step_to, found_to, found_of, look_of}
-use Rattle.path_tiling.specs.Tiling.{Write, write_of, Range, look_then_word, range_of}
-use Rattle.looks.specs.declared.Look.{Look}
-use Rattle.looks.specs.declared.Look.TheVariants.{Put, Empty, Against}
+use Rattle.path_tiling.specs.Tiling.{Write, write_of, look_then_word, range_of}
+use Rattle.looks.specs.Looked.{Look, Put, Empty, Against}
 use Rattle.theorems.specs.Drawn.{drawn}
-use Rattle.theorems.specs.Events.{Event, events_of, tiles_ev, slice_of, slot_of}
+use Rattle.theorems.specs.Events.{Event, tiles_ev, slot_of}
 use Rattle.theorems.specs.Refs.{AllCounted}
 use Rattle.theorems.proofs.Counting.{length_tiles}
 use Rattle.theorems.proofs.StrayLaws.{PutAt, look_put}
-use Rattle.theorems.proofs.SumLaws.{sums, passed, events, whole, Whole, ref_line, ref_step, event_tile, event_at}
+use Rattle.theorems.proofs.SumLaws.{passed, events, whole, Whole, ref_line, ref_step, event_tile, event_at}
 use Rattle.picture.specs.Picture.{kept_in, pieces_of}
 use Rattle.picture.proofs.AtSlots.{read_from}
 use Rattle.picture.proofs.Gather.{gather, stands, slots_gathered}
@@ -65,7 +59,7 @@ word_kept slots word slice p slot s e = go (skips word) (ltb slots (word_slot wo
     go false false (Kept r) h = let z : r ≡ s = cc in rw z
     go false false Crooked h = no_put _ slot s h
 
-step_kept : (stored : List ℕ) (slots : ℕ) (w : Walk) (i slice : ℕ) (slot : SlotNo) (s : Segment) (f : S.Step) → step_to stored slots w i slice f ≡ Put slot s
+step_kept : (stored : List ℕ) (slots : ℕ) (w : Walk) (i slice : ℕ) (slot : SlotNo) (s : Segment) (f : On.Step) → step_to stored slots w i slice f ≡ Put slot s
     → step_kept_word w i f ≡ s ∷ []
 unfolding step_to
 step_kept stored slots w i slice slot s (On.Tile t x y z) e = word_kept slots (get_or stored t.0 0) slice (piece_of w i z x y) slot s e

@@ -3,14 +3,14 @@
 use mathlib.Core.Path.{◌≡◌, refl, sym, ap, subst, ◌∙◌}
 use mathlib.Core.Bool.{Bool, true, false, cond, ◌&&◌, ◌||◌}
 use mathlib.Core.List.{List, [], ◌∷◌}
-use Prim.Native.Nat.{ℕ, zero, suc, ◌+◌, ◌-◌, ◌*◌, ◌/◌, ◌%◌, ◌≤◌, ◌<◌}
+use Prim.Native.Nat.{ℕ, zero, suc, ◌+◌, ◌-◌, ◌/◌, ◌%◌, ◌≤◌, ◌<◌}
 use native.Mathlib.Omega.{arith}
 use lib.Dec.{leb, ltb, eqb}
 use lib.ListN.{length, get_or}
-use lib.IntN.{ℤ, pos, ◌+ℤ◌}
+use lib.IntN.{ℤ, pos}
 use lib.Ieee.{Float}
 use borrow.Author.Tests.{eqb-true}
-use Rattle.lists.specs.Run.{All, act_all, sift, keep_if}
+use Rattle.lists.specs.Run.{All, act_all, keep_if}
 use Rattle.lists.specs.Sums.{sum, first, from}
 use Rattle.panel.specs.Limits.{most_slots}
 use Rattle.panel.specs.Refusals.{not_whole, no_such, coordinate}
@@ -21,40 +21,33 @@ use Rattle.panel.specs.Pieces.{Pieces}
 use Rattle.panel.specs.Slots.{not32}
 use Rattle.panel.specs.Segments.{segment_at}
 use Rattle.panel.specs.declared.kinds.Path.{Path}
-use Rattle.panel.specs.declared.kinds.Running.{Running}
-use Rattle.panel.specs.declared.kinds.Answer.{Answer}
-use Rattle.panel.specs.declared.kinds.Answer.TheVariants.{Done, Refused}
+use Rattle.panel.specs.Answer.{Answer, Done, Refused}
 use Rattle.panel.proofs.BoolLaws.{both}
 use Rattle.panel.proofs.PathLaws.{InBox, own_tile, checked}
 use Rattle.backdrop.specs.Backdrop as Backdrop
 use Rattle.backdrop.specs.Backdrop.{backdrop_at}
-use Rattle.backdrop.proofs.CellLaws.{row_start, sum_of, row_held, backdrop_cell}
-use Rattle.hand_out.specs.HandOut.{hand, hand_out_of, out_of}
+use Rattle.backdrop.proofs.CellLaws.{row_held, backdrop_cell}
+use Rattle.hand_out.specs.HandOut.{hand}
 use Rattle.hand_out.proofs.HandLaws.{reads_back}
 use Rattle.walk.specs.Lent.{reached_of, walked_of}
 use Rattle.walk.specs.Skip.{flat_of, past_of}
 use Rattle.walk.specs.Setup.{ends_of}
 use Rattle.walk.specs.Page.{line_of}
 use Rattle.walk.specs.declared.kinds.Walk.{Walk}
-use Rattle.walk.specs.declared.kinds.Walked as W
-use Rattle.walk.specs.declared.kinds.Walked.TheVariants as Found
+use Rattle.walk.specs.Walked as Found
 use Rattle.looks.specs.Look.{Lent, lent}
-use Rattle.path_tiling.specs.Tiling.{Range, range, applied, slots_of, range_of, whole_of, checks_of, checked_then, call_of}
-use Rattle.frame.specs.Frame as Frame
-use Rattle.frame.specs.declared.kinds.Framed.TheVariants as Framed
+use Rattle.path_tiling.specs.Tiling.{Range, applied, slots_of, range_of, whole_of, checks_of, checked_then, call_of}
 use Rattle.screen_tile.specs.Tile.{clear}
-use Rattle.fine.specs.Fine.{shown, fine_of}
 use Rattle.pairs.specs.Pairs.{Tables, tables, in_box}
-use Rattle.theorems.specs.Drawn.{Drawn, drawn, walk_of, is_of, of_path, marks_of, InPath}
+use Rattle.theorems.specs.Drawn.{Drawn, drawn, walk_of, of_path}
 use Rattle.theorems.specs.Refs.{AllCounted}
 use Rattle.theorems.specs.Stray.{NoStray}
 use Rattle.theorems.proofs.SumLaws.{sums, passed, whole}
-use Rattle.theorems.proofs.StrayLaws.{handed_is, no_stray}
 use Rattle.theorems.proofs.Isolation.{seen_back}
-use Rattle.theorems.proofs.Framing.{frame_done, counts_long}
+use Rattle.theorems.proofs.Framing.{counts_long}
 use Rattle.pairs.proofs.PairLaws.{box_in}
-use Rattle.list_theorems.specs.Painted.{paint_tile, paint_path, painted, screen_of}
-use Rattle.picture.specs.Picture.{pieces_of, winding_of, line_winding, lay_of, path_over, pixel_of, picture_of}
+use Rattle.list_theorems.specs.Painted.{paint_tile, paint_path, painted}
+use Rattle.picture.specs.Picture.{pieces_of, winding_of, lay_of, path_over, pixel_of}
 use Rattle.picture.proofs.AtSlots.{read_from, tile_laid}
 use Rattle.picture.proofs.AtTile.{pieces_read}
 use Rattle.picture.proofs.Windings.{row_sum}

@@ -1,9 +1,9 @@
 -- The premises can be met: a frame of one line, its lists and fine, computed. And statements near the theorems' that are false, each refuted by an instance: that
 -- lines of one path may change places; and that a tile's pixels are told by the lines of paths whose boxes don't have it. Assumes nothing.
 use mathlib.Core.Path.{◌≡◌, refl, sym, ap, ◌∙◌}
-use mathlib.Core.Bool.{Bool, true, false, true≢false}
+use mathlib.Core.Bool.{true, false, true≢false}
 use mathlib.Core.List.{List, [], ◌∷◌, ◌++◌, map}
-use Prim.Native.Nat.{ℕ, ◌+◌, ◌*◌, ◌<◌}
+use Prim.Native.Nat.{ℕ, ◌*◌, ◌<◌}
 use native.Mathlib.Omega.{arith}
 use lib.IntN.{ℤ, pos, negsuc}
 use lib.ListN.{get_or, replicate}
@@ -13,10 +13,9 @@ use Rattle.panel.specs.Widths.{segment_floats}
 use Rattle.panel.specs.Paths.{boxed, stamped, path_at, path_count}
 use Rattle.panel.specs.Pieces.{Pieces, pieces}
 use Rattle.panel.specs.Kinds.{running_of}
-use Rattle.util.specs.declared.Vec2.{Vec2}
 use Rattle.one_row.specs.Row.{way_of, row_of, reach_of, added_of, slanted, edged, step_row, step_way, step_segment}
 use Rattle.frame.specs.Frame.{out_of, placed_of, drawn_of, checks_of as frame_checks, frame_of}
-use Rattle.frame.specs.declared.kinds.Framed.TheVariants.{Done}
+use Rattle.frame.specs.Framed.{Done}
 use Rattle.backdrop.specs.Backdrop.{row_sums, row_fits, rows_sums, rows_fit, sum_paths, backdrop_of}
 use Rattle.commands.specs.Numbers.{tile_words}
 use Rattle.pairs.specs.Pairs.{Tables, tables, in_box, on_tile, on_path, tile_pairs}

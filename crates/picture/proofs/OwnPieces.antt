@@ -4,36 +4,32 @@ use mathlib.Core.Path.{◌≡◌, refl, sym, ap, subst, ◌∙◌}
 use mathlib.Core.Logic.{◌≢◌}
 use mathlib.Core.Bool.{Bool, true, false, cond, ◌&&◌}
 use mathlib.Core.List.{List, [], ◌∷◌, ◌++◌, map, append_assoc, append-nil}
-use Prim.Native.Nat.{ℕ, zero, suc, ◌+◌, ◌-◌, ◌≤◌, ◌<◌}
+use Prim.Native.Nat.{ℕ, zero, suc, ◌-◌, ◌≤◌, ◌<◌}
 use native.Mathlib.Decide.{ℕ_discrete}
-use native.Mathlib.Omega.{arith}
 use lib.Dec.{eqb}
-use lib.ListN.{length, get_or}
+use lib.ListN.{get_or}
 use lib.Ieee.{Float}
 use borrow.Author.Tests.{eq-eqb, ne_eqb}
 use Rattle.lists.specs.Sums.{from}
 use Rattle.panel.specs.Paths.{path_at, path_count, end_of, tile_of, paths_answer}
 use Rattle.panel.specs.declared.kinds.Path.{Path}
-use Rattle.panel.specs.declared.kinds.Answer.TheVariants as Answer
+use Rattle.panel.specs.Answer as Answer
 use Rattle.panel.specs.declared.segments.Segment.{Segment}
 use Rattle.panel.proofs.PathLaws.{InBox, own_tile, tile_once, checked, one_path}
 use Rattle.walk.specs.Step.{step_of, last_z_word, cross_of}
 use Rattle.walk.specs.Lent.{walk_at}
 use Rattle.walk.specs.declared.kinds.Walk.{Walk}
-use Rattle.walk.specs.declared.kinds.Walked.{Walked}
-use Rattle.walk.specs.declared.kinds.Walked.TheVariants.{Refused, Skipped, Line}
-use Rattle.walk.specs.declared.step.Step as S
-use Rattle.walk.specs.declared.step.Step.TheVariants as On
+use Rattle.walk.specs.Walked.{Walked, Refused, Skipped, Line}
+use Rattle.walk.specs.Stepped as On
 use Rattle.walk.proofs.Tiles.{step_told, number_is, tile_in_lem}
 use Rattle.walk.proofs.Walks.{line_told}
 use Rattle.clip.specs.Page.{clipped_of}
 use Rattle.segment.specs.Clips.{piece_of}
-use Rattle.acts.specs.Acts.{Act, mark, visit, stop, Hit, on, off, row_acts, cross_acts, step_acts, steps_acts}
-use Rattle.acts.specs.Rows.{rows_acts}
+use Rattle.acts.specs.Acts.{Act, mark, visit, stop, on, row_acts, cross_acts, step_acts, steps_acts}
 use Rattle.acts.specs.Line.{plan_acts}
 use Rattle.hits.specs.Steps.{hit_of, hit_at}
 use Rattle.walked_lines.specs.Line.{plan_of}
-use Rattle.theorems.specs.Drawn.{Drawn, drawn_at, drawn, walk_of, acts_by, is_of, of_path}
+use Rattle.theorems.specs.Drawn.{Drawn, drawn_at, drawn, walk_of, acts_by, of_path}
 use Rattle.theorems.specs.Events.{Event, events_in, events_at, events_of}
 use Rattle.theorems.proofs.Acts.{walk_is}
 use Rattle.picture.specs.Picture.{kept_in, step_piece, step_pieces, line_pieces, all_pieces, pieces_of}
@@ -41,7 +37,7 @@ use Rattle.picture.proofs.Gather.{gather}
 
 -- ---- a reference's piece, by its line's walk and its step
 
-abbrev pub step_kept_word : Walk → ℕ → S.Step → List Segment
+abbrev pub step_kept_word : Walk → ℕ → On.Step → List Segment
 step_kept_word w i (On.Tile t x y z) = kept_in (piece_of w i z x y)
 step_kept_word w i On.Refused = []
 
@@ -92,7 +88,7 @@ same_tile_lem b u v x y h k = go (ℕ_discrete u x) (ℕ_discrete v y)
 
 module _ (w : Walk) (b : Path) (l t : ℕ) (piece : Event → List Segment)
     (is : (u i : ℕ) → piece (record { line = l; tile = u; step = i }) ≡ step_kept_word w i (step_of w.pace b i)) where
-  abbrev events_step : S.Step → ℕ → List Event
+  abbrev events_step : On.Step → ℕ → List Event
   events_step s i = events_in l (step_acts (hit_of w.pace b i s) i)
 
   one_event : (i : ℕ) (u : ℕ) (c : Bool) → gather piece t (events_in l (step_acts (on u c) i)) ≡ cond (eqb u t) (step_kept_word w i (step_of w.pace b i)) []
@@ -102,7 +98,7 @@ module _ (w : Walk) (b : Path) (l t : ℕ) (piece : Event → List Segment)
 
   -- over the box that has the tile in column x and row y
   module _ (x y : ℕ) (in_box_lem : InBox b x y) (at : t ≡ tile_of b x y) where
-    step_own : (i : ℕ) (s : S.Step) → step_of w.pace b i ≡ s → gather piece t (events_step s i) ≡ step_piece w i x y s
+    step_own : (i : ℕ) (s : On.Step) → step_of w.pace b i ≡ s → gather piece t (events_step s i) ≡ step_piece w i x y s
     step_own i (On.Tile u c r z) e =
         let m = (step_told w.pace b i u c r z e).within in
         let box : InBox b c r = record { left = m.col_least; right = m.col_most; top = m.row_least; bottom = m.row_most } in
@@ -122,7 +118,7 @@ module _ (w : Walk) (b : Path) (l t : ℕ) (piece : Event → List Segment)
 
   -- over another path's box
   module _ (elsewhere : (u : ℕ) → b.first ≤ u → u < end_of b → u ≢ t) where
-    step_none : (i : ℕ) (s : S.Step) → step_of w.pace b i ≡ s → gather piece t (events_step s i) ≡ []
+    step_none : (i : ℕ) (s : On.Step) → step_of w.pace b i ≡ s → gather piece t (events_step s i) ≡ []
     step_none i (On.Tile u c r z) e =
         let m = tile_in_lem w.pace b i u c r z e in
         one_event i u.0 (cross_of w.pace.on_top b.x1 i (last_z_word w.pace i) c z)

@@ -2,41 +2,39 @@
 -- lines. And what follows for a tile whose paths' lines are the same. Assumes nothing.
 use mathlib.Core.Path.{◌≡◌, refl, sym, ap, subst, ◌∙◌}
 use mathlib.Core.Bool.{Bool, true, false, cond}
-use mathlib.Core.List.{List, [], ◌∷◌}
-use Prim.Native.Nat.{ℕ, ◌+◌, ◌*◌, ◌/◌, ◌%◌, ◌≤◌, ◌<◌, min}
+use mathlib.Core.List.{List}
+use Prim.Native.Nat.{ℕ, ◌/◌, ◌≤◌, ◌<◌}
 use native.Mathlib.Omega.{arith}
-use lib.ListN.{length, get_or}
+use lib.ListN.{length}
 use lib.IntN.{ℤ, pos, ◌+ℤ◌}
 use lib.Ieee.{Float}
 use Rattle.lists.specs.Run.{act_all}
-use Rattle.lists.specs.Sums.{sum, from}
+use Rattle.lists.specs.Sums.{sum}
 use Rattle.panel.specs.Widths.{segment_floats}
 use Rattle.panel.specs.Limits.{most_slots, most_tiles}
 use Rattle.panel.specs.Paths.{path_at, path_count}
 use Rattle.panel.specs.Paints.{colour_at, rule_at}
 use Rattle.panel.specs.Pieces.{Pieces}
 use Rattle.panel.specs.declared.kinds.Running.{Running}
-use Rattle.panel.specs.declared.kinds.Answer.TheVariants.{Done}
-use Rattle.panel.specs.declared.segments.Segment.{Segment}
+use Rattle.panel.specs.Answer.{Done}
 use Rattle.panel.proofs.PathLaws.{checked}
 use Rattle.backdrop.specs.Backdrop as Backdrop
 use Rattle.hand_out.specs.HandOut.{hand, hand_out_of, out_of}
 use Rattle.looks.specs.Look.{lent}
-use Rattle.path_tiling.specs.Tiling.{Range, range, applied, slots_of, call_of}
+use Rattle.path_tiling.specs.Tiling.{Range, applied, call_of}
 use Rattle.frame.specs.Frame as Frame
-use Rattle.frame.specs.declared.kinds.Framed.TheVariants as Framed
+use Rattle.frame.specs.Framed as Framed
 use Rattle.screen_tile.specs.Tile.{clear}
-use Rattle.fine.specs.Fine.{shown, fine_of}
-use Rattle.pairs.specs.Pairs.{Tables, tables, in_box}
+use Rattle.fine.specs.Fine.{shown}
+use Rattle.pairs.specs.Pairs.{tables, in_box}
 use Rattle.theorems.specs.Drawn.{Drawn, drawn, walk_of, of_path}
 use Rattle.theorems.specs.Refs.{AllCounted}
-use Rattle.theorems.specs.Stray.{NoStray}
 use Rattle.theorems.proofs.Exact.{HandCase, unpaired, many, over, fine, hand_case}
-use Rattle.theorems.proofs.SumLaws.{passed, sums}
+use Rattle.theorems.proofs.SumLaws.{passed}
 use Rattle.theorems.proofs.StrayLaws.{handed_is, no_stray}
 use Rattle.theorems.proofs.Framing.{frame_done, counts_long}
-use Rattle.list_theorems.specs.Painted.{painted, screen_of}
-use Rattle.list_theorems.specs.Written.{Wrote, AllI32, Holds}
+use Rattle.list_theorems.specs.Painted.{screen_of}
+use Rattle.list_theorems.specs.Written.{Wrote, AllI32}
 use Rattle.call_theorems.proofs.Drawn.{drawn_like_painted}
 use Rattle.picture.specs.Picture.{all_pieces, pieces_of, line_winding, winding_of, lay_of, path_over, pixel_of, picture_of}
 use Rattle.picture.specs.Shown.{Shows}

@@ -1,7 +1,6 @@
 -- A tile's summed backdrop is its path's winding there: what the marks of the path's own lines add up to in its row, from the box's first column to the
 -- tile's. Assumes nothing.
 use mathlib.Core.Path.{◌≡◌, refl, sym, ap, subst, ◌∙◌}
-use mathlib.Core.Logic.{◌≢◌}
 use mathlib.Core.Bool.{Bool, true, false, not, cond, ◌&&◌}
 use mathlib.Core.List.{List, [], ◌∷◌, ◌++◌}
 use Prim.Native.Nat.{ℕ, zero, suc, ◌+◌, ◌-◌, ◌*◌, ◌≤◌, ◌<◌}
@@ -9,13 +8,12 @@ use native.Mathlib.Decide.{ℕ_discrete, dec_lt, dec_le}
 use native.Mathlib.Nat.{zero-add, add-zero}
 use native.Mathlib.Omega.{arith}
 use lib.Dec.{eqb, leb, ltb}
-use lib.ListN.{length, get_or}
-use lib.IntN.{ℤ, pos, negsuc, neg_ℤ, ◌+ℤ◌, +ℤ_idl, +ℤ_idr, +ℤ_assoc, +ℤ_comm, pos-+ℤ-pos, neg_ℤ-+ℤ}
-use lib.Ieee.{Float, eq}
-use borrow.Author.Tests.{le-leb, lt-leb, leb-true, lt-ltb, le-ltb, ltb-true, eq-eqb, ne_eqb}
+use lib.IntN.{ℤ, pos, neg_ℤ, ◌+ℤ◌, +ℤ_idl, +ℤ_idr, +ℤ_assoc, +ℤ_comm, pos-+ℤ-pos, neg_ℤ-+ℤ}
+use lib.Ieee.{eq}
+use borrow.Author.Tests.{le-leb, lt-leb, lt-ltb, le-ltb, ltb-true, eq-eqb, ne_eqb}
 use Rattle.lists.specs.Run.{All, act_all}
 use Rattle.lists.specs.Occ.{bit, is, occ, is_same, is_other}
-use Rattle.panel.specs.Paths.{path_at, path_count, end_of, tile_of, width_of, height_of}
+use Rattle.panel.specs.Paths.{width_of}
 use Rattle.panel.specs.declared.kinds.Path.{Path}
 use Rattle.panel.proofs.BoolLaws.{both}
 use Rattle.panel.proofs.PathLaws.{InBox, cell_once}
@@ -24,14 +22,12 @@ use Rattle.backdrop.proofs.CellLaws.{sum_of, row_start}
 use Rattle.walk.specs.Step.{step_of, last_z_word, cross_of}
 use Rattle.walk.specs.declared.kinds.Pace.{Pace}
 use Rattle.walk.specs.declared.kinds.Walk.{Walk}
-use Rattle.walk.specs.declared.kinds.Walked.{Walked}
-use Rattle.walk.specs.declared.kinds.Walked.TheVariants.{Refused, Skipped, Line}
-use Rattle.walk.specs.declared.step.Step as S
-use Rattle.walk.specs.declared.step.Step.TheVariants as On
+use Rattle.walk.specs.Walked.{Walked, Refused, Skipped, Line}
+use Rattle.walk.specs.Stepped as On
 use Rattle.walk.proofs.Tiles.{step_told, number_is}
 use Rattle.clip.specs.Page.{clipped_of}
 use Rattle.clip.proofs.Laws.{clip_left}
-use Rattle.acts.specs.Acts.{Act, mark, visit, stop, Hit, on, off, row_acts, cross_acts, step_acts, steps_acts, delta_of}
+use Rattle.acts.specs.Acts.{Act, mark, visit, stop, row_acts, cross_acts, step_acts, steps_acts, delta_of}
 use Rattle.acts.specs.Line.{plan_acts}
 use Rattle.acts.proofs.Once as Once
 use Rattle.hits.specs.Steps.{hit_of, hit_at}
@@ -230,7 +226,7 @@ module _ (b : Path) (x y : ℕ) (in_box_lem : InBox b x y) where
           same (no f) = let a : suc r ≤ y = omega (arith, e) in let z : r ≤ y = omega arith in rw (le-leb (suc r) y a, le-leb r y z, more)
 
   -- a step's mark
-  step_marked : (p : Pace) (i : ℕ) (s : S.Step) → step_of p b i ≡ s
+  step_marked : (p : Pace) (i : ℕ) (s : On.Step) → step_of p b i ≡ s
       → range_occ (row_start b y) (suc (x - b.x0)) (Once.marks_of (step_acts (hit_of p b i s) i)) ≡ step_mark p b i x y s
   step_marked p i (On.Tile t c r z) e = go (cross_of p.on_top b.x1 i (last_z_word p i) c z) refl
     where

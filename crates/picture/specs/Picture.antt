@@ -15,14 +15,12 @@ use Rattle.panel.specs.declared.segments.Segment.{Segment}
 use Rattle.walk.specs.Step.{step_of, cross_in}
 use Rattle.walk.specs.declared.kinds.Pace.{Pace}
 use Rattle.walk.specs.declared.kinds.Walk.{Walk}
-use Rattle.walk.specs.declared.kinds.Walked.{Walked}
-use Rattle.walk.specs.declared.kinds.Walked.TheVariants.{Refused, Skipped, Line}
-use Rattle.walk.specs.declared.step.Step.{Step}
-use Rattle.walk.specs.declared.step.Step.TheVariants as On
+use Rattle.walk.specs.Walked.{Walked, Refused, Skipped, Line}
+use Rattle.walk.specs.Stepped.{Step}
+use Rattle.walk.specs.Stepped as On
 use Rattle.clip.specs.Page.{clipped_of}
 use Rattle.segment.specs.Clips.{piece_of}
-use Rattle.segment.specs.declared.Piece.{Piece}
-use Rattle.segment.specs.declared.Piece.TheVariants.{Kept, Crooked}
+use Rattle.segment.specs.Piece.{Piece, Kept, Crooked}
 use Rattle.one_row.specs.Row.{step_segment}
 use Rattle.coverage.specs.Coverage.{finish_of}
 use Rattle.colours.specs.Colour.{colour_of, over_of}

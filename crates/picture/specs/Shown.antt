@@ -1,6 +1,6 @@
 -- What the theorem on the picture speaks of: calls that are done, one after another, from lines to pixels. Definitions only.
 use Rattle.std.specs.Prelude.{◌≡◌, List, ℕ, ◌*◌, Float}
-use Rattle.panel.specs.declared.kinds.Answer.TheVariants.{Done}
+use Rattle.panel.specs.Answer.{Done}
 use Rattle.fine.specs.Fine.{shown, fine_of}
 use Rattle.theorems.specs.Drawn.{Drawn}
 use Rattle.list_theorems.specs.Written.{Holds}

@@ -4,7 +4,6 @@ use mathlib.Core.Bool.{Bool, true, false, cond, ◌&&◌}
 use mathlib.Core.List.{List}
 use Prim.Native.Nat.{ℕ, zero, suc, ◌+◌, ◌-◌, ◌*◌, ◌/◌, ◌%◌, ◌<◌, ◌≤◌}
 use native.Mathlib.Nat.{div-add-mod}
-use native.Mathlib.Decide.{dec_lt}
 use native.Mathlib.Omega.{arith}
 use lib.Dec.{eqb}
 use lib.IntN.{ℤ}
@@ -14,17 +13,16 @@ use borrow.Author.Tests.{lt-ltb, leb-true, eq-eqb, ne_eqb, eqb-true}
 use Rattle.lists.specs.Run.{Ran, done, refused}
 use Rattle.panel.specs.Checks.{first_no, unless}
 use Rattle.panel.specs.Kinds.{paper_of}
-use Rattle.panel.specs.Widths.{segment_floats}
 use Rattle.panel.proofs.CheckLaws.{all_ok, none_fails}
-use Rattle.panel.specs.declared.kinds.Answer.TheVariants.{Done}
-use Rattle.panel.specs.declared.kinds.Verdict.{Verdict}
-use Rattle.panel.specs.declared.kinds.Verdict.TheVariants.{Fine, Against}
+use Rattle.panel.specs.Answer.{Done}
+use Rattle.panel.specs.Verdict.{Verdict}
+use Rattle.panel.specs.Verdict.{Fine, Against}
 use Rattle.sides.specs.Tile.{tile_width, tile_height, tile_size}
 use Rattle.coverage.specs.Coverage.{pixel_of, coverage_of}
 use Rattle.coverage.specs.Fill.{fill_checks, fill_of, if_fine as or_old}
 use Rattle.coverage.proofs.Bounds.{cover_at}
 use Rattle.colours.specs.Colour.{pack_of}
-use Rattle.screen_rows.specs.Rows.{in_tile, place_of, row_at, put_tile, packed}
+use Rattle.screen_rows.specs.Rows.{in_tile, place_of, put_tile, packed}
 use Rattle.screen_tile.specs.Tile.{ends_at, colour_at, if_fine, tile_pixels}
 use Rattle.fine.specs.Fine.{fine_checks, Shown, No, tiles_of, shown_of, unless_no as screen_unless, fine_of}
 use Rattle.screen_rows.proofs.Places.{inside, place_in_row, row_room}
@@ -34,7 +32,7 @@ use Rattle.pixel.specs.Place.{place_at, place_checks}
 use Rattle.pixel.specs.Answers.{Paper, answered, refused_by, unless_no}
 use Rattle.pixel.specs.Coverage.{coverage_at_of}
 use Rattle.pixel.specs.Colour.{whole_checks, under_list, colour_at_of}
-use Rattle.pixel.specs.Like.{by_answer, filled_at, screen_place, by_tile, shown_at, CameTo}
+use Rattle.pixel.specs.Like.{by_answer, filled_at, screen_place, shown_at, CameTo}
 use Rattle.pixel.proofs.Places.{place_below}
 
 placed : (column row : ℕ) → column < tile_width → row < tile_height → first_no (place_checks column row) ≡ Fine

@@ -9,10 +9,10 @@ use lib.Ieee.{Float}
 use Rattle.pixel.specs.Answers.{Paper, coverage_paper, colour_paper}
 use Rattle.pixel.specs.Coverage.{CoverageAtMet}
 use Rattle.pixel.specs.Colour.{ColourAtMet}
-use Rattle.pixel.specs.declared.kinds.Covered.{Covered}
-use Rattle.pixel.specs.declared.kinds.Covered.TheVariants as Covered'
-use Rattle.pixel.specs.declared.kinds.Coloured.{Coloured}
-use Rattle.pixel.specs.declared.kinds.Coloured.TheVariants as Coloured'
+use Rattle.pixel.specs.Covered.{Covered}
+use Rattle.pixel.specs.Covered as Covered'
+use Rattle.pixel.specs.Coloured.{Coloured}
+use Rattle.pixel.specs.Coloured as Coloured'
 
 covered_once : (a b : Covered) → coverage_paper a ≡ coverage_paper b → a ≡ b
 covered_once (Covered'.Done x) (Covered'.Done y) e = let f : x ∷ [] ≡ y ∷ [] = ap (λ (p : Paper Float). p.value) e in cc

@@ -6,7 +6,7 @@ use borrow.Author.Tests.{ltb-true}
 use Rattle.sides.specs.Tile.{tile_width, tile_height, tile_size}
 use Rattle.panel.specs.Checks.{first_no}
 use Rattle.panel.proofs.CheckLaws.{all_ok}
-use Rattle.panel.specs.declared.kinds.Verdict.TheVariants.{Fine}
+use Rattle.panel.specs.Verdict.{Fine}
 use Rattle.pixel.specs.Place.{place_at, place_checks}
 
 pub row_again : (column row : ℕ) → column < tile_width → row ≡ place_at column row / tile_width

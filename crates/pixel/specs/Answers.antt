@@ -1,12 +1,12 @@
 -- What the answers are on paper: the number, and after it the coverage or the packed pixel, where it is done. Definitions only.
 use Rattle.std.specs.Prelude.{List, [], ◌∷◌, ℕ, Float}
 use Rattle.panel.specs.Refusals.{done_no}
-use Rattle.panel.specs.declared.kinds.Verdict.{Verdict}
-use Rattle.panel.specs.declared.kinds.Verdict.TheVariants.{Fine, Against}
-use Rattle.pixel.specs.declared.kinds.Covered.{Covered}
-use Rattle.pixel.specs.declared.kinds.Covered.TheVariants as Covered'
-use Rattle.pixel.specs.declared.kinds.Coloured.{Coloured}
-use Rattle.pixel.specs.declared.kinds.Coloured.TheVariants as Coloured'
+use Rattle.panel.specs.Verdict.{Verdict}
+use Rattle.panel.specs.Verdict.{Fine, Against}
+use Rattle.pixel.specs.Covered.{Covered}
+use Rattle.pixel.specs.Covered as Covered'
+use Rattle.pixel.specs.Coloured.{Coloured}
+use Rattle.pixel.specs.Coloured as Coloured'
 
 pub record Paper (A : Type 0) : Type 0 where
   pub number : ℕ

@@ -8,7 +8,7 @@ use Rattle.colours.specs.Colour.{pack_of}
 use Rattle.screen_tile.specs.Tile.{ends_at, colour_at}
 use Rattle.pixel.specs.Place.{place_at, place_checks}
 use Rattle.pixel.specs.Answers.{Paper, answered, colour_paper, unless_no}
-use Rattle.pixel.specs.declared.kinds.Coloured.{Coloured}
+use Rattle.pixel.specs.Coloured.{Coloured}
 
 -- of so many floats of segments
 abbrev pub whole_checks : ℕ → List Check

@@ -7,7 +7,7 @@ use Rattle.coverage.specs.Coverage.{pixel_of}
 use Rattle.coverage.specs.Fill.{fill_checks}
 use Rattle.pixel.specs.Place.{place_at, place_checks}
 use Rattle.pixel.specs.Answers.{Paper, answered, coverage_paper, unless_no}
-use Rattle.pixel.specs.declared.kinds.Covered.{Covered}
+use Rattle.pixel.specs.Covered.{Covered}
 
 unfoldable pub coverage_at_of : List Float → ℕ → ℕ → Bool → ℤ → Float → Float → ℕ → ℕ → Paper Float
 coverage_at_of segments first n even_odd backdrop x_tile y_tile column row =

@@ -1,6 +1,5 @@
--- A pixel's area and colour as code holds them between two commands, beside the area and the list of four floats of `commands`. Definitions only.
-use Rattle.std.specs.Prelude.{List, [], ◌∷◌, ℕ, get_or, Float}
-use Rattle.std.specs.Float.{nan}
+-- A pixel's area and colour as code holds them between two commands, beside the area and the colour of `commands`. Definitions only.
+use Rattle.std.specs.Prelude.{List, ℕ, replicate, Float}
 use Rattle.util.specs.Constants.{zero}
 use Rattle.colours.specs.Colour.{colour_of, over_of}
 use Rattle.commands.specs.Pixel.{Point, point, cover}
@@ -9,20 +8,20 @@ use Rattle.commands.specs.declared.steps.Act.TheVariants.{Fill, Solid, Color, Ju
 use Rattle.pixel.specs.declared.kinds.Held.{Held}
 
 abbrev pub colours_of : Held → List Float
-colours_of p = p.red ∷ p.green ∷ p.blue ∷ p.alpha ∷ []
+colours_of p = p.px
 
 abbrev pub point_in : Held → Point
 point_in p = point p.area (colours_of p)
 
 -- no area and no colour
 abbrev pub nothing_held : Held
-nothing_held = record { area = zero; red = zero; green = zero; blue = zero; alpha = zero }
+nothing_held = record { area = zero; px = replicate 4 zero }
 
 abbrev pub covered_by : Held → Float → Held
-covered_by p a = record { area = a; red = p.red; green = p.green; blue = p.blue; alpha = p.alpha }
+covered_by p a = record { area = a; px = p.px }
 
 abbrev pub coloured_by : Held → List Float → Held
-coloured_by p c = record { area = p.area; red = get_or c 0 nan; green = get_or c 1 nan; blue = get_or c 2 nan; alpha = get_or c 3 nan }
+coloured_by p c = record { area = p.area; px = c }
 
 -- a COLOR command's colour over it, by its area
 unfoldable pub laid_on : ℕ → Held → Held

@@ -13,3 +13,5 @@ pub mod Held
 pub mod Colour
 pub mod Shares
 pub mod Like
+pub mod Covered
+pub mod Coloured

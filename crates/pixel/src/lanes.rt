@@ -45,15 +45,13 @@ fn four(segments: &[f32], k: usize, xt: f32, yt: f32, column: usize, row: usize,
     requires { (segment_floats * (k + lanes) ≤ length segments.now) × (column < tile_width) × (row < tile_height) }
     ensures { result ≡ area_after segments.now k xt yt lanes (place_at column row) a }
 {
-    let mut shares = [0.0f32; 4];
-    let mut tests = [0.0f32; 4];
-    let mut i = 0usize;
-    while i < LANES {
+    let mut shares = [0.0f32; LANES];
+    let mut tests = [0.0f32; LANES];
+    for i in 0..LANES {
         let w = way_of(segment_at(segments, k + i), xt);
         let r = row_of(w, yt, row);
         shares[i] = share(w, r, column);
         tests[i] = counts(r);
-        i += 1;
     }
     let b = shared(a, shares[0], tests[0]);
     let c = shared(b, shares[1], tests[1]);
@@ -76,10 +74,8 @@ pub fn fours_after(
     ensures { result ≡ area_after segments.now first xt yt (m * lanes) (place_at column row) start }
 {
     let mut a = start;
-    let mut j = 0usize;
-    while j < m {
+    for j in 0..m {
         a = four(segments, first + j * LANES, xt, yt, column, row, a);
-        j += 1;
     }
     a
 }

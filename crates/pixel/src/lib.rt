@@ -10,30 +10,31 @@ pub mod sums;
 
 ghost use Rattle.std.specs.Prelude.{◌≡◌};
 ghost use Rattle.panel.specs.Checks.{first_no};
+ghost use Rattle.panel.specs.Verdict.{verdict_told};
 ghost use Rattle.pixel.specs.Place.{place_checks};
+ghost use Rattle.pixel.specs.Covered.{covered_told};
+ghost use Rattle.pixel.specs.Coloured.{coloured_told};
 ghost use Rattle.pixel.specs.Coverage.{CoverageAtMet};
 ghost use Rattle.pixel.specs.Colour.{ColourAtMet};
 
 use coverage::check_fill;
-use kinds::{Coloured, Covered};
-use panel::kinds::Verdict;
-use panel::refusals::{NOT_WHOLE, OFF_TILE};
+use panel::refusals::Refusal;
 use panel::widths::SEGMENT_FLOATS;
 use run::colour_of;
 use sides::{TILE_HEIGHT, TILE_SIZE, TILE_WIDTH};
 use sums::coverage_of;
 
 // Whether the pixel is one of a tile's (19).
-fn check_place(column: u32, row: u32) -> Verdict
-    ensures { result ≡ first_no (place_checks column row) }
+fn check_place(column: u32, row: u32) -> Result<(), Refusal>
+    ensures { verdict_told result ≡ first_no (place_checks column row) }
 {
     if column as usize >= TILE_WIDTH {
-        return Verdict::Against(OFF_TILE);
+        return Err(Refusal::OffTile);
     }
     if row as usize >= TILE_HEIGHT {
-        return Verdict::Against(OFF_TILE);
+        return Err(Refusal::OffTile);
     }
-    Verdict::Fine
+    Ok(())
 }
 
 // The public call: the coverage of the tile's pixel in that column and row, by so many segments from
@@ -48,18 +49,12 @@ pub fn coverage_at(
     y_tile: f32,
     column: u32,
     row: u32,
-) -> Covered
-    ensures { CoverageAtMet segments.now first number even_odd backdrop x_tile y_tile column row result }
+) -> Result<f32, Refusal>
+    ensures { CoverageAtMet segments.now first number even_odd backdrop x_tile y_tile column row (covered_told result) }
 {
-    let p = check_place(column, row);
-    if let Verdict::Against(no) = p {
-        return Covered::Refused(no);
-    }
-    let v = check_fill(segments, TILE_SIZE, first, number);
-    if let Verdict::Against(no) = v {
-        return Covered::Refused(no);
-    }
-    let area = coverage_of(
+    check_place(column, row)?;
+    check_fill(segments, TILE_SIZE, first, number)?;
+    Ok(coverage_of(
         segments,
         first as usize,
         number as usize,
@@ -69,21 +64,23 @@ pub fn coverage_at(
         y_tile,
         column as usize,
         row as usize,
-    );
-    Covered::Done(area)
+    ))
 }
 
 // The public call: the pixel in that column and row of screen tile t, packed, under the tile's list of
 // commands. 19, then 1, then as the tile has them 13, 14 and 15.
-pub fn colour_at(words: &[u32], segments: &[f32], t: u32, column: u32, row: u32) -> Coloured
-    ensures { ColourAtMet words.now segments.now t column row result }
+pub fn colour_at(
+    words: &[u32],
+    segments: &[f32],
+    t: u32,
+    column: u32,
+    row: u32,
+) -> Result<u32, Refusal>
+    ensures { ColourAtMet words.now segments.now t column row (coloured_told result) }
 {
-    let p = check_place(column, row);
-    if let Verdict::Against(no) = p {
-        return Coloured::Refused(no);
-    }
+    check_place(column, row)?;
     if segments.len() % SEGMENT_FLOATS != 0 {
-        return Coloured::Refused(NOT_WHOLE);
+        return Err(Refusal::NotWhole);
     }
     colour_of(words, segments, t, column as usize, row as usize)
 }

@@ -6,17 +6,18 @@ ghost use Rattle.commands.specs.Pixel.{Within};
 ghost use Rattle.pixel.specs.Place.{place_at};
 ghost use Rattle.pixel.specs.Held.{colours_of, nothing_held, laid_on, held_after};
 ghost use Rattle.pixel.specs.Answers.{colour_paper};
+ghost use Rattle.pixel.specs.Coloured.{coloured_told};
 ghost use Rattle.pixel.specs.Colour.{under_list};
 
-use crate::kinds::{Coloured, Held};
+use crate::kinds::Held;
 use crate::sums::coverage_of;
 use colours::{colour, over, pack};
 use commands::numbers::{END, LIST_START, TILE_WORDS};
-use commands::steps::{Act, Move, move_at, op_of};
+use commands::steps::{Act, move_at, op_of};
 use on_pixels::signed;
 use panel::limits::MOST_COMMANDS;
-use panel::refusals::{PAST_END, TOO_LONG};
-use reader::{Look, peek_from};
+use panel::refusals::Refusal;
+use reader::peek_from;
 
 // What a tile's pixel starts with: no area and no colour.
 fn nothing() -> Held
@@ -24,10 +25,7 @@ fn nothing() -> Held
 {
     Held {
         area: 0.0,
-        red: 0.0,
-        green: 0.0,
-        blue: 0.0,
-        alpha: 0.0,
+        px: [0.0; 4],
     }
 }
 
@@ -35,17 +33,9 @@ fn nothing() -> Held
 fn laid(p: Held, word: u32) -> Held
     ensures { result ≡ laid_on word p }
 {
-    let px = over([p.red, p.green, p.blue, p.alpha], colour(word), p.area);
-    let red = px[0];
-    let green = px[1];
-    let blue = px[2];
-    let alpha = px[3];
     Held {
         area: p.area,
-        red,
-        green,
-        blue,
-        alpha,
+        px: over(p.px, colour(word), p.area),
     }
 }
 
@@ -69,32 +59,33 @@ fn carry_out(act: Act, segments: &[f32], column: usize, row: usize, p: Held) -> 
 }
 
 // The commands from tile t's first on, up to END or the first that is refused.
-pub fn colour_of(words: &[u32], segments: &[f32], t: u32, column: usize, row: usize) -> Coloured
+pub fn colour_of(
+    words: &[u32],
+    segments: &[f32],
+    t: u32,
+    column: usize,
+    row: usize,
+) -> Result<u32, Refusal>
     requires { (column < tile_width) × (row < tile_height) }
-    ensures { colour_paper result ≡ under_list words.now segments.now t (place_at column row) }
+    ensures { colour_paper (coloured_told result) ≡ under_list words.now segments.now t (place_at column row) }
 {
     let mut p = nothing();
     let mut at = TILE_WORDS * (t as usize) + LIST_START;
     let mut count = 0u32;
+    // no `for`: the command after the last that may be is looked at too, since it may be END
     loop {
-        let Look::Word(tag) = peek_from(words, at) else {
-            return Coloured::Refused(PAST_END);
+        let Some(tag) = peek_from(words, at) else {
+            return Err(Refusal::PastEnd);
         };
         if tag == END {
-            return Coloured::Done(pack([p.red, p.green, p.blue, p.alpha]));
+            return Ok(pack(p.px));
         }
         if count == MOST_COMMANDS {
-            return Coloured::Refused(TOO_LONG);
+            return Err(Refusal::TooLong);
         }
-        match move_at(words, segments, at, op_of(tag)) {
-            Move::Refused(no) => {
-                return Coloured::Refused(no);
-            }
-            Move::Goes(act, next) => {
-                p = carry_out(act, segments, column, row, p);
-                at = next;
-            }
-        }
+        let (act, next) = move_at(words, segments, at, op_of(tag))?;
+        p = carry_out(act, segments, column, row, p);
+        at = next;
         count += 1;
     }
 }

@@ -43,10 +43,8 @@ pub fn area_after(
     ensures { result ≡ area_after segments.now first xt yt n (place_at column row) start }
 {
     let mut a = start;
-    let mut j = 0usize;
-    while j < n {
+    for j in 0..n {
         a = step(segment_at(segments, first + j), xt, yt, column, row, a);
-        j += 1;
     }
     a
 }

@@ -1,6 +1,6 @@
 -- Which case of `read_of` holds, from what the reader's tests show. Assumes nothing.
 use mathlib.Core.Path.{◌≡◌, refl, sym, ap, ◌∙◌}
-use mathlib.Core.List.{List, [], ◌∷◌}
+use mathlib.Core.List.{List}
 use mathlib.Core.Bool.{true, false, ◌&&◌}
 use Prim.Native.Nat.{ℕ, ◌*◌, ◌-◌, ◌≤◌, ◌<◌}
 use native.Mathlib.Omega.{arith}
@@ -12,10 +12,10 @@ use Rattle.ppm_write.specs.Bytes.{pixel_bytes}
 use Rattle.ppm_write.specs.Write.{refused, side_ok}
 use Rattle.panel.proofs.BoolLaws.{both}
 use Rattle.ppm_write.proofs.Stores.{sets_front}
-use Rattle.ppm_read.specs.declared.Answer.{Answer}
-use Rattle.ppm_read.specs.declared.Answer.TheVariants.{Done, Refused}
-use Rattle.ppm_read.specs.declared.Head.{Head}
-use Rattle.ppm_read.specs.declared.Head.TheVariants.{Size, NoHead}
+use Rattle.ppm_read.specs.Answer.{Answer}
+use Rattle.ppm_read.specs.Answer.{Done, Refused}
+use Rattle.ppm_read.specs.Head.{Head}
+use Rattle.ppm_read.specs.Head.{Size, NoHead}
 use Rattle.ppm_read.specs.Header.{Header, size, no_header, header_of}
 use Rattle.ppm_read.specs.Read.{paper_of, on_header, read_of}
 use Rattle.ppm_read.specs.Held.{held, held_header, sized_of, WithinHead}

@@ -10,8 +10,8 @@ use borrow.Author.Tests.{eq-eqb, ne_eqb}
 use lib.ListN.{length, drop}
 use Rattle.ppm_write.specs.Bytes.{magic, largest}
 use Rattle.ppm_read.specs.declared.Stage.TheVariants.{Start}
-use Rattle.ppm_read.specs.declared.Number.{Number}
-use Rattle.ppm_read.specs.declared.Number.TheVariants.{At}
+use Rattle.ppm_read.specs.Number.{Number}
+use Rattle.ppm_read.specs.Number.{At}
 use Rattle.ppm_read.specs.Header.{Got, got, none, number_from, Header, size, no_header, on_number, then_number, starts_with, header_of}
 use Rattle.ppm_read.specs.Held.{held, held_got, held_header, got_of, Within}
 use Rattle.ppm_read.proofs.Held.{held_held, held_largest}

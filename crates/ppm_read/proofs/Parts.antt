@@ -1,41 +1,39 @@
--- Laws of the reader's two small loops and tests: "P6", and a copy. Assumes nothing.
+-- The test for "P6", and a copy. Assumes nothing.
 use mathlib.Core.Path.{◌≡◌, refl, sym, ap, ◌∙◌}
 use mathlib.Core.List.{List, [], ◌∷◌}
-use mathlib.Core.Bool.{Bool, true, false, ◌&&◌}
-use Prim.Native.Nat.{ℕ, ◌+◌, ◌≤◌, ◌<◌}
-use native.Mathlib.Omega.{arith}
+use mathlib.Core.Bool.{Bool, false, ◌&&◌}
+use Prim.Native.Nat.{ℕ, ◌+◌, ◌-◌, ◌≤◌, ◌<◌}
 use native.Mathlib.Numerals.{add-one}
+use native.Mathlib.Omega.{arith}
 use lib.Dec.{eqb}
 use lib.ListN.{length, get_or, set, drop, drop_of_length-le}
 use lib.Seq.{drop-cons, sets}
 use Rattle.ppm_write.specs.Bytes.{magic}
+use Rattle.std.proofs.lemmas.Bool.Decides.{nat_tests}
+use Rattle.std.specs.List.{starts_with as starts}
 use Rattle.ppm_read.specs.Header.{starts_with}
 
-both_true : (a b : Bool) → a && b ≡ a && (b && true)
-both_true true true = refl
-both_true true false = refl
-both_true false b = refl
+eqb_sym : (a b : ℕ) → eqb a b ≡ eqb b a
+eqb_sym a b = grind (arith, nat_tests)
 
-pub magic_short : (bs : List ℕ) → length bs < length magic → false ≡ starts_with magic bs
-magic_short [] h = refl
-magic_short (a ∷ []) h = go (eqb a 80)
+-- the library's test, which looks at the needle's byte first
+pub magic_is : (bs : List ℕ) → starts eqb bs magic ≡ starts_with magic bs
+magic_is [] = refl
+magic_is (a ∷ []) = go (eqb 80 a) (eqb a 80) (eqb_sym 80 a)
   where
-    go : (t : Bool) → false ≡ t && false
-    go true = refl
-    go false = refl
-magic_short (a ∷ b ∷ bs) h = absurd (omega arith)
+    go : (t u : Bool) → t ≡ u → t && false ≡ u && false
+    go t u e = rw e
+magic_is (a ∷ b ∷ bs) = rw (eqb_sym 80 a, eqb_sym 54 b)
 
-pub magic_long : (bs : List ℕ) → length magic ≤ length bs → eqb (get_or bs 0 0) 80 && eqb (get_or bs 1 0) 54 ≡ starts_with magic bs
-magic_long [] h = absurd (omega arith)
-magic_long (a ∷ []) h = absurd (omega arith)
-magic_long (a ∷ b ∷ bs) h = both_true (eqb a 80) (eqb b 54)
+next_place : (from at : ℕ) → from ≤ at → at + 1 - from ≡ (at - from) + 1
+next_place from at k = omega arith
 
 -- a turn of the loop that copies: what is left to store is that of the next place on
-pub copy_turn : (file out end : List ℕ) (i at : ℕ) → at < length file
-    → sets out i (drop at file) ≡ end
-    → sets (set out i (get_or file at 0)) (i + 1) (drop (at + 1) file) ≡ end
-copy_turn file out end i at h e =
-    rw (add-one i, add-one at) (sym (ap (sets out i) (drop-cons file at 0 h)) ∙ e)
+pub copy_turn : (file out end : List ℕ) (from at : ℕ) → from ≤ at → at < length file
+    → sets out (at - from) (drop at file) ≡ end
+    → sets (set out (at - from) (get_or file at 0)) (at + 1 - from) (drop (at + 1) file) ≡ end
+copy_turn file out end from at k h e =
+    rw (next_place from at k, add-one (at - from), add-one at) (sym (ap (sets out (at - from)) (drop-cons file at 0 h)) ∙ e)
 
 pub copy_done : (file out end : List ℕ) (i at : ℕ) → length file ≤ at → sets out i (drop at file) ≡ end → out ≡ end
 copy_done file out end i at h e = sym (ap (sets out i) (drop_of_length-le file h)) ∙ e

@@ -2,17 +2,17 @@
 -- its digits in, so that no file makes it wrap: what the code has and what is meant are equal under
 -- `held`, which tells numbers over the limit from the others and not from each other. Only proofs lean on
 -- this: no promise of a public call does. Definitions only.
-use Rattle.std.specs.Prelude.{ℕ, ◌+◌, ◌≤◌, ◌<◌, List, cond, leb, length, drop}
+use Rattle.std.specs.Prelude.{ℕ, None, ◌+◌, ◌≤◌, ◌<◌, List, cond, leb, length, drop}
 use Rattle.panel.specs.Limits.{side_most}
 use Rattle.ppm_read.specs.Header.{Got, got, none, Header, size, no_header}
 use Rattle.ppm_read.specs.declared.Stage.{Stage}
 use Rattle.ppm_read.specs.declared.Stage.TheVariants.{Start, Gap, Digits}
 use Rattle.ppm_read.specs.declared.Next.{Next}
 use Rattle.ppm_read.specs.declared.Next.TheVariants.{To, Ends, Bad}
-use Rattle.ppm_read.specs.declared.Number.{Number}
-use Rattle.ppm_read.specs.declared.Number.TheVariants.{At, None}
-use Rattle.ppm_read.specs.declared.Head.{Head}
-use Rattle.ppm_read.specs.declared.Head.TheVariants.{Size, NoHead}
+use Rattle.ppm_read.specs.Number.{Number}
+use Rattle.ppm_read.specs.Number.{At}
+use Rattle.ppm_read.specs.Head.{Head}
+use Rattle.ppm_read.specs.Head.{Size, NoHead}
 
 -- a number, or one over the limit where it is larger
 unfoldable pub held : ℕ → ℕ

@@ -4,3 +4,6 @@ pub mod Header
 pub mod Read
 pub mod Held
 pub mod Grammar
+pub mod Number
+pub mod Head
+pub mod Answer

@@ -1,11 +1,11 @@
 -- What the reader answers, and what the bytes lent hold after it. Definitions only.
-use Rattle.std.specs.Prelude.{ℕ, ◌+◌, ◌*◌, ◌≡◌, List, [], ◌∷◌, ◌++◌, ◌&&◌, cond, leb, eqb, length, drop}
+use Rattle.std.specs.Prelude.{ℕ, ◌*◌, ◌≡◌, List, [], ◌∷◌, ◌++◌, ◌&&◌, cond, leb, eqb, length, drop}
 use Rattle.panel.specs.Refusals.{done_no, no_room_word, bad_size, bad_file}
 use Rattle.ppm_write.specs.Bytes.{pixel_bytes}
 use Rattle.ppm_write.specs.Write.{Left, refused, side_ok}
 use Rattle.ppm_read.specs.Header.{Header, size, no_header, header_of}
-use Rattle.ppm_read.specs.declared.Answer.{Answer}
-use Rattle.ppm_read.specs.declared.Answer.TheVariants.{Done, Refused}
+use Rattle.ppm_read.specs.Answer.{Answer}
+use Rattle.ppm_read.specs.Answer.{Done, Refused}
 
 -- an answer's number, and after it the values that come with it: width and height
 abbrev pub paper_of : Answer → List ℕ

@@ -9,14 +9,15 @@ ghost use Rattle.ppm_write.specs.Bytes.{ten, magic};
 ghost use Rattle.ppm_read.specs.Bytes.{kind_of};
 ghost use Rattle.ppm_read.specs.Header.{step_of, number_from, header_of, starts_with};
 ghost use Rattle.ppm_read.specs.Read.{ReadMet};
+ghost use Rattle.ppm_read.specs.Answer.{answer_told};
 ghost use Rattle.ppm_read.specs.Held.{held, held_next, held_got, held_header, got_of, sized_of, Within, WithinHead};
 
-use panel::{limits, refusals};
+use panel::limits;
+use panel::refusals::Refusal;
 
 const TEN: u32 = 10;
 
-// The bytes of "P6".
-const MAGIC_BYTES: usize = 2;
+const MAGIC: &[u8] = b"P6";
 
 const VERTICAL_TAB: u8 = 11;
 
@@ -48,46 +49,17 @@ pub enum Next {
     Bad,
 }
 
-// A number that was read and the place of the white space after it, or none.
-#[derive(Clone, Copy)]
-pub enum Number {
-    At(u32, usize),
-    None,
-}
-
-// A header that was read: width, height and the place of the raster; or none.
-#[derive(Clone, Copy)]
-pub enum Head {
-    Size(u32, u32, usize),
-    NoHead,
-}
-
-// What a call answers: width and height, or the number of the refusal.
-#[derive(Clone, Copy)]
-pub enum Answer {
-    Done(u32, u32),
-    Refused(u32),
-}
-
+#[tactic(auto, using(std::proofs::lemmas::Bool::Decides::nat_tests), unfolding(crate::specs::Bytes::kind_of))]
 fn kind_of(b: u8) -> Kind
     ensures { result ≡ kind_of b }
 {
-    if b == b'#' {
-        return Kind::Hash;
+    match b {
+        b'#' => Kind::Hash,
+        b'\n' | b'\r' => Kind::Line,
+        b' ' | b'\t' | VERTICAL_TAB | FORM_FEED => Kind::Blank,
+        b'0'..=b'9' => Kind::Digit(b - b'0'),
+        _ => Kind::Other,
     }
-    if (b == b'\n') | (b == b'\r') {
-        return Kind::Line;
-    }
-    if (b == b' ') | (b == b'\t') | (b == VERTICAL_TAB) | (b == FORM_FEED) {
-        return Kind::Blank;
-    }
-    if b < b'0' {
-        return Kind::Other;
-    }
-    if b < b'0' + 10 {
-        return Kind::Digit(b - b'0');
-    }
-    Kind::Other
 }
 
 // A digit more. A number over the limit stays over it: no file makes it wrap.
@@ -97,116 +69,100 @@ fn grown(n: u32, d: u8) -> u32
     if limits::SIDE_MOST < n {
         return n;
     }
-    n * TEN + d as u32
+    n * TEN + u32::from(d)
 }
 
-// White space outside comments: before a number, or after it.
-fn white(stage: Stage) -> Next
-    ensures { result ≡ step_of false stage Kind.Blank }
-{
-    match stage {
-        Stage::Start => Next::To(false, Stage::Gap),
-        Stage::Gap => Next::To(false, Stage::Gap),
-        Stage::Digits(n) => Next::Ends(n),
+impl Stage {
+    // White space outside comments: before a number, or after it.
+    fn white(self) -> Next
+        ensures { result ≡ step_of false self Kind.Blank }
+    {
+        match self {
+            Stage::Start | Stage::Gap => Next::To(false, Stage::Gap),
+            Stage::Digits(n) => Next::Ends(n),
+        }
+    }
+
+    // A digit outside comments.
+    fn digit(self, d: u8) -> Next
+        ensures { held_next result ≡ held_next (step_of false self (Kind.Digit d)) }
+    {
+        match self {
+            Stage::Start => Next::Bad,
+            Stage::Gap => Next::To(false, Stage::Digits(u32::from(d))),
+            Stage::Digits(n) => Next::To(false, Stage::Digits(grown(n, d))),
+        }
+    }
+
+    // A byte outside comments.
+    fn outside(self, kind: Kind) -> Next
+        ensures { held_next result ≡ held_next (step_of false self kind) }
+    {
+        match kind {
+            Kind::Hash => Next::To(true, self),
+            Kind::Line | Kind::Blank => self.white(),
+            Kind::Digit(d) => self.digit(d),
+            Kind::Other => Next::Bad,
+        }
+    }
+
+    // A byte within a comment, which its line's end ends.
+    fn in_comment(self, kind: Kind) -> Next
+        ensures { result ≡ step_of true self kind }
+    {
+        Next::To(!matches!(kind, Kind::Line), self)
+    }
+
+    fn step(self, comment: bool, kind: Kind) -> Next
+        ensures { held_next result ≡ held_next (step_of comment self kind) }
+    {
+        if comment {
+            self.in_comment(kind)
+        } else {
+            self.outside(kind)
+        }
     }
 }
 
-// A digit outside comments.
-fn digit(stage: Stage, d: u8) -> Next
-    ensures { held_next result ≡ held_next (step_of false stage (Kind.Digit d)) }
-{
-    match stage {
-        Stage::Start => Next::Bad,
-        Stage::Gap => Next::To(false, Stage::Digits(d as u32)),
-        Stage::Digits(n) => Next::To(false, Stage::Digits(grown(n, d))),
-    }
-}
-
-// A byte outside comments.
-fn outside(kind: Kind, stage: Stage) -> Next
-    ensures { held_next result ≡ held_next (step_of false stage kind) }
-{
-    match kind {
-        Kind::Hash => Next::To(true, stage),
-        Kind::Line => white(stage),
-        Kind::Blank => white(stage),
-        Kind::Digit(d) => digit(stage, d),
-        Kind::Other => Next::Bad,
-    }
-}
-
-// A byte within a comment, which its line's end ends.
-fn in_comment(kind: Kind, stage: Stage) -> Next
-    ensures { result ≡ step_of true stage kind }
-{
-    match kind {
-        Kind::Line => Next::To(false, stage),
-        Kind::Hash => Next::To(true, stage),
-        Kind::Blank => Next::To(true, stage),
-        Kind::Digit(_) => Next::To(true, stage),
-        Kind::Other => Next::To(true, stage),
-    }
-}
-
-fn step(comment: bool, stage: Stage, kind: Kind) -> Next
-    ensures { held_next result ≡ held_next (step_of comment stage kind) }
-{
-    if comment {
-        return in_comment(kind, stage);
-    }
-    outside(kind, stage)
-}
-
-// White space and a number, from a place of the file on.
-fn read_number(file: &[u8], from: usize) -> Number
+// White space and a number, from a place of the file on: the number, and the place of the white space after it.
+fn read_number(file: &[u8], from: usize) -> Option<(u32, usize)>
     ensures { (held_got (got_of file.now result) ≡ held_got (number_from false Stage.Start (drop from file.now))) × Within file.now result }
 {
-    let mut at = from;
     let mut comment = false;
     let mut stage = Stage::Start;
-    while at < file.len() {
-        let next = step(comment, stage, kind_of(file[at]));
-        match next {
+    for at in from..file.len() {
+        match stage.step(comment, kind_of(file[at])) {
             Next::To(c, s) => {
                 comment = c;
                 stage = s;
             }
-            Next::Ends(n) => return Number::At(n, at),
-            Next::Bad => return Number::None,
+            Next::Ends(n) => return Some((n, at)),
+            Next::Bad => return None,
         }
-        at += 1;
     }
-    Number::None
+    None
 }
 
 fn is_magic(file: &[u8]) -> bool
     ensures { result ≡ starts_with magic file.now }
 {
-    if file.len() < MAGIC_BYTES {
-        return false;
-    }
-    (file[0] == b'P') & (file[1] == b'6')
+    file.starts_with(MAGIC)
 }
 
-fn header(file: &[u8]) -> Head
+// Width, height and the place of the raster.
+fn header(file: &[u8]) -> Option<(u32, u32, usize)>
     ensures { (held_header (sized_of file.now result) ≡ held_header (header_of file.now)) × WithinHead file.now result }
 {
     if !is_magic(file) {
-        return Head::NoHead;
+        return None;
     }
-    let Number::At(width, a) = read_number(file, MAGIC_BYTES) else {
-        return Head::NoHead;
-    };
-    let Number::At(height, b) = read_number(file, a) else {
-        return Head::NoHead;
-    };
-    let Number::At(most, c) = read_number(file, b) else {
-        return Head::NoHead;
-    };
+    let (width, a) = read_number(file, MAGIC.len())?;
+    let (height, b) = read_number(file, a)?;
+    let (most, c) = read_number(file, b)?;
     if most != ppm_write::LARGEST {
-        return Head::NoHead;
+        return None;
     }
-    Head::Size(width, height, c + 1)
+    Some((width, height, c + 1))
 }
 
 // The bytes of the file from a place on, at the front of out.
@@ -214,32 +170,27 @@ fn copy(file: &[u8], from: usize, out: &mut [u8])
     requires { (from ≤ length file.now) × (length file.now ≤ from + length out.old) }
     ensures { out.new ≡ sets out.old 0 (drop from file.now) }
 {
-    let mut i = 0;
-    let mut at = from;
-    while at < file.len() {
-        out[i] = file[at];
-        i += 1;
-        at += 1;
+    // a loop: copy_from_slice compiles to memmove, which the archive may not need
+    for at in from..file.len() {
+        out[at - from] = file[at];
     }
 }
 
-// The raster of a file, at the front of the bytes lent.
-pub fn read(file: &[u8], out: &mut [u8]) -> Answer
-    ensures { ReadMet file.now out.old result out.new }
+// The raster of a file, at the front of the bytes lent; the picture's width and height.
+pub fn read(file: &[u8], out: &mut [u8]) -> Result<(u32, u32), Refusal>
+    ensures { ReadMet file.now out.old (answer_told result) out.new }
 {
-    let Head::Size(width, height, from) = header(file) else {
-        return Answer::Refused(refusals::BAD_FILE);
-    };
+    let (width, height, from) = header(file).ok_or(Refusal::BadFile)?;
     if !(ppm_write::side_ok(width) & ppm_write::side_ok(height)) {
-        return Answer::Refused(refusals::BAD_SIZE);
+        return Err(Refusal::BadSize);
     }
     let size = width as usize * height as usize * ppm_write::PIXEL_BYTES;
     if file.len() - from != size {
-        return Answer::Refused(refusals::BAD_FILE);
+        return Err(Refusal::BadFile);
     }
     if out.len() < size {
-        return Answer::Refused(refusals::NO_ROOM);
+        return Err(Refusal::NoRoom);
     }
     copy(file, from, out);
-    Answer::Done(width, height)
+    Ok((width, height))
 }

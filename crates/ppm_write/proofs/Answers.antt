@@ -1,6 +1,6 @@
 -- Which case of `write_of` holds, from what the writer's tests show.
 -- Assumes nothing.
-use mathlib.Core.Path.{◌≡◌, refl, ap, ◌∙◌}
+use mathlib.Core.Path.{◌≡◌, ap, ◌∙◌}
 use mathlib.Core.List.{List, [], ◌∷◌, ◌++◌}
 use mathlib.Core.Bool.{Bool, true, false, ◌&&◌}
 use Prim.Native.Nat.{ℕ, ◌+◌, ◌*◌, ◌≤◌, ◌<◌}
@@ -14,8 +14,8 @@ use Rattle.panel.specs.Limits.{side_most}
 use Rattle.panel.specs.Refusals.{done_no, not_whole, no_room_word, bad_size}
 use Rattle.ppm_write.specs.Bytes.{pixel_bytes, fixed_bytes}
 use Rattle.ppm_write.specs.File.{decimal, head_of, raster_of, file_of}
-use Rattle.ppm_write.specs.declared.Written.{Written}
-use Rattle.ppm_write.specs.declared.Written.TheVariants.{Done, Refused}
+use Rattle.ppm_write.specs.Written.{Written}
+use Rattle.ppm_write.specs.Written.{Done, Refused}
 use Rattle.ppm_write.specs.Write.{paper_of, Put, side_ok, refused, write_of}
 use Rattle.ppm_write.proofs.Stores.{sets_front}
 use Rattle.ppm_write.proofs.Puts.{put_then, head_length, raster_length}

@@ -2,3 +2,4 @@
 pub mod Bytes
 pub mod File
 pub mod Write
+pub mod Written

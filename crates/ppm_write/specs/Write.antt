@@ -4,8 +4,8 @@ use Rattle.std.proofs.lemmas.List.Edits.{sets}
 use Rattle.panel.specs.Limits.{side_most}
 use Rattle.panel.specs.Refusals.{done_no, not_whole, no_room_word, bad_size}
 use Rattle.ppm_write.specs.File.{file_of}
-use Rattle.ppm_write.specs.declared.Written.{Written}
-use Rattle.ppm_write.specs.declared.Written.TheVariants.{Done, Refused}
+use Rattle.ppm_write.specs.Written.{Written}
+use Rattle.ppm_write.specs.Written.{Done, Refused}
 
 -- an answer's number, and after it the value that comes with it: how many bytes were written
 abbrev pub paper_of : Written → List ℕ

@@ -5,14 +5,13 @@
 ghost use Rattle.std.specs.Prelude.{◌≡◌, ◌+◌, ◌≤◌, length};
 ghost use Rattle.ppm_write.specs.File.{decimal, field_of, head_of, raster_of};
 ghost use Rattle.ppm_write.specs.Write.{Put, side_ok, WriteMet};
+ghost use Rattle.ppm_write.specs.Written.{written_told};
 
-use panel::{limits, refusals};
+use panel::limits;
+use panel::refusals::Refusal;
 
 // The largest value of a colour's byte, which the header names.
 pub const LARGEST: u32 = 255;
-
-// How many numbers a byte has: a pixel's colours are its digits to this base.
-const BYTE_RANGE: u32 = 256;
 
 const TEN: u32 = 10;
 
@@ -22,18 +21,11 @@ pub const PIXEL_BYTES: usize = 3;
 
 const FIXED_BYTES: usize = 9;
 
-// What a call answers: how many bytes it wrote, or the number of the refusal.
-#[derive(Clone, Copy)]
-pub enum Written {
-    Done(usize),
-    Refused(u32),
-}
-
 // A width or a height that a picture may have.
 pub fn side_ok(n: u32) -> bool
     ensures { result ≡ side_ok n }
 {
-    (1 <= n) & (n <= limits::SIDE_MOST)
+    (1..=limits::SIDE_MOST).contains(&n)
 }
 
 // How many decimal digits n has.
@@ -88,34 +80,31 @@ fn put_pixels(out: &mut [u8], at: usize, pixels: &[u32]) -> usize
     requires { at + length (raster_of pixels.now) ≤ length out.old }
     ensures { Put out.old at (raster_of pixels.now) result out.new }
 {
-    let mut to = at;
-    let mut i = 0;
-    while i < pixels.len() {
-        let p = pixels[i];
-        out[to] = (p % BYTE_RANGE) as u8;
-        out[to + 1] = (p / BYTE_RANGE % BYTE_RANGE) as u8;
-        out[to + 2] = (p / BYTE_RANGE / BYTE_RANGE % BYTE_RANGE) as u8;
-        to += PIXEL_BYTES;
-        i += 1;
+    for (i, p) in pixels.iter().enumerate() {
+        // a pixel's colours are its bytes, red the lowest
+        let [red, green, blue, _] = p.to_le_bytes();
+        let to = at + PIXEL_BYTES * i;
+        out[to] = red;
+        out[to + 1] = green;
+        out[to + 2] = blue;
     }
-    to
+    at + PIXEL_BYTES * pixels.len()
 }
 
-// The file of a picture, at the front of the bytes lent.
-pub fn write(pixels: &[u32], width: u32, height: u32, out: &mut [u8]) -> Written
-    ensures { WriteMet pixels.now width height out.old result out.new }
+// The file of a picture, at the front of the bytes lent; how many bytes it has.
+pub fn write(pixels: &[u32], width: u32, height: u32, out: &mut [u8]) -> Result<usize, Refusal>
+    ensures { WriteMet pixels.now width height out.old (written_told result) out.new }
 {
     if !(side_ok(width) & side_ok(height)) {
-        return Written::Refused(refusals::BAD_SIZE);
+        return Err(Refusal::BadSize);
     }
     if pixels.len() != width as usize * height as usize {
-        return Written::Refused(refusals::NOT_WHOLE);
+        return Err(Refusal::NotWhole);
     }
     let size = FIXED_BYTES + digits(width) + digits(height) + PIXEL_BYTES * pixels.len();
     if out.len() < size {
-        return Written::Refused(refusals::NO_ROOM);
+        return Err(Refusal::NoRoom);
     }
     let at = put_head(out, width, height);
-    let end = put_pixels(out, at, pixels);
-    Written::Done(end)
+    Ok(put_pixels(out, at, pixels))
 }

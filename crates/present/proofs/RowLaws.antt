@@ -1,45 +1,19 @@
 -- The loops over a row's pixels and over rows: one turn of each, and its end. Which case of the definition holds. Assumes nothing.
-use mathlib.Core.Path.{◌≡◌, refl, sym, ap, ◌∙◌}
-use mathlib.Core.Bool.{Bool, true, false, ◌&&◌}
-use mathlib.Core.List.{List, [], ◌∷◌}
-use Prim.Native.Nat.{ℕ, zero, suc, ◌+◌, ◌-◌, ◌*◌, ◌/◌, ◌%◌, ◌≤◌, ◌<◌}
+use mathlib.Core.Path.{◌≡◌}
+use mathlib.Core.Bool.{true, false, ◌&&◌}
+use mathlib.Core.List.{List}
+use Prim.Native.Nat.{ℕ, suc, ◌+◌, ◌-◌, ◌*◌, ◌/◌, ◌%◌, ◌≤◌, ◌<◌}
 use native.Mathlib.Nat.{add-mul, mul_comm, mul-le-mul_right, div-mul-le_self}
-use native.Mathlib.Numerals.{add-one}
 use native.Mathlib.Omega.{arith}
 use lib.Dec.{leb, eqb}
-use lib.ListN.{length, get_or, set, take, drop, drop_of_length-le, length-take, length-drop}
-use lib.Seq.{sets, length-sets, drop-cons}
-use borrow.Author.Tests.{le-leb, lt-leb, leb-true, eq-eqb, ne_eqb}
+use lib.ListN.{length}
+use lib.Seq.{sets}
+use borrow.Author.Tests.{le-leb, lt-leb, leb-true}
 use Rattle.panel.proofs.BoolLaws.{both}
 use Rattle.panel.specs.Refusals.{done_no, not_whole, no_room_word, bad_size}
-use Rattle.ppm_write.specs.File.{red_of, green_of, blue_of}
 use Rattle.ppm_write.specs.Write.{side_ok}
-use Rattle.present.specs.Pixels.{bytes_each, alpha_of, first_of, third_of, row_bytes, row_of, rows_of}
+use Rattle.present.specs.Pixels.{bytes_each, row_bytes, row_of, rows_of}
 use Rattle.present.specs.Present.{whole_of, size_of, left_of, present_of, RowsFit}
-
-pub row_length : (order : ℕ) (ps : List ℕ) → length (row_bytes order ps) ≡ bytes_each * length ps
-row_length order [] = refl
-row_length order (p ∷ ps) = omega (arith, row_length order ps)
-
--- ---- a row
-
-pixel_from : (order : ℕ) (ps : List ℕ) (i : ℕ) → i < length ps
-    → row_bytes order (drop i ps)
-    ≡ first_of order (get_or ps i 0) ∷ green_of (get_or ps i 0) ∷ third_of order (get_or ps i 0) ∷ alpha_of (get_or ps i 0) ∷ row_bytes order (drop (i + 1) ps)
-pixel_from order ps i h = rw (add-one i, drop-cons ps i 0 h)
-
-pub pixel_turn : (order : ℕ) (ps out end : List ℕ) (to i a b : ℕ) → i < length ps → a ≡ first_of order (get_or ps i 0) → b ≡ third_of order (get_or ps i 0)
-    → sets out to (row_bytes order (drop i ps)) ≡ end
-    → sets (set (set (set (set out to a) (to + 1) (green_of (get_or ps i 0))) (to + 2) b) (to + 3) (alpha_of (get_or ps i 0))) (to + bytes_each) (row_bytes order (drop (i + 1) ps)) ≡ end
-pixel_turn order ps out end to i a b h ea eb e =
-    let one : to + 1 ≡ suc to = omega arith in
-    let two : to + 2 ≡ suc (suc to) = omega arith in
-    let three : to + 3 ≡ suc (suc (suc to)) = omega arith in
-    let four : to + bytes_each ≡ suc (suc (suc (suc to))) = omega arith in
-    rw (one, two, three, four, ea, eb) (sym (ap (sets out to) (pixel_from order ps i h)) ∙ e)
-
-pub pixels_done : (order : ℕ) (ps out end : List ℕ) (to i : ℕ) → length ps ≤ i → sets out to (row_bytes order (drop i ps)) ≡ end → out ≡ end
-pixels_done order ps out end to i h e = sym (ap (λ (l : List ℕ). sets out to (row_bytes order l)) (drop_of_length-le ps h)) ∙ e
 
 -- ---- rows
 
@@ -68,22 +42,6 @@ module _ (order : ℕ) (pixels : List ℕ) (screen w stride : ℕ) where
 -- ---- which case holds
 
 module _ (n screen w h stride : ℕ) where
-  pub whole_narrow : screen < w → false ≡ whole_of n screen w h stride
-  unfolding whole_of
-  whole_narrow e = rw (lt-leb w screen e)
-
-  pub whole_broken : w ≤ screen → (n % screen ≡ 0 → ⊥) → false ≡ whole_of n screen w h stride
-  unfolding whole_of
-  whole_broken e k = rw (le-leb w screen e, ne_eqb (n % screen) 0 k)
-
-  pub whole_short : w ≤ screen → n % screen ≡ 0 → n / screen < h → false ≡ whole_of n screen w h stride
-  unfolding whole_of
-  whole_short e k l = rw (le-leb w screen e, eq-eqb (n % screen) 0 k, lt-leb h (n / screen) l)
-
-  pub whole_rest : w ≤ screen → n % screen ≡ 0 → h ≤ n / screen → leb (bytes_each * w) stride ≡ whole_of n screen w h stride
-  unfolding whole_of
-  whole_rest e k l = rw (le-leb w screen e, eq-eqb (n % screen) 0 k, le-leb h (n / screen) l)
-
   -- what a true one tells
   pub whole_told : whole_of n screen w h stride ≡ true → (w ≤ screen) × (h ≤ n / screen)
   unfolding whole_of

@@ -1,5 +1,5 @@
 -- The bytes of a pixel, of a row, and of rows a stride apart. docs/RULES.md, "A picture on a screen". Definitions only.
-use Rattle.std.specs.Prelude.{ℕ, zero, suc, ◌+◌, ◌*◌, ◌/◌, ◌%◌, cond, List, [], ◌∷◌, eqb, take, drop}
+use Rattle.std.specs.Prelude.{ℕ, zero, suc, ◌*◌, ◌/◌, ◌%◌, cond, List, [], ◌∷◌, eqb, take, drop}
 use Rattle.std.proofs.lemmas.List.Edits.{sets}
 use Rattle.ppm_write.specs.Bytes.{byte_range}
 use Rattle.ppm_write.specs.File.{red_of, green_of, blue_of}
@@ -18,6 +18,10 @@ first_of order p = cond (eqb order 0) (red_of p) (blue_of p)
 
 abbrev pub third_of : (order p : ℕ) → ℕ
 third_of order p = cond (eqb order 0) (blue_of p) (red_of p)
+
+-- the bytes of a pixel, in their order
+abbrev pub pixel_of : (order p : ℕ) → List ℕ
+pixel_of order p = first_of order p ∷ green_of p ∷ third_of order p ∷ alpha_of p ∷ []
 
 -- the bytes of a row's pixels, in their order
 abbrev pub row_bytes : (order : ℕ) → List ℕ → List ℕ

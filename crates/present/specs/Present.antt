@@ -1,6 +1,7 @@
 -- What the call answers, and what the bytes lent hold after it. Definitions only.
-use Rattle.std.specs.Prelude.{ℕ, ◌+◌, ◌-◌, ◌*◌, ◌/◌, ◌%◌, ◌≤◌, ◌≡◌, Bool, ◌&&◌, cond, List, leb, eqb, length}
-use Rattle.panel.specs.Refusals.{done_no, not_whole, no_room_word, bad_size}
+use Rattle.std.specs.Prelude.{Result, Ok, Err, ⊤, ℕ, ◌+◌, ◌-◌, ◌*◌, ◌/◌, ◌%◌, ◌≤◌, ◌≡◌, Bool, ◌&&◌, cond, List, leb, eqb, length}
+use Rattle.panel.specs.declared.refusals.Refusal.{Refusal}
+use Rattle.panel.specs.Refusals.{no_of, done_no, not_whole, no_room_word, bad_size}
 use Rattle.ppm_write.specs.Write.{side_ok}
 use Rattle.present.specs.Pixels.{bytes_each, rows_of}
 
@@ -11,6 +12,11 @@ whole_of n screen w h stride = leb w screen && (eqb (n % screen) 0 && (leb h (n 
 -- so many bytes: the rows but the last take a stride each
 abbrev pub size_of : (w h stride : ℕ) → ℕ
 size_of w h stride = stride * (h - 1) + bytes_each * w
+
+-- the number of what code answers
+abbrev pub number_told : Result ⊤ Refusal → ℕ
+number_told (Ok x) = done_no
+number_told (Err why) = no_of why
 
 -- an answer's number, and what the bytes lent hold after it
 pub record Left : Type 0 where

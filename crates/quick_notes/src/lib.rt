@@ -8,7 +8,7 @@ ghost use Rattle.std.specs.Prelude.{◌≡◌, true, ◌-◌, ◌<◌, ◌≤◌
 ghost use Rattle.exact.specs.Reach.{Starts};
 ghost use Rattle.panel.specs.Paths.{end_of};
 ghost use Rattle.panel.specs.Widths.{step_range};
-ghost use Rattle.panel.specs.declared.kinds.Verdict.TheVariants.{Fine};
+ghost use Rattle.panel.specs.Verdict.{Fine};
 ghost use Rattle.strides.specs.Strides.{strides_of, Before};
 ghost use Rattle.walk.specs.Step.{Boxed};
 ghost use Rattle.acts.specs.Acts.{check_no, step_acts, steps_acts, delta_of};
@@ -18,7 +18,7 @@ ghost use Rattle.hits.specs.Notes.{Told, Notes, note_words, OnTiles};
 use acts::{leaves, next_if};
 use panel::kinds::Path;
 use panel::limits::MOST_COUNT;
-use strides::{Last, Strides, laid_at, last_of, strides_of, word_marks, word_tile};
+use strides::{Strides, laid_at, last_of, strides_of, word_marks, word_tile};
 use walk::kinds::Pace;
 
 // Each step's word laid down, whether it is good or not: no branch and no early end, so the compiler does it four steps at a
@@ -38,13 +38,11 @@ fn lay_steps(
 {
     let mut last = first;
     let mut good = true;
-    let mut i = from;
-    while i < to {
+    for i in from..to {
         let laid = laid_at(pace, path, g, i, last);
         last = laid.z;
         good = good & laid.good;
         notes[(i - from) as usize] = laid.word;
-        i += 1;
     }
     good
 }
@@ -85,13 +83,11 @@ fn pass_steps(
         × (to ≤ step_range) × Notes (hit_at pace path) «from» (to - «from») notes.now (length backs.now) }
     ensures { result ≡ true → Fine ≡ check_no (delta_of up) (steps_acts (hit_at pace path) (to - «from») «from») backs.now counts.now }
 {
-    let mut i = from;
-    while i < to {
+    for i in from..to {
         let word = notes[(i - from) as usize];
         if !pass_step(pace, path, up, i, word, backs, counts) {
             return false;
         }
-        i += 1;
     }
     true
 }
@@ -116,7 +112,7 @@ pub fn quick_steps(
         return false;
     }
     let g = strides_of(pace, path);
-    let Last::Z(first) = last_of(pace, from) else {
+    let Some(first) = last_of(pace, from) else {
         return false;
     };
     if !lay_steps(pace, path, g, from, to, first, notes) {

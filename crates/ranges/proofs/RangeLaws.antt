@@ -1,24 +1,22 @@
 -- What is in a range that is cleared or copied, and what is outside it. Assumes nothing.
-use mathlib.Core.Path.{◌≡◌, refl, sym, ap, subst, ◌∙◌}
+use mathlib.Core.Path.{◌≡◌, refl, sym, ap, ◌∙◌}
 use mathlib.Core.Bool.{Bool, true, false, cond, ◌&&◌}
 use mathlib.Core.List.{List}
 use mathlib.Core.Logic.{◌⊎◌, ⊎_elim}
 use Prim.Native.Nat.{ℕ, ◌+◌, ◌-◌, ◌<◌, ◌≤◌, zero-le}
 use native.Mathlib.Nat.{zero-add}
-use native.Mathlib.Omega.{arith}
 use lib.Dec.{leb, ltb}
 use lib.ListN.{length, get_or, replicate, length-replicate, get_or-replicate}
-use lib.Seq.{ext_get_or}
 use borrow.Author.Tests.{le-leb, lt-leb, lt-ltb, le-ltb}
-use Rattle.lists.specs.Grid.{mapi, within}
+use Rattle.lists.specs.Grid.{within}
 use Rattle.lists.specs.GridLaws.{length_mapi, get_d_mapi, mapi_is}
 use Rattle.ranges.specs.Ranges.{cleared_of, copied_of}
 
 -- t lies in the range from a up to b, or outside it
-inside : (a b t : ℕ) → a ≤ t → t < b → (leb a t && ltb t b) ≡ true
+pub inside : (a b t : ℕ) → a ≤ t → t < b → (leb a t && ltb t b) ≡ true
 inside a b t p q = simp (le-leb a t p, lt-ltb t b q)
 
-outside : (a b t : ℕ) → (t < a) ⊎ (b ≤ t) → (leb a t && ltb t b) ≡ false
+pub outside : (a b t : ℕ) → (t < a) ⊎ (b ≤ t) → (leb a t && ltb t b) ≡ false
 outside a b t o = ⊎_elim (λ p. simp (lt-leb a t p)) (λ q. simp (le-ltb t b q) (second (leb a t))) o
   where
     second : (x : Bool) → (x && false) ≡ false

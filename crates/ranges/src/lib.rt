@@ -1,58 +1,23 @@
-// A range of what is lent, zeroed or copied: of backdrops, and of words. What a range is for, its
-// caller knows.
+// A range of what is lent, set to one value or copied. What a range is for, its caller knows.
 #![tactic(auto)]
 
-ghost use Rattle.std.specs.Prelude.{◌≡◌, ◌+◌, ◌≤◌, length, pos};
+ghost use Rattle.std.specs.Prelude.{◌≡◌, ◌+◌, ◌≤◌, length};
 ghost use Rattle.ranges.specs.Ranges.{cleared_of, copied_of};
 
-// The n backdrops from a on are 0.
-pub fn clear_backdrops(backdrops: &mut [i32], a: usize, n: usize)
-    requires { a + n ≤ length backdrops.old }
-    ensures { backdrops.new ≡ cleared_of (pos 0) a n backdrops.old }
+// The n from a on are `zero`.
+pub fn clear<T: Copy + Drop>(xs: &mut [T], a: usize, n: usize, zero: T)
+    requires { a + n ≤ length xs.old }
+    ensures { xs.new ≡ cleared_of zero a n xs.old }
 {
-    let mut i: usize = 0;
-    while i < n {
-        backdrops[a + i] = 0;
-        i += 1;
+    for i in 0..n {
+        xs[a + i] = zero;
     }
 }
 
-// The n words from a on are 0.
-pub fn clear_words(words: &mut [u32], a: usize, n: usize)
-    requires { a + n ≤ length words.old }
-    ensures { words.new ≡ cleared_of 0 a n words.old }
-{
-    let mut i: usize = 0;
-    while i < n {
-        words[a + i] = 0;
-        i += 1;
-    }
-}
-
-// The n backdrops from a on, from b on in another slice.
-pub fn copy_backdrops(from: &[i32], a: usize, to: &mut [i32], b: usize, n: usize)
+// The n from a on, from b on in another slice.
+pub fn copy<T: Copy + Drop>(from: &[T], a: usize, to: &mut [T], b: usize, n: usize)
     requires { (a + n ≤ length «from».now) × (b + n ≤ length to.old) }
-    ensures { to.new ≡ copied_of (pos 0) «from».now a b n to.old }
+    ensures { (d : T) → to.new ≡ copied_of d «from».now a b n to.old }
 {
-    let mut i: usize = 0;
-    while i < n {
-        let back = from[a + i];
-        let at = b + i;
-        to[at] = back;
-        i += 1;
-    }
-}
-
-// The n words from a on, from b on in another slice.
-pub fn copy_words(from: &[u32], a: usize, to: &mut [u32], b: usize, n: usize)
-    requires { (a + n ≤ length «from».now) × (b + n ≤ length to.old) }
-    ensures { to.new ≡ copied_of 0 «from».now a b n to.old }
-{
-    let mut i: usize = 0;
-    while i < n {
-        let word = from[a + i];
-        let at = b + i;
-        to[at] = word;
-        i += 1;
-    }
+    to[b..b + n].copy_from_slice(&from[a..a + n]);
 }

@@ -10,12 +10,11 @@ use borrow.Author.Tests.{ltb-true, eqb-true}
 use Rattle.panel.specs.Widths.{line_floats}
 use Rattle.panel.specs.Checks.{first_no, unless}
 use Rattle.panel.specs.Paths.{path_at, path_count, paths_answer}
-use Rattle.panel.specs.declared.kinds.Verdict.{Verdict}
-use Rattle.panel.specs.declared.kinds.Verdict.TheVariants.{Fine, Against}
-use Rattle.panel.specs.declared.kinds.Answer.{Answer}
-use Rattle.panel.specs.declared.kinds.Answer.TheVariants as Answer
+use Rattle.panel.specs.Verdict.{Verdict}
+use Rattle.panel.specs.Verdict.{Fine, Against}
+use Rattle.panel.specs.Answer.{Answer}
 use Rattle.panel.proofs.CheckLaws.{all_ok, unless_no, unless_fine, unless_done}
-use Rattle.new_lines.specs.declared.Recounted.TheVariants.{Refused}
+use Rattle.new_lines.specs.Recounted.{Refused}
 use Rattle.kept_range.specs.Kept.{Out, out_of, tiles_in, redrawn_of}
 use Rattle.recount.specs.Recount.{lent_checks, range_checks, and_answer, asked_of, recounted_of}
 

@@ -5,10 +5,9 @@ use Rattle.panel.specs.Refusals.{not_whole, no_such}
 use Rattle.panel.specs.Widths.{line_floats, ref_words}
 use Rattle.panel.specs.Checks.{Check, check, first_no, unless}
 use Rattle.panel.specs.Paths.{path_at, path_count, paths_answer}
-use Rattle.panel.specs.declared.kinds.Answer.{Answer}
-use Rattle.panel.specs.declared.kinds.Answer.TheVariants as Answer
-use Rattle.new_lines.specs.declared.Recounted.{Recounted}
-use Rattle.new_lines.specs.declared.Recounted.TheVariants.{Refused}
+use Rattle.panel.specs.Answer.{Answer}
+use Rattle.new_lines.specs.Recounted.{Recounted}
+use Rattle.new_lines.specs.Recounted.{Refused}
 pub use Rattle.kept_range.specs.Kept.{Out}
 use Rattle.kept_range.specs.Kept.{out_of, tiles_in, redrawn_of}
 

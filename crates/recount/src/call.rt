@@ -1,10 +1,10 @@
 // The public call, which asks nothing of its caller.
+ghost use Rattle.new_lines.specs.Recounted.{recounted_told};
 ghost use Rattle.recount.specs.Recount.{RecountMet};
 
 use super::checks::asked;
 use kept_range::redraw;
-use new_lines::Recounted;
-use panel::kinds::Answer;
+use new_lines::RecountRefused;
 
 // Counts the lines lent again for one path, into its own tiles alone.
 pub fn recount(
@@ -18,12 +18,12 @@ pub fn recount(
     refs: &mut [u32],
     kept_backdrops: &mut [i32],
     kept_counts: &mut [u32],
-) -> Recounted
+) -> Result<u32, RecountRefused>
     ensures { RecountMet path line_nos.now path_nos.now coords.now paths.now backdrops.old counts.old refs.old
         kept_backdrops.old kept_counts.old
-        result backdrops.new counts.new refs.new kept_backdrops.new kept_counts.new }
+        (recounted_told result) backdrops.new counts.new refs.new kept_backdrops.new kept_counts.new }
 {
-    let a = asked(
+    asked(
         path,
         paths,
         line_nos.len(),
@@ -34,10 +34,7 @@ pub fn recount(
         refs.len(),
         kept_backdrops.len(),
         kept_counts.len(),
-    );
-    if let Answer::Refused(why, item) = a {
-        return Recounted::Refused(why, item, 0);
-    }
+    )?;
     redraw(
         path,
         line_nos,

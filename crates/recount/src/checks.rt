@@ -2,54 +2,62 @@
 ghost use Rattle.std.specs.Prelude.{◌≡◌};
 ghost use Rattle.panel.specs.Checks.{first_no};
 ghost use Rattle.panel.specs.Paths.{paths_answer};
-ghost use Rattle.panel.specs.declared.kinds.Answer.TheVariants.{Done};
+ghost use Rattle.panel.specs.Answer.{answer_told, Done};
+ghost use Rattle.panel.specs.Verdict.{verdict_told};
 ghost use Rattle.recount.specs.Recount.{lent_checks, range_checks, asked_of};
 
 use kept_range::tiles_in;
 use panel::checks::check_paths;
-use panel::kinds::{Answer, Verdict};
+use panel::kinds::Refused;
 use panel::paths::path_at;
-use panel::refusals::{NO_SUCH, NOT_WHOLE};
+use panel::refusals::Refusal;
 use panel::widths::{LINE_FLOATS, PATH_WORDS, REF_WORDS};
 
 // Check 1 of the lengths that need no path.
-fn check_lent(nl: usize, nn: usize, nc: usize, nb: usize, nt: usize, nr: usize) -> Verdict
-    ensures { result ≡ first_no (lent_checks nl nn nc nb nt nr) }
+fn check_lent(
+    nl: usize,
+    nn: usize,
+    nc: usize,
+    nb: usize,
+    nt: usize,
+    nr: usize,
+) -> Result<(), Refusal>
+    ensures { verdict_told result ≡ first_no (lent_checks nl nn nc nb nt nr) }
 {
     if nc % LINE_FLOATS != 0 {
-        return Verdict::Against(NOT_WHOLE);
+        return Err(Refusal::NotWhole);
     }
     if nn != nc / LINE_FLOATS {
-        return Verdict::Against(NOT_WHOLE);
+        return Err(Refusal::NotWhole);
     }
     if nl != nc / LINE_FLOATS {
-        return Verdict::Against(NOT_WHOLE);
+        return Err(Refusal::NotWhole);
     }
     if nb != nt {
-        return Verdict::Against(NOT_WHOLE);
+        return Err(Refusal::NotWhole);
     }
     if nr % REF_WORDS != 0 {
-        return Verdict::Against(NOT_WHOLE);
+        return Err(Refusal::NotWhole);
     }
-    Verdict::Fine
+    Ok(())
 }
 
 // The path named is there, and each kept slice is as long as its range.
-fn check_range(path: u32, paths: &[u32], tiles: usize, kb: usize, kc: usize) -> Verdict
+fn check_range(path: u32, paths: &[u32], tiles: usize, kb: usize, kc: usize) -> Result<(), Refusal>
     requires { paths_answer paths.now tiles ≡ Done }
-    ensures { result ≡ first_no (range_checks path paths.now kb kc) }
+    ensures { verdict_told result ≡ first_no (range_checks path paths.now kb kc) }
 {
     if (path as usize) >= paths.len() / PATH_WORDS {
-        return Verdict::Against(NO_SUCH);
+        return Err(Refusal::NoSuch);
     }
     let n = tiles_in(path_at(paths, path));
     if kb != n {
-        return Verdict::Against(NOT_WHOLE);
+        return Err(Refusal::NotWhole);
     }
     if kc != n {
-        return Verdict::Against(NOT_WHOLE);
+        return Err(Refusal::NotWhole);
     }
-    Verdict::Fine
+    Ok(())
 }
 
 // All of it, in order.
@@ -64,20 +72,11 @@ pub(crate) fn asked(
     nr: usize,
     kb: usize,
     kc: usize,
-) -> Answer
-    ensures { result ≡ asked_of path paths.now nl nn nc nb nt nr kb kc }
+) -> Result<(), Refused>
+    ensures { answer_told result ≡ asked_of path paths.now nl nn nc nb nt nr kb kc }
 {
-    let v = check_lent(nl, nn, nc, nb, nt, nr);
-    if let Verdict::Against(why) = v {
-        return Answer::Refused(why, 0);
-    }
-    let a = check_paths(paths, nt);
-    let Answer::Done = a else {
-        return a;
-    };
-    let w = check_range(path, paths, nt, kb, kc);
-    if let Verdict::Against(why) = w {
-        return Answer::Refused(why, 0);
-    }
-    Answer::Done
+    check_lent(nl, nn, nc, nb, nt, nr)?;
+    check_paths(paths, nt)?;
+    check_range(path, paths, nt, kb, kc)?;
+    Ok(())
 }

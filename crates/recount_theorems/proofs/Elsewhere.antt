@@ -1,34 +1,29 @@
 -- No tile of another path changes, whatever is lent; and a recount that is refused changes no tile at all. Assumes nothing.
-use mathlib.Core.Path.{◌≡◌, refl, sym, ap, subst, ◌∙◌}
+use mathlib.Core.Path.{◌≡◌, refl, ap, subst, ◌∙◌}
 use mathlib.Core.Logic.{◌≢◌, ◌⊎◌, inl, inr, ⊎_elim}
 use mathlib.Core.List.{List, [], ◌∷◌, map}
-use Prim.Native.Nat.{ℕ, ◌+◌, ◌-◌, ◌*◌, ◌/◌, ◌<◌, ◌≤◌}
+use Prim.Native.Nat.{ℕ, ◌+◌, ◌-◌, ◌/◌, ◌<◌, ◌≤◌}
 use native.Mathlib.Decide.{dec_lt}
-use native.Mathlib.Nat.{zero-add}
 use native.Mathlib.Omega.{arith}
 use lib.ListN.{length, get_or}
 use lib.Seq.{ext_get_or}
 use lib.IntN.{ℤ, pos}
 use lib.Ieee.{Float}
-use Rattle.lists.specs.Run.{Ran, done, refused, run, Stopped, run_refused, All, act_all}
+use Rattle.lists.specs.Run.{Ran, done, refused, run_refused, All, act_all}
 use Rattle.lists.specs.Sums.{from}
 use Rattle.lists.specs.Occ.{occ, occ_none}
-use Rattle.lists.specs.Tally.{tally, length_tally}
-use Rattle.lists.specs.Order as Order
-use Rattle.ranges.specs.Ranges.{cleared_of, copied_of}
-use Rattle.ranges.proofs.RangeLaws.{length_cleared, cleared_in, cleared_out, length_copied, copied_in, copied_out}
-use Rattle.panel.specs.Refusals.{done_no}
+use Rattle.lists.specs.Tally.{length_tally}
+use Rattle.ranges.proofs.RangeLaws.{length_cleared, cleared_out, length_copied, copied_in, copied_out}
 use Rattle.panel.specs.Widths.{ref_words}
-use Rattle.panel.specs.Paths.{path_at, path_count, end_of, paths_answer}
+use Rattle.panel.specs.Paths.{path_at, path_count, paths_answer}
 use Rattle.panel.specs.declared.kinds.Path.{Path}
-use Rattle.panel.specs.declared.kinds.Answer.{Answer}
-use Rattle.panel.specs.declared.kinds.Answer.TheVariants as Answer
+use Rattle.panel.specs.Answer.{Answer}
 use Rattle.panel.proofs.PathLaws.{checked}
-use Rattle.acts.specs.Acts.{St, st_of}
+use Rattle.acts.specs.Acts.{St}
 use Rattle.acts.specs.Line.{Refusal, at_line, batch_of}
 use Rattle.new_lines.specs.Own.{own_step, lines_ran}
 use Rattle.kept_range.specs.Kept.{Out, tiles_in, cleared_for, kept_from, given_back, ran_out, redrawn_of}
-use Rattle.recount.specs.Recount.{asked_of, asked_out, recounted_of}
+use Rattle.recount.specs.Recount.{asked_of, recounted_of}
 use Rattle.recount.proofs.CallLaws.{Asked, asked_done}
 use Rattle.theorems.specs.Drawn.{Drawn, drawn_at, tiles_of, marks_of, InPath, OwnLine}
 use Rattle.theorems.specs.Events.{tiles_ev}

@@ -1,10 +1,9 @@
 -- Refusals of a recount are exact: each is given where its ground holds, and nowhere else. Assumes nothing.
 use mathlib.Core.Path.{◌≡◌, refl, sym, ap, ◌∙◌}
-use mathlib.Core.Logic.{◌≢◌, ◌↔◌}
+use mathlib.Core.Logic.{◌↔◌}
 use mathlib.Core.Bool.{Bool, true, false, cond}
 use mathlib.Core.List.{List}
-use Prim.Native.Nat.{ℕ, ◌+◌, ◌≤◌, ◌<◌}
-use native.Mathlib.Nat.{zero-add}
+use Prim.Native.Nat.{ℕ, ◌+◌, ◌<◌}
 use native.Mathlib.Decide.{ℕ_discrete, dec_lt}
 use native.Mathlib.Omega.{arith}
 use lib.Dec.{leb}
@@ -16,10 +15,8 @@ use Rattle.panel.specs.Limits.{most_lines}
 use Rattle.panel.specs.Refusals.{line_number, coordinate, no_such}
 use Rattle.panel.specs.Checks.{first_no, unless}
 use Rattle.panel.specs.Paths.{path_count, paths_answer}
-use Rattle.panel.specs.declared.kinds.Verdict.{Verdict}
-use Rattle.panel.specs.declared.kinds.Verdict.TheVariants.{Fine, Against}
-use Rattle.panel.specs.declared.kinds.Answer.{Answer}
-use Rattle.panel.specs.declared.kinds.Answer.TheVariants.{Done, Refused}
+use Rattle.panel.specs.Verdict.{Verdict, Fine, Against}
+use Rattle.panel.specs.Answer.{Answer, Done, Refused}
 use Rattle.panel.specs.Lines.{line_at}
 use Rattle.walk.specs.Lent.{reached_of}
 use Rattle.acts.specs.Acts.{St}
@@ -29,7 +26,6 @@ use Rattle.stretches.specs.Stretches.{other_no}
 use Rattle.new_lines.specs.Own.{own_step, lines_ran}
 use Rattle.new_lines.proofs.OwnLaws.{own_same, own_other}
 use Rattle.recount.specs.Recount.{lent_checks, range_checks, and_answer, asked_of}
-use Rattle.theorems.specs.Refusing.{RowWhy, PathsWhy, BadEnds, LineWhy}
 use Rattle.theorems.proofs.Exact.{row_exact, line_exact}
 use Rattle.theorems.proofs.ExactPaths.{paths_exact}
 use Rattle.theorems.proofs.ExactRuns.{batch_why, batch_halts}

@@ -10,12 +10,10 @@ use Rattle.lists.specs.Run.{Ran, done, refused}
 use Rattle.panel.specs.Widths.{ref_words}
 use Rattle.panel.specs.Paths.{path_at}
 use Rattle.panel.specs.declared.kinds.Path.{Path}
-use Rattle.panel.specs.declared.kinds.Answer.{Answer}
-use Rattle.panel.specs.declared.kinds.Answer.TheVariants as Answer
+use Rattle.panel.specs.Answer.{Answer}
 use Rattle.acts.specs.Acts.{St, st_of}
 use Rattle.acts.specs.Line.{Refusal}
-use Rattle.new_lines.specs.declared.Recounted.{Recounted}
-use Rattle.new_lines.specs.declared.Recounted.TheVariants.{Done, Refused}
+use Rattle.new_lines.specs.Recounted.{Recounted, Done, Refused}
 use Rattle.kept_range.specs.Kept.{Out, cleared_for, kept_from}
 use Rattle.recount.specs.Recount.{RecountMet}
 use Rattle.recount.proofs.CallLaws.{recount_no, asked_done}

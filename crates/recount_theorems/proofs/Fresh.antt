@@ -1,10 +1,10 @@
 -- A recount that is done leaves the tiles of a fresh count of the list with that path's lines replaced, where the tiles were as an unrefused count of
 -- the old list leaves them and the fresh count refuses none. Isolation is its ground. Assumes nothing.
 use mathlib.Core.Path.{◌≡◌, refl, sym, ap, ◌∙◌}
-use mathlib.Core.Logic.{◌⊎◌, ⊎_elim}
+use mathlib.Core.Logic.{⊎_elim}
 use mathlib.Core.Bool.{Bool, true, false, not, false≢true}
-use mathlib.Core.List.{List, [], ◌∷◌, map}
-use Prim.Native.Nat.{ℕ, ◌+◌, ◌/◌, ◌<◌, ◌≤◌}
+use mathlib.Core.List.{List, [], ◌∷◌}
+use Prim.Native.Nat.{ℕ, ◌+◌, ◌<◌}
 use native.Mathlib.Omega.{arith}
 use lib.ListN.{length, get_or, replicate, length-replicate}
 use lib.Seq.{ext_get_or}
@@ -14,28 +14,25 @@ use borrow.Author.Tests.{eqb-true}
 use Rattle.lists.specs.Run.{Ran, done, refused, All, act_all}
 use Rattle.lists.specs.Sums.{from}
 use Rattle.lists.specs.Occ.{occ}
-use Rattle.lists.specs.Tally.{tally, zeros, zeros_at, length_tally}
-use Rattle.lists.specs.Order as Order
+use Rattle.lists.specs.Tally.{zeros, zeros_at, length_tally}
 use Rattle.ranges.specs.Ranges.{cleared_of}
 use Rattle.ranges.proofs.RangeLaws.{length_cleared, cleared_in}
 use Rattle.panel.specs.Refusals.{done_no}
 use Rattle.panel.specs.Paths.{path_at, path_count, paths_answer}
-use Rattle.panel.specs.declared.kinds.Answer.{Answer}
-use Rattle.panel.specs.declared.kinds.Answer.TheVariants as Answer
+use Rattle.panel.specs.Answer.{Answer}
 use Rattle.acts.specs.Acts.{St}
 use Rattle.acts.specs.Line.{Refusal}
-use Rattle.kept_range.specs.Kept.{tiles_in, Out}
+use Rattle.kept_range.specs.Kept.{tiles_in}
 use Rattle.recount.specs.Recount.{recounted_of}
-use Rattle.recount.proofs.CallLaws.{Asked, asked_done}
-use Rattle.theorems.specs.Drawn.{Drawn, drawn_at, drawn, tiles_of, marks_of, is_of, of_path, InPath, OwnLine}
+use Rattle.recount.proofs.CallLaws.{asked_done}
+use Rattle.theorems.specs.Drawn.{Drawn, drawn, tiles_of, marks_of, is_of, InPath, OwnLine}
 use Rattle.theorems.specs.Events.{events_of, tiles_ev}
 use Rattle.theorems.specs.Refs.{AllCounted}
 use Rattle.theorems.proofs.SumLaws.{counted_all}
 use Rattle.theorems.proofs.BatchLaws.{length_all}
 use Rattle.theorems.proofs.Isolation.{marks_at, count_seen, back_seen, only, zero_at, seen_count, seen_back}
 use Rattle.recount_theorems.specs.Lines.{of_others, Replaced}
-use Rattle.recount_theorems.proofs.OwnLines.{AllOwned}
-use Rattle.recount_theorems.proofs.Elsewhere.{no_visit, no_mark, Went, went, missed, long_counts, long_backs, either, out, asked_here, AskedHere, ran, out_by, out_is, out_no}
+use Rattle.recount_theorems.proofs.Elsewhere.{no_visit, no_mark, Went, went, missed, long_counts, long_backs, either, asked_here, AskedHere, ran, out_by, out_is, out_no}
 
 -- ---- what a count leaves outside path p's range hangs on the lines of other paths alone
 

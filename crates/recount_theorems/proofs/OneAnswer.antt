@@ -1,13 +1,12 @@
 -- One answer only: what meets a recount's promise is fixed by it, answer and contents alike. Assumes nothing.
-use mathlib.Core.Path.{◌≡◌, refl, sym, ap, ◌∙◌}
-use mathlib.Core.List.{List, [], ◌∷◌}
+use mathlib.Core.Path.{◌≡◌, sym, ap, ◌∙◌}
+use mathlib.Core.List.{List}
 use Prim.Native.Nat.{ℕ}
 use native.Mathlib.Omega.{arith}
 use lib.IntN.{ℤ}
 use lib.Ieee.{Float}
 use Rattle.new_lines.specs.Own.{paper_of}
-use Rattle.new_lines.specs.declared.Recounted.{Recounted}
-use Rattle.new_lines.specs.declared.Recounted.TheVariants.{Done, Refused}
+use Rattle.new_lines.specs.Recounted.{Recounted, Done, Refused}
 use Rattle.kept_range.specs.Kept.{Out, out_of}
 use Rattle.recount.specs.Recount.{RecountMet}
 

@@ -1,8 +1,8 @@
 -- What a new line that is taken does, and all of them: as counting has it. A line's number need not be its place, so the line is read as if it were
 -- lent at the place of its number. Assumes nothing.
-use mathlib.Core.Path.{◌≡◌, refl, sym, ap, subst, ◌∙◌}
-use mathlib.Core.List.{List, [], ◌∷◌, ◌++◌, map}
-use Prim.Native.Nat.{ℕ, ◌+◌, ◌-◌, ◌*◌, ◌<◌}
+use mathlib.Core.Path.{◌≡◌, sym, ap, subst, ◌∙◌}
+use mathlib.Core.List.{List, [], ◌∷◌, map}
+use Prim.Native.Nat.{ℕ, ◌+◌, ◌*◌, ◌<◌}
 use native.Mathlib.Nat.{add-zero}
 use native.Mathlib.Omega.{arith}
 use lib.ListN.{length, get_or, replicate, length-replicate}
@@ -12,18 +12,17 @@ use Rattle.lists.specs.Run.{Step, taken, halted, done, run, run_cons_done, All, 
 use Rattle.lists.specs.Tally.{tally, zeros}
 use Rattle.lists.specs.Order as Order
 use Rattle.panel.specs.Widths.{line_floats}
-use Rattle.panel.specs.Paths.{path_at, path_count, paths_answer}
-use Rattle.panel.specs.declared.kinds.Answer.TheVariants.{Done}
+use Rattle.panel.specs.Paths.{path_count, paths_answer}
+use Rattle.panel.specs.Answer.{Done}
 use Rattle.panel.specs.Lines.{line_at}
 use Rattle.walk.specs.Lent.{walk_at}
-use Rattle.panel.specs.declared.lines.LineEnds.{LineEnds}
 use Rattle.acts.specs.Acts.{St}
 use Rattle.acts.specs.Line.{at_line}
 use Rattle.walked_lines.specs.Line.{line_step}
 use Rattle.new_lines.specs.Own.{own_step}
 use Rattle.new_lines.proofs.OwnLaws.{own_same, own_taken}
 use Rattle.theorems.specs.Drawn.{Drawn, drawn_at, walk_of, acts_by, tiles_of, marks_of, OwnLine}
-use Rattle.theorems.specs.Events.{Event, events_in, events_at}
+use Rattle.theorems.specs.Events.{events_in}
 use Rattle.theorems.proofs.Counting.{Moved, moved_append, lined}
 use Rattle.recount_theorems.specs.Lines.{own_events_at, own_events, lent_nos, lent_coords, four_of}
 

@@ -4,12 +4,12 @@ use mathlib.Core.Path.{◌≡◌, refl, sym, ap, ap₂, ◌∙◌}
 use mathlib.Core.Logic.{◌≢◌}
 use mathlib.Core.Bool.{Bool, true, false}
 use mathlib.Core.List.{List, [], ◌∷◌, ◌++◌, map}
-use Prim.Native.Nat.{ℕ, zero, suc, ◌+◌, ◌*◌, ◌/◌, ◌<◌, ◌≤◌}
+use Prim.Native.Nat.{ℕ, suc, ◌+◌, ◌<◌}
 use native.Mathlib.Omega.{arith}
 use lib.Dec.{eqb}
-use lib.ListN.{length, get_or, replicate, length-set, length-replicate}
+use lib.ListN.{length, get_or, length-set, length-replicate}
 use lib.Seq.{sets}
-use lib.IntN.{ℤ, pos}
+use lib.IntN.{ℤ}
 use lib.Ieee.{Float}
 use borrow.Author.Tests.{eqb-true, eqb-false}
 use Rattle.lists.specs.Run.{Ran, done, refused, All, sift, keep_if}
@@ -17,27 +17,23 @@ use Rattle.lists.specs.Sums.{from}
 use Rattle.lists.specs.Occ.{is_other}
 use Rattle.lists.specs.Tally.{bump, slices, bump_at, zeros, zeros_at, length_slices}
 use Rattle.ranges.proofs.RangeLaws.{length_cleared, cleared_in}
-use Rattle.panel.specs.Widths.{ref_words}
 use Rattle.panel.specs.Refusals.{done_no}
-use Rattle.panel.specs.Paths.{path_at, path_count, end_of, paths_answer}
-use Rattle.panel.specs.declared.kinds.Answer.{Answer}
-use Rattle.panel.specs.declared.kinds.Answer.TheVariants as Answer
+use Rattle.panel.specs.Paths.{path_at, path_count, paths_answer}
+use Rattle.panel.specs.Answer.{Answer}
 use Rattle.panel.proofs.PathLaws.{checked, one_path}
 use Rattle.acts.specs.Acts.{St}
 use Rattle.acts.specs.Line.{Refusal}
 use Rattle.kept_range.specs.Kept.{tiles_in, cleared_for}
 use Rattle.recount.specs.Recount.{recounted_of}
-use Rattle.recount.proofs.CallLaws.{Asked, asked_done}
+use Rattle.recount.proofs.CallLaws.{asked_done}
 use Rattle.theorems.specs.Drawn.{Drawn, drawn_at, drawn, walk_of, acts_by, is_of, of_path, InPath}
 use Rattle.theorems.specs.Events.{Event, EventOwn, events_in, events_at, events_of, tiles_ev, words_ev}
 use Rattle.theorems.specs.Refs.{AllCounted}
-use Rattle.theorems.proofs.Counting.{Moved, length_tiles}
+use Rattle.theorems.proofs.Counting.{length_tiles}
 use Rattle.theorems.proofs.SumLaws.{passed, counted_all}
 use Rattle.acts.specs.Acts as Acts
-use Rattle.recount_theorems.specs.Lines.{Replaced, own_events, own_events_at, numbers_of, Ref, paired, refs_from, words_of, of_lines}
-use Rattle.recount_theorems.proofs.OwnLines.{AllOwned}
+use Rattle.recount_theorems.specs.Lines.{own_events, numbers_of, Ref, paired, refs_from, words_of, of_lines}
 use Rattle.recount_theorems.proofs.Elsewhere.{Went, went, asked_here, AskedHere, ran, out_by, out_is, out_no}
-use Rattle.recount_theorems.proofs.Fresh.{many_counts, many_backs}
 
 -- ---- sifting
 

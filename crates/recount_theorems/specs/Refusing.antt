@@ -5,8 +5,8 @@ use Rattle.panel.specs.Limits.{most_lines}
 use Rattle.panel.specs.Refusals.{line_number, coordinate, no_such}
 use Rattle.panel.specs.Checks.{first_no}
 use Rattle.panel.specs.Paths.{paths_answer}
-use Rattle.panel.specs.declared.kinds.Verdict.TheVariants.{Fine}
-use Rattle.panel.specs.declared.kinds.Answer.TheVariants.{Done}
+use Rattle.panel.specs.Verdict.{Fine}
+use Rattle.panel.specs.Answer.{Done}
 use Rattle.panel.specs.Lines.{line_at}
 use Rattle.acts.specs.Acts.{St}
 use Rattle.acts.specs.Line.{Refusal, batch_of}

@@ -4,12 +4,11 @@ use Rattle.std.specs.Prelude.{◌≡◌, List, ℕ, ◌/◌, ◌<◌, length, ge
 use Rattle.lists.specs.Run.{done}
 use Rattle.panel.specs.Widths.{ref_words}
 use Rattle.panel.specs.Paths.{path_at}
-use Rattle.panel.specs.declared.kinds.Answer.TheVariants as Answer
+use Rattle.panel.specs.Answer as Answer
 use Rattle.acts.specs.Acts.{St, st_of}
 use Rattle.acts.specs.Line.{batch_of}
 use Rattle.new_lines.specs.Own.{own_step, lines_ran}
-use Rattle.new_lines.specs.declared.Recounted.{Recounted}
-use Rattle.new_lines.specs.declared.Recounted.TheVariants.{Done, Refused}
+use Rattle.new_lines.specs.Recounted.{Recounted, Done, Refused}
 use Rattle.kept_range.specs.Kept.{cleared_for, kept_from}
 use Rattle.recount.specs.Recount.{asked_of}
 use Rattle.recount_theorems.specs.Refusing.{AskedWhy, OwnWhy}

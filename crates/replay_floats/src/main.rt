@@ -5,42 +5,35 @@
 
 ghost use Rattle.std.specs.Prelude.{◌≤◌};
 
-use hexlist::words::{float, int, is_float, is_int, word};
-
-#[derive(Clone, Copy)]
-struct Tally {
-    compared: usize,
-    equal: usize,
-}
+use hexlist::tally::Tally;
+use hexlist::words::{Element, word};
 
 // How many operands a helper takes, by its number.
 fn operands(helper: u32) -> usize
     ensures { result ≤ 3 }
 {
-    if helper < 0x10 {
-        1
-    } else if helper < 0x20 {
-        2
-    } else {
-        3
+    match helper {
+        0..=0x0f => 1,
+        0x10..=0x1f => 2,
+        _ => 3,
     }
 }
 
 // Whether a helper of one operand gives the answer.
 fn one_right(helper: u32, w: u32, answer: u32) -> bool {
-    let x = float(w);
+    let x = f32::of_word(w);
     match helper {
-        0x01 => is_float(float32::floor(x), answer),
-        0x02 => is_float(float32::ceil(x), answer),
-        0x03 => is_float(float32::round(x), answer),
-        0x04 => is_float(float32::trunc(x), answer),
-        0x05 => is_float(float32::abs(x), answer),
-        0x06 => is_float(float32::signum(x), answer),
-        0x07 => float32::to_u32(x) == answer,
-        0x08 => is_int(float32::to_i32(x), answer),
-        0x09 => is_float(float32::of_u32(w), answer),
-        0x0a => is_float(float32::of_i32(int(w)), answer),
-        0x0b => one_if(float32::is_finite(x)) == answer as usize,
+        0x01 => float32::floor(x).is_word(answer),
+        0x02 => float32::ceil(x).is_word(answer),
+        0x03 => float32::round(x).is_word(answer),
+        0x04 => float32::trunc(x).is_word(answer),
+        0x05 => float32::abs(x).is_word(answer),
+        0x06 => float32::signum(x).is_word(answer),
+        0x07 => float32::to_u32(x).is_word(answer),
+        0x08 => float32::to_i32(x).is_word(answer),
+        0x09 => float32::of_u32(w).is_word(answer),
+        0x0a => float32::of_i32(i32::of_word(w)).is_word(answer),
+        0x0b => u32::from(float32::is_finite(x)) == answer,
         _ => false,
     }
 }
@@ -48,17 +41,11 @@ fn one_right(helper: u32, w: u32, answer: u32) -> bool {
 // The same of a helper of two operands.
 fn two_right(helper: u32, a: f32, b: f32, answer: u32) -> bool {
     match helper {
-        0x10 => is_float(float32::min(a, b), answer),
-        0x11 => is_float(float32::max(a, b), answer),
-        0x12 => is_float(float32::copysign(a, b), answer),
+        0x10 => float32::min(a, b).is_word(answer),
+        0x11 => float32::max(a, b).is_word(answer),
+        0x12 => float32::copysign(a, b).is_word(answer),
         _ => false,
     }
-}
-
-fn one_if(t: bool) -> usize
-    ensures { result ≤ 1 }
-{
-    if t { 1 } else { 0 }
 }
 
 // Whether the entry at `at` is right.
@@ -67,14 +54,18 @@ fn right(words: &[u32], at: usize) -> bool {
     let first = word(words, at, 1);
     let second = word(words, at, 2);
     let third = word(words, at, 3);
-    if helper < 0x10 {
-        return one_right(helper, first, second);
+    match operands(helper) {
+        1 => one_right(helper, first, second),
+        2 => two_right(helper, f32::of_word(first), f32::of_word(second), third),
+        _ => {
+            let clamped = float32::clamp(
+                f32::of_word(first),
+                f32::of_word(second),
+                f32::of_word(third),
+            );
+            (helper == 0x20) & clamped.is_word(word(words, at, 4))
+        }
     }
-    if helper < 0x20 {
-        return two_right(helper, float(first), float(second), third);
-    }
-    let clamped = float32::clamp(float(first), float(second), float(third));
-    (helper == 0x20) & is_float(clamped, word(words, at, 4))
 }
 
 // Every whole entry.
@@ -82,12 +73,13 @@ fn replay(words: &[u32]) -> Tally {
     let mut compared = 0;
     let mut equal = 0;
     let mut at = 0;
+    // an entry's own size moves the place
     while at < words.len() {
         let size = operands(word(words, at, 0)) + 2;
         if words.len() - at < size {
             break;
         }
-        equal += one_if(right(words, at));
+        equal += usize::from(right(words, at));
         compared += 1;
         at += size;
     }
@@ -97,10 +89,5 @@ fn replay(words: &[u32]) -> Tally {
 fn main() {
     let mut words = hexlist::input::room();
     let n = hexlist::input::read(&mut words);
-    let tally = replay(&words[..n]);
-    io::write_all(1, b"floats: ");
-    io::print_decimal(1, tally.compared as u64);
-    io::write_all(1, b" compared, ");
-    io::print_decimal(1, tally.equal as u64);
-    io::write_all(1, b" equal\n");
+    replay(&words[..n]).tell(b"floats");
 }

@@ -1,7 +1,8 @@
 // Kind 2: paths, backdrops*.
 use super::places::Row;
+use super::rooms::{INTS, WORDS, room, taken};
 use super::rows::Seen;
-use super::{places, rooms, rows};
+use super::{places, rows};
 
 #[derive(Clone, Copy)]
 struct Parts {
@@ -26,20 +27,19 @@ fn parts_at(words: &[u32], at: usize) -> Parts {
 
 // Whether the stage answers so.
 fn right(words: &[u32], at: Parts, paths: &mut [u32], backdrops: &mut [i32]) -> bool {
-    let whole = rows::put_words(words, at.paths, paths)
-        & rows::put_ints(words, at.backdrops, backdrops);
+    let whole = rows::put(words, at.paths, paths) & rows::put(words, at.backdrops, backdrops);
     let a = backdrop::backdrop(paths, backdrops);
     whole
         & rows::answers(words, at.answer, a)
-        & rows::same_ints(words, at.backdrops, at.later, backdrops)
+        & rows::same(words, at.backdrops, at.later, backdrops)
 }
 
 pub(crate) fn case(words: &[u32], at: usize) -> Seen {
     let p = parts_at(words, at);
-    let mut paths = rooms::words();
-    let mut backdrops = rooms::ints();
-    let np = rooms::of_words(p.paths, &paths);
-    let nb = rooms::of_ints(p.backdrops, &backdrops);
+    let mut paths = room::<u32, WORDS>();
+    let mut backdrops = room::<i32, INTS>();
+    let np = taken(p.paths, &paths);
+    let nb = taken(p.backdrops, &backdrops);
     Seen {
         next: places::after(words, p.later),
         equal: right(words, p, &mut paths[..np], &mut backdrops[..nb]),

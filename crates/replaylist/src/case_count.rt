@@ -1,11 +1,12 @@
 // Kind 1: path_nos, coords, paths, backdrops*, counts*, refs*; end, lines, made.
 use super::places::Row;
+use super::rooms::{FLOATS, INTS, WORDS, room, taken};
 use super::rows::Seen;
-use super::{places, rooms, rows};
+use super::{places, rows};
 use hexlist::words::word;
 use panel::kinds::Running;
 use panel::refusals::DONE;
-use path_count::Counted;
+use path_count::Stopped;
 
 // The slices that are lent to be changed: as they are lent, and afterwards.
 #[derive(Clone, Copy)]
@@ -66,10 +67,16 @@ fn told(words: &[u32], at: usize, number: u32, item: u32, running: Running) -> b
         & (running.refs == word(words, at, 3))
 }
 
-fn answers(words: &[u32], at: usize, a: Counted) -> bool {
+fn answers(words: &[u32], at: usize, a: Result<Running, Stopped>) -> bool {
     match a {
-        Counted::Done(running) => told(words, at, DONE, 0, running),
-        Counted::Refused(number, item, running) => told(words, at, number, item, running),
+        Ok(running) => told(words, at, DONE, 0, running),
+        Err(stopped) => told(
+            words,
+            at,
+            stopped.why.number(),
+            stopped.item,
+            stopped.running,
+        ),
     }
 }
 
@@ -88,15 +95,15 @@ fn put(
     counts: &mut [u32],
     refs: &mut [u32],
 ) -> bool {
-    rows::put_ints(words, at.backdrops, backdrops)
-        & rows::put_words(words, at.counts, counts)
-        & rows::put_words(words, at.refs, refs)
+    rows::put(words, at.backdrops, backdrops)
+        & rows::put(words, at.counts, counts)
+        & rows::put(words, at.refs, refs)
 }
 
 fn same(words: &[u32], at: Parts, backdrops: &[i32], counts: &[u32], refs: &[u32]) -> bool {
-    rows::same_ints(words, at.before.backdrops, at.later.backdrops, backdrops)
-        & rows::same_words(words, at.before.counts, at.later.counts, counts)
-        & rows::same_words(words, at.before.refs, at.later.refs, refs)
+    rows::same(words, at.before.backdrops, at.later.backdrops, backdrops)
+        & rows::same(words, at.before.counts, at.later.counts, counts)
+        & rows::same(words, at.before.refs, at.later.refs, refs)
 }
 
 // Whether the stage answers so, once the slices that it only reads are there.
@@ -134,12 +141,12 @@ fn right_of(
     coords: &[f32],
     paths: &[u32],
 ) -> bool {
-    let mut backdrops = rooms::ints();
-    let mut counts = rooms::words();
-    let mut refs = rooms::words();
-    let nb = rooms::of_ints(at.before.backdrops, &backdrops);
-    let nc = rooms::of_words(at.before.counts, &counts);
-    let nr = rooms::of_words(at.before.refs, &refs);
+    let mut backdrops = room::<i32, INTS>();
+    let mut counts = room::<u32, WORDS>();
+    let mut refs = room::<u32, WORDS>();
+    let nb = taken(at.before.backdrops, &backdrops);
+    let nc = taken(at.before.counts, &counts);
+    let nr = taken(at.before.refs, &refs);
     right(
         words,
         head,
@@ -162,20 +169,20 @@ fn lines_right(
     coords: &mut [f32],
     paths: &mut [u32],
 ) -> bool {
-    let whole = rows::put_words(words, at.path_nos, path_nos)
-        & rows::put_floats(words, at.coords, coords)
-        & rows::put_words(words, at.paths, paths);
+    let whole = rows::put(words, at.path_nos, path_nos)
+        & rows::put(words, at.coords, coords)
+        & rows::put(words, at.paths, paths);
     whole & right_of(words, head, at, path_nos, coords, paths)
 }
 
 pub(crate) fn case(words: &[u32], at: usize) -> Seen {
     let p = parts_at(words, at);
-    let mut path_nos = rooms::words();
-    let mut coords = rooms::floats();
-    let mut paths = rooms::words();
-    let nn = rooms::of_words(p.path_nos, &path_nos);
-    let nc = rooms::of_floats(p.coords, &coords);
-    let np = rooms::of_words(p.paths, &paths);
+    let mut path_nos = room::<u32, WORDS>();
+    let mut coords = room::<f32, FLOATS>();
+    let mut paths = room::<u32, WORDS>();
+    let nn = taken(p.path_nos, &path_nos);
+    let nc = taken(p.coords, &coords);
+    let np = taken(p.paths, &paths);
     Seen {
         next: places::after(words, p.later.refs),
         equal: lines_right(

@@ -1,9 +1,10 @@
 // Kind 6: words, segments, pixels*; width, cols, rows, from, to.
 use super::places::Row;
+use super::rooms::{FLOATS, LONG_WORDS, PIXELS, room, taken};
 use super::rows::Seen;
-use super::{places, rooms, rows};
+use super::{places, rows};
 use hexlist::words::word;
-use panel::kinds::Answer;
+use panel::kinds::Refused;
 
 #[derive(Clone, Copy)]
 struct Parts {
@@ -36,7 +37,7 @@ fn fine_at(
     commands: &[u32],
     segments: &[f32],
     pixels: &mut [u32],
-) -> Answer {
+) -> Result<(), Refused> {
     fine::fine(
         commands,
         segments,
@@ -58,23 +59,21 @@ fn right(
     segments: &mut [f32],
     pixels: &mut [u32],
 ) -> bool {
-    let whole = rows::put_words(words, at.commands, commands)
-        & rows::put_floats(words, at.segments, segments)
-        & rows::put_words(words, at.pixels, pixels);
+    let whole = rows::put(words, at.commands, commands)
+        & rows::put(words, at.segments, segments)
+        & rows::put(words, at.pixels, pixels);
     let a = fine_at(words, head, commands, segments, pixels);
-    whole
-        & rows::answers(words, at.answer, a)
-        & rows::same_words(words, at.pixels, at.later, pixels)
+    whole & rows::answers(words, at.answer, a) & rows::same(words, at.pixels, at.later, pixels)
 }
 
 pub(crate) fn case(words: &[u32], at: usize) -> Seen {
     let p = parts_at(words, at);
-    let mut commands = rooms::long_words();
-    let mut segments = rooms::floats();
-    let mut pixels = rooms::pixels();
-    let nc = rooms::of_words(p.commands, &commands);
-    let ns = rooms::of_floats(p.segments, &segments);
-    let np = rooms::of_words(p.pixels, &pixels);
+    let mut commands = room::<u32, LONG_WORDS>();
+    let mut segments = room::<f32, FLOATS>();
+    let mut pixels = room::<u32, PIXELS>();
+    let nc = taken(p.commands, &commands);
+    let ns = taken(p.segments, &segments);
+    let np = taken(p.pixels, &pixels);
     Seen {
         next: places::after(words, p.later),
         equal: right(

@@ -1,7 +1,8 @@
 // Kind 3: counts*, tally*; room.
 use super::places::Row;
+use super::rooms::{WORDS, room, taken};
 use super::rows::Seen;
-use super::{places, rooms, rows};
+use super::{places, rows};
 use hexlist::words::word;
 
 #[derive(Clone, Copy)]
@@ -30,20 +31,20 @@ fn parts_at(words: &[u32], at: usize) -> Parts {
 
 // Whether the stage answers so.
 fn right(words: &[u32], at: Parts, room: u32, counts: &mut [u32], tally: &mut [u32]) -> bool {
-    let whole = rows::put_words(words, at.counts, counts) & rows::put_words(words, at.tally, tally);
+    let whole = rows::put(words, at.counts, counts) & rows::put(words, at.tally, tally);
     let a = hand_out::hand_out(counts, tally, room);
     whole
         & rows::answers(words, at.answer, a)
-        & rows::same_words(words, at.counts, at.counts_later, counts)
-        & rows::same_words(words, at.tally, at.tally_later, tally)
+        & rows::same(words, at.counts, at.counts_later, counts)
+        & rows::same(words, at.tally, at.tally_later, tally)
 }
 
 pub(crate) fn case(words: &[u32], at: usize) -> Seen {
     let p = parts_at(words, at);
-    let mut counts = rooms::words();
-    let mut tally = rooms::words();
-    let nc = rooms::of_words(p.counts, &counts);
-    let nt = rooms::of_words(p.tally, &tally);
+    let mut counts = room::<u32, WORDS>();
+    let mut tally = room::<u32, WORDS>();
+    let nc = taken(p.counts, &counts);
+    let nt = taken(p.tally, &tally);
     Seen {
         next: places::after(words, p.tally_later),
         equal: right(

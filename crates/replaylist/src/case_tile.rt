@@ -1,7 +1,8 @@
 // Kind 4: path_nos, coords, paths, stored, refs, segments*, tags*; from, to.
 use super::places::Row;
+use super::rooms::{FLOATS, WORDS, room, taken};
 use super::rows::Seen;
-use super::{places, rooms, rows};
+use super::{places, rows};
 use hexlist::words::word;
 
 #[derive(Clone, Copy)]
@@ -52,16 +53,16 @@ fn put(
     segments: &mut [f32],
     tags: &mut [u32],
 ) -> bool {
-    rows::put_words(words, at.stored, stored)
-        & rows::put_words(words, at.refs, refs)
-        & rows::put_floats(words, at.segments, segments)
-        & rows::put_words(words, at.tags, tags)
+    rows::put(words, at.stored, stored)
+        & rows::put(words, at.refs, refs)
+        & rows::put(words, at.segments, segments)
+        & rows::put(words, at.tags, tags)
 }
 
 // What is lent to be changed, compared afterwards.
 fn same(words: &[u32], at: Parts, segments: &[f32], tags: &[u32]) -> bool {
-    rows::same_floats(words, at.segments, at.later, segments)
-        & rows::same_words(words, at.tags, at.tags_later, tags)
+    rows::same(words, at.segments, at.later, segments)
+        & rows::same(words, at.tags, at.tags_later, tags)
 }
 
 // Whether the stage answers so, once path_nos, coords and paths are there.
@@ -101,14 +102,14 @@ fn right_of(
     coords: &[f32],
     paths: &[u32],
 ) -> bool {
-    let mut stored = rooms::words();
-    let mut refs = rooms::words();
-    let mut segments = rooms::floats();
-    let mut tags = rooms::words();
-    let ni = rooms::of_words(at.stored, &stored);
-    let nr = rooms::of_words(at.refs, &refs);
-    let ns = rooms::of_floats(at.segments, &segments);
-    let nt = rooms::of_words(at.tags, &tags);
+    let mut stored = room::<u32, WORDS>();
+    let mut refs = room::<u32, WORDS>();
+    let mut segments = room::<f32, FLOATS>();
+    let mut tags = room::<u32, WORDS>();
+    let ni = taken(at.stored, &stored);
+    let nr = taken(at.refs, &refs);
+    let ns = taken(at.segments, &segments);
+    let nt = taken(at.tags, &tags);
     right(
         words,
         head,
@@ -132,20 +133,20 @@ fn lines_right(
     coords: &mut [f32],
     paths: &mut [u32],
 ) -> bool {
-    let whole = rows::put_words(words, at.path_nos, path_nos)
-        & rows::put_floats(words, at.coords, coords)
-        & rows::put_words(words, at.paths, paths);
+    let whole = rows::put(words, at.path_nos, path_nos)
+        & rows::put(words, at.coords, coords)
+        & rows::put(words, at.paths, paths);
     whole & right_of(words, head, at, path_nos, coords, paths)
 }
 
 pub(crate) fn case(words: &[u32], at: usize) -> Seen {
     let p = parts_at(words, at);
-    let mut path_nos = rooms::words();
-    let mut coords = rooms::floats();
-    let mut paths = rooms::words();
-    let nn = rooms::of_words(p.path_nos, &path_nos);
-    let nc = rooms::of_floats(p.coords, &coords);
-    let np = rooms::of_words(p.paths, &paths);
+    let mut path_nos = room::<u32, WORDS>();
+    let mut coords = room::<f32, FLOATS>();
+    let mut paths = room::<u32, WORDS>();
+    let nn = taken(p.path_nos, &path_nos);
+    let nc = taken(p.coords, &coords);
+    let np = taken(p.paths, &paths);
     Seen {
         next: places::after(words, p.tags_later),
         equal: lines_right(

@@ -14,4 +14,5 @@ mod replay;
 mod rooms;
 mod rows;
 
-pub use replay::{Tally, run};
+pub use hexlist::tally::Tally;
+pub use replay::run;

@@ -15,12 +15,7 @@ pub struct Row {
 pub fn past(words: &[u32], at: usize, n: usize) -> usize
     ensures { result ≤ length words.now }
 {
-    if at < words.len() {
-        if n < words.len() - at {
-            return at + n;
-        }
-    }
-    words.len()
+    at.saturating_add(n).min(words.len())
 }
 
 // The place after a row.

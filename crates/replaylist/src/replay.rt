@@ -2,20 +2,8 @@
 ghost use Rattle.std.specs.Prelude.{◌≤◌};
 
 use super::rows::Seen;
+use hexlist::tally::Tally;
 use hexlist::words::word;
-
-// Cases compared, and those found equal.
-#[derive(Clone, Copy)]
-pub struct Tally {
-    pub compared: usize,
-    pub equal: usize,
-}
-
-fn one_if(t: bool) -> usize
-    ensures { result ≤ 1 }
-{
-    if t { 1 } else { 0 }
-}
 
 // The case at `at`, by its stage's number. Of a stage that isn't here nothing is equal.
 fn case(words: &[u32], at: usize) -> Seen {
@@ -40,12 +28,13 @@ fn replay(words: &[u32]) -> Tally
     let mut compared = 0;
     let mut equal = 0;
     let mut at = 0;
+    // each case says where the next one begins
     while at < words.len() {
         let seen = case(words, at);
         if seen.next <= at {
             break;
         }
-        equal += one_if(seen.equal);
+        equal += usize::from(seen.equal);
         compared += 1;
         at = seen.next;
     }
@@ -60,11 +49,6 @@ pub fn run(name: &[u8]) -> Tally
     let mut words = hexlist::input::room();
     let n = hexlist::input::read(&mut words);
     let tally = replay(&words[..n]);
-    io::write_all(1, name);
-    io::write_all(1, b": ");
-    io::print_decimal(1, tally.compared as u64);
-    io::write_all(1, b" compared, ");
-    io::print_decimal(1, tally.equal as u64);
-    io::write_all(1, b" equal\n");
+    tally.tell(name);
     tally
 }

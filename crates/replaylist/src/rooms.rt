@@ -5,55 +5,27 @@ ghost use Rattle.replaylist.specs.Counts.{Counts};
 
 use super::places::Row;
 use hexlist::rows::length;
+use hexlist::words::Element;
 
-pub fn words() -> [u32; 512]
-    ensures { 512 ≡ length_of result }
-{
-    [0; 512]
-}
+pub const WORDS: usize = 512;
 
 // Of commands.
-pub fn long_words() -> [u32; 16384]
-    ensures { 16384 ≡ length_of result }
+pub const LONG_WORDS: usize = 16384;
+
+pub const PIXELS: usize = 2048;
+
+pub const INTS: usize = 512;
+
+pub const FLOATS: usize = 1024;
+
+pub fn room<T: Element, const N: usize>() -> [T; N]
+    ensures { N ≡ length_of result }
 {
-    [0; 16384]
+    [T::of_word(0); N]
 }
 
-pub fn pixels() -> [u32; 2048]
-    ensures { 2048 ≡ length_of result }
-{
-    [0; 2048]
-}
-
-pub fn ints() -> [i32; 512]
-    ensures { 512 ≡ length_of result }
-{
-    [0; 512]
-}
-
-pub fn floats() -> [f32; 1024]
-    ensures { 1024 ≡ length_of result }
-{
-    [0.0; 1024]
-}
-
-pub fn of_words(row: Row, room: &[u32]) -> usize
+pub fn taken<T>(row: Row, room: &[T]) -> usize
     ensures { Counts result room.now }
 {
-    let n = length(row.code);
-    if n <= room.len() { n } else { room.len() }
-}
-
-pub fn of_ints(row: Row, room: &[i32]) -> usize
-    ensures { Counts result room.now }
-{
-    let n = length(row.code);
-    if n <= room.len() { n } else { room.len() }
-}
-
-pub fn of_floats(row: Row, room: &[f32]) -> usize
-    ensures { Counts result room.now }
-{
-    let n = length(row.code);
-    if n <= room.len() { n } else { room.len() }
+    length(row.code).min(room.len())
 }

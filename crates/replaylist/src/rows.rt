@@ -2,8 +2,8 @@
 // never right: so a case that is too long for its rooms isn't equal.
 use super::places::Row;
 use hexlist::rows::{AS_BEFORE, length};
-use hexlist::words::word;
-use panel::kinds::{Answer, item, number};
+use hexlist::words::{Element, word};
+use panel::kinds::{Refused, item, number};
 
 // What a case showed: where the next one begins, and whether all was equal.
 #[derive(Clone, Copy)]
@@ -17,18 +17,8 @@ fn whole(row: Row, n: usize) -> bool {
     length(row.code) == n
 }
 
-pub(crate) fn put_words(words: &[u32], row: Row, out: &mut [u32]) -> bool {
-    hexlist::rows::put_words(words, row.base, row.code, out);
-    whole(row, out.len())
-}
-
-pub(crate) fn put_ints(words: &[u32], row: Row, out: &mut [i32]) -> bool {
-    hexlist::rows::put_ints(words, row.base, row.code, out);
-    whole(row, out.len())
-}
-
-pub(crate) fn put_floats(words: &[u32], row: Row, out: &mut [f32]) -> bool {
-    hexlist::rows::put_floats(words, row.base, row.code, out);
+pub(crate) fn put<T: Element>(words: &[u32], row: Row, out: &mut [T]) -> bool {
+    hexlist::rows::put(words, row.base, row.code, out);
     whole(row, out.len())
 }
 
@@ -41,22 +31,12 @@ fn told(before: Row, later: Row) -> Row {
     }
 }
 
-pub(crate) fn same_words(words: &[u32], before: Row, later: Row, found: &[u32]) -> bool {
+pub(crate) fn same<T: Element>(words: &[u32], before: Row, later: Row, found: &[T]) -> bool {
     let row = told(before, later);
-    whole(row, found.len()) & hexlist::rows::same_words(words, row.base, row.code, found)
-}
-
-pub(crate) fn same_ints(words: &[u32], before: Row, later: Row, found: &[i32]) -> bool {
-    let row = told(before, later);
-    whole(row, found.len()) & hexlist::rows::same_ints(words, row.base, row.code, found)
-}
-
-pub(crate) fn same_floats(words: &[u32], before: Row, later: Row, found: &[f32]) -> bool {
-    let row = told(before, later);
-    whole(row, found.len()) & hexlist::rows::same_floats(words, row.base, row.code, found)
+    whole(row, found.len()) & hexlist::rows::same(words, row.base, row.code, found)
 }
 
 // Whether an answer is the one at `at`: the refusal's number and the item's.
-pub(crate) fn answers(words: &[u32], at: usize, a: Answer) -> bool {
+pub(crate) fn answers(words: &[u32], at: usize, a: Result<(), Refused>) -> bool {
     (number(a) == word(words, at, 0)) & (item(a) == word(words, at, 1))
 }

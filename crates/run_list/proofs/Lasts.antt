@@ -9,20 +9,29 @@ use lib.ListN.{length, get_or}
 use lib.Ieee.{Float}
 use borrow.Author.Tests.{le-leb, eqb-true}
 use Rattle.float32.proofs.Tests.{first, second}
+use Rattle.std.specs.Prelude.{Result, Ok, Err, IsErrAnd, Option}
 use Rattle.panel.specs.Limits.{most_commands}
-use Rattle.panel.specs.declared.kinds.Verdict.TheVariants.{Fine}
+use Rattle.panel.specs.Refusals.{no_of}
+use Rattle.panel.specs.declared.refusals.Refusal.{Refusal}
+use Rattle.panel.specs.Verdict.{Fine}
 use Rattle.reader.specs.Look.{look_at}
-use Rattle.reader.specs.declared.Look.{Look}
-use Rattle.reader.specs.declared.Look.TheVariants.{Word, Past}
+use Rattle.reader.specs.Looked.{Look}
+use Rattle.reader.specs.Looked.{Word, Past}
 use Rattle.colours.specs.Colour.{colour_of, composite_of}
 use Rattle.commands.specs.Numbers.{color_no, color_words}
 use Rattle.commands.specs.Moves.{op_of, whole_move, move_of, Trace, ends, does, trace_of}
 use Rattle.commands.specs.Pixel.{paint, paint_all, cover_all, Ran, ran}
 use Rattle.commands.specs.Alike.{is_end, ends_here, left}
 use Rattle.commands.specs.declared.steps.Act.TheVariants.{Color}
-use Rattle.commands.specs.declared.steps.Move.TheVariants.{Goes}
+use Rattle.commands.specs.Move.{Goes}
+use Rattle.run_list.specs.Stop.{stop_told, Against}
 use Rattle.commands.proofs.Traced.{found, more, trace_goes, left_ends, left_does}
 use Rattle.commands.proofs.AlikeLaws.{end_here}
+
+-- a refusal that `?` hands on
+pub handed_on : (r : Result (Option ℕ) Refusal) (why : Refusal) → IsErrAnd r (λ e. e ≡ why) → stop_told r ≡ Against (no_of why)
+handed_on (Ok x) why h = absurd h
+handed_on (Err e) why h = ap (λ (e : Refusal). Against (no_of e)) h
 
 -- where END stands, the place is among the words
 end_room : (ws : List ℕ) (at : ℕ) → ends_here ws at ≡ true → at < length ws

@@ -1,2 +1,3 @@
 -- How far a tile's commands were carried out. Definitions only.
 pub mod Stopped
+pub mod Stop

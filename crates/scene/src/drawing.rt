@@ -1,7 +1,7 @@
 // The panel: four strips, three of them of traces, each with a dial beside it. The fourth is a channel that is
 // shown as faulty: a fault mark stands in the place of its trace. The path of each part is that of paths.rt.
 use super::pen::{Pen, start};
-use super::{labels, letters, readings};
+use super::{letters, readings};
 
 // The strips begin here, are so wide and high, and lie so far apart.
 const LEFT: f32 = 40.0;
@@ -131,31 +131,25 @@ fn hubs(pen: Pen) -> Pen {
 
 // Above each strip its beams' names.
 fn names(pen: Pen) -> Pen {
-    let first = labels::tenor(
-        labels::treble(pen.of(17), LEFT, 13.0, 1.0),
-        136.0,
-        13.0,
-        1.0,
-    );
-    let second = labels::sill(first, LEFT, 141.0, 1.0);
-    labels::wall(labels::tower(second, LEFT, 269.0, 1.0), LEFT, 397.0, 1.0)
+    pen.of(17)
+        .word(b"TREBLE", LEFT, 13.0, 1.0)
+        .word(b"TENOR", 136.0, 13.0, 1.0)
+        .word(b"SILL", LEFT, 141.0, 1.0)
+        .word(b"TOWER", LEFT, 269.0, 1.0)
+        .word(b"WALL", LEFT, 397.0, 1.0)
 }
 
 // Seven bars of a fault mark, from x on.
-fn bars(pen: Pen, x: f32) -> Pen {
-    pen.outline(&letters::BAR, x, TOP_4, 1.0)
-        .outline(&letters::BAR, x + 47.0, TOP_4, 1.0)
-        .outline(&letters::BAR, x + 94.0, TOP_4, 1.0)
-        .outline(&letters::BAR, x + 141.0, TOP_4, 1.0)
-        .outline(&letters::BAR, x + 188.0, TOP_4, 1.0)
-        .outline(&letters::BAR, x + 235.0, TOP_4, 1.0)
-        .outline(&letters::BAR, x + 282.0, TOP_4, 1.0)
+fn bars(mut pen: Pen, x: f32) -> Pen {
+    for i in 0..7u8 {
+        pen = pen.outline(&letters::BAR, x + 47.0 * f32::from(i), TOP_4, 1.0);
+    }
+    pen
 }
 
 // The fault mark: hatching in a colour that no trace has, and the word in the dial's place.
 fn fault(pen: Pen) -> Pen {
-    let hatched = bars(bars(pen.of(18), 42.0), 371.0);
-    labels::fault(hatched, 778.0, 454.0, 2.0)
+    bars(bars(pen.of(18), 42.0), 371.0).word(b"FAULT", 778.0, 454.0, 2.0)
 }
 
 pub(crate) fn panel() -> Pen {

@@ -16,7 +16,7 @@ pub struct Pen {
 
 // A reading, or a count, as a float.
 fn number(b: u8) -> f32 {
-    b as f32
+    f32::from(b)
 }
 
 pub(crate) fn start() -> Pen {
@@ -73,11 +73,9 @@ impl Pen {
     // n blocks, each dx and dy further on.
     pub(crate) fn blocks(self, n: u8, x: f32, y: f32, w: f32, h: f32, dx: f32, dy: f32) -> Self {
         let mut pen = self;
-        let mut i: u8 = 0;
-        while i < n {
+        for i in 0..n {
             let k = number(i);
             pen = pen.block(x + dx * k, y + dy * k, w, h);
-            i += 1;
         }
         pen
     }
@@ -95,12 +93,10 @@ impl Pen {
     ) -> Self {
         let mut pen = self.move_to(x, y);
         let mut at = x;
-        let mut i = 0;
-        while i < readings.len() {
-            let high = unit * (number(readings[i]) - rest);
+        for reading in readings {
+            let high = unit * (number(*reading) - rest);
             pen = pen.line_to(at, y - high);
             at += step;
-            i += 1;
         }
         pen.line_to(at - step, y).line_to(x, y)
     }
@@ -113,12 +109,10 @@ impl Pen {
         let left = x + unit * (number(points[0]) - 128.0);
         let top = y + unit * (number(points[1]) - 128.0);
         let mut pen = self.move_to(left, top);
-        let mut i = 1;
-        while i < points.len() / 2 {
+        for i in 1..points.len() / 2 {
             let px = x + unit * (number(points[2 * i]) - 128.0);
             let py = y + unit * (number(points[2 * i + 1]) - 128.0);
             pen = pen.line_to(px, py);
-            i += 1;
         }
         pen.line_to(left, top)
     }

@@ -1,44 +1,39 @@
 // The scene through all stages. Each function runs a stage or two on the memory lent to it, makes the
 // room for the next, and goes on. A refusal, which the scene doesn't meet, is told and ends it.
+use super::drawing;
 use super::paths::{COLS, PAINTS, PATHS, ROWS};
-use super::pen::LINES;
-use super::{drawing, rooms};
-use panel::kinds::{Running, number};
-use path_count::Counted;
-use ppm_write::Written;
+use super::rooms::{BYTES, PIXELS, SEGMENT_FLOATS, SLOTS, TILES, WORDS, room};
+use panel::kinds::Running;
+use panel::refusals::Refusal;
 
 // Standard output, as io takes it.
 const STDOUT_FILENO: i32 = 1;
 
-// Slots that the room of segments has.
-const SLOTS: u32 = 8192;
-
 const TILE_SIDE: u32 = 16;
 
-fn refused(stage: &[u8], no: u32) {
+fn tell(stage: &[u8], why: Refusal) {
     io::write_all(STDOUT_FILENO, stage);
     io::write_all(STDOUT_FILENO, b" refused: ");
-    io::print_decimal(STDOUT_FILENO, no as u64);
+    io::print_decimal(STDOUT_FILENO, u64::from(why.number()));
     io::write_all(STDOUT_FILENO, b"\n");
 }
 
 // The first n bytes, on standard output.
 fn show(file: &[u8], n: usize) {
-    if n <= file.len() {
-        io::write_all(STDOUT_FILENO, &file[..n]);
+    if let Some(bytes) = file.get(..n) {
+        io::write_all(STDOUT_FILENO, bytes);
     }
 }
 
 fn put_on_paper(pixels: &[u32], file: &mut [u8]) {
-    let w = ppm_write::write(pixels, TILE_SIDE * COLS, TILE_SIDE * ROWS, file);
-    match w {
-        Written::Done(n) => show(file, n),
-        Written::Refused(no) => refused(b"the writer", no),
+    match ppm_write::write(pixels, TILE_SIDE * COLS, TILE_SIDE * ROWS, file) {
+        Ok(n) => show(file, n),
+        Err(why) => tell(b"the writer", why),
     }
 }
 
 fn paint(words: &[u32], segments: &[f32], pixels: &mut [u32]) {
-    let no = number(fine::fine(
+    let painted = fine::fine(
         words,
         segments,
         TILE_SIDE * COLS,
@@ -47,22 +42,30 @@ fn paint(words: &[u32], segments: &[f32], pixels: &mut [u32]) {
         0,
         COLS * ROWS,
         pixels,
-    ));
-    if no != 0 {
-        return refused(b"fine", no);
+    );
+    if let Err(refused) = painted {
+        return tell(b"fine", refused.why);
     }
-    let mut file = rooms::file();
+    let mut file = room::<u8, BYTES>(0);
     put_on_paper(pixels, &mut file);
 }
 
 fn list(backdrops: &[i32], tiles: &[u32], tally: &[u32], segments: &[f32], words: &mut [u32]) {
-    let no = number(write_lists::write_lists(
-        &PATHS, &PAINTS, backdrops, tiles, tally, COLS, ROWS, SLOTS, words,
-    ));
-    if no != 0 {
-        return refused(b"the lists", no);
+    let listed = write_lists::write_lists(
+        &PATHS,
+        &PAINTS,
+        backdrops,
+        tiles,
+        tally,
+        COLS,
+        ROWS,
+        SLOTS as u32,
+        words,
+    );
+    if let Err(refused) = listed {
+        return tell(b"the lists", refused.why);
     }
-    let mut pixels = rooms::pixels();
+    let mut pixels = room::<u32, PIXELS>(0);
     paint(words, segments, &mut pixels);
 }
 
@@ -77,13 +80,13 @@ fn tile(
     segments: &mut [f32],
     tags: &mut [u32],
 ) {
-    let no = number(path_tiling::tile(
+    let tiled = path_tiling::tile(
         0, made, path_nos, coords, &PATHS, tiles, refs, segments, tags,
-    ));
-    if no != 0 {
-        return refused(b"tiling", no);
+    );
+    if let Err(refused) = tiled {
+        return tell(b"tiling", refused.why);
     }
-    let mut words = rooms::words();
+    let mut words = room::<u32, WORDS>(0);
     list(backdrops, tiles, tally, segments, &mut words);
 }
 
@@ -96,16 +99,14 @@ fn sum_and_hand_out(
     tally: &mut [u32],
     refs: &[u32],
 ) {
-    let sums = number(backdrop::backdrop(&PATHS, backdrops));
-    if sums != 0 {
-        return refused(b"backdrop", sums);
+    if let Err(refused) = backdrop::backdrop(&PATHS, backdrops) {
+        return tell(b"backdrop", refused.why);
     }
-    let slots = number(hand_out::hand_out(tiles, tally, SLOTS));
-    if slots != 0 {
-        return refused(b"hand-out", slots);
+    if let Err(refused) = hand_out::hand_out(tiles, tally, SLOTS as u32) {
+        return tell(b"hand-out", refused.why);
     }
-    let mut segments = rooms::segments();
-    let mut tags = rooms::tags();
+    let mut segments = room::<f32, SEGMENT_FLOATS>(0.0);
+    let mut tags = room::<u32, SLOTS>(0);
     tile(
         made,
         path_nos,
@@ -128,32 +129,35 @@ fn count(
     refs: &mut [u32],
 ) {
     let from = Running { lines: 0, refs: 0 };
-    let c = path_count::count(
+    let counted = path_count::count(
         from, lines, path_nos, coords, &PATHS, backdrops, tiles, refs,
     );
-    match c {
-        Counted::Done(r) => {
-            let mut tally = rooms::tiles();
-            sum_and_hand_out(r.refs, path_nos, coords, backdrops, tiles, &mut tally, refs)
+    match counted {
+        Ok(running) => {
+            let mut tally = room::<u32, TILES>(0);
+            sum_and_hand_out(
+                running.refs,
+                path_nos,
+                coords,
+                backdrops,
+                tiles,
+                &mut tally,
+                refs,
+            )
         }
-        Counted::Refused(no, _, _) => refused(b"counting", no),
+        Err(stopped) => tell(b"counting", stopped.why),
     }
-}
-
-// A number of lines, as counting takes it.
-fn narrow(n: usize) -> u32 {
-    if n <= LINES { n as u32 } else { 0 }
 }
 
 pub(crate) fn draw() {
     let pen = drawing::panel();
     let path_nos = pen.path_nos;
     let coords = pen.coords;
-    let mut backdrops = rooms::backdrops();
-    let mut tiles = rooms::tiles();
-    let mut refs = rooms::refs();
+    let mut backdrops = room::<i32, TILES>(0);
+    let mut tiles = room::<u32, TILES>(0);
+    let mut refs = room::<u32, TILES>(0);
     count(
-        narrow(pen.lines),
+        u32::try_from(pen.lines).unwrap_or(0),
         &path_nos,
         &coords,
         &mut backdrops,

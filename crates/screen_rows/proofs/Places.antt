@@ -12,8 +12,10 @@ use borrow.Author.Tests.{le-leb, lt-leb, lt-ltb, le-ltb, eq-eqb, ne_eqb, eqb-tru
 use Rattle.lists.specs.Grid.{mapi, within}
 use Rattle.lists.specs.GridLaws.{le_or_lt, mapi_mapi}
 use Rattle.commands.proofs.Acts.{mapi_cong, unchanged}
+use lib.Ieee.{Float}
+use Rattle.colours.specs.Colour.{pack_of}
 use Rattle.sides.specs.Tile.{tile_width, tile_height}
-use Rattle.screen_rows.specs.Rows.{in_tile, place_of, row_at, put_tile}
+use Rattle.screen_rows.specs.Rows.{in_tile, place_of, row_at, put_tile, packed, GivesAt}
 
 -- w * Y + r, with r below w
 divided : (w Y r : ℕ) → r < w → ((w * Y + r) / w ≡ Y) × ((w * Y + r) % w ≡ r)
@@ -48,6 +50,11 @@ module _ (w tx ty y : ℕ) (hy : y < tile_height) (hw : tile_width * tx + tile_w
 
   pub place_in_row : (x : ℕ) → x < tile_width → place_of w (row_at w tx ty y + x) ≡ tile_width * y + x
   place_in_row x hx = let h = in_row x hx in rw (h.0, h.1) (omega arith)
+
+  -- a row whose words are told by their columns, of colours that are told by the tile's pixel
+  pub by_colours : (f : ℕ → List Float) (gives : ℕ → ℕ → Type 0) → ((x word : ℕ) → x < tile_width → gives x word → word ≡ pack_of (f (tile_width * y + x)))
+      → GivesAt gives (row_at w tx ty y) (packed f w)
+  by_colours f gives e x word old h given = e x word h given ∙ ap (λ (k : ℕ). pack_of (f k)) (sym (place_in_row x h))
 
   pub inside : (p : ℕ) → row_at w tx ty y ≤ p → p < row_at w tx ty y + tile_width → (p % w / tile_width ≡ tx) × (p / w / tile_height ≡ ty) × (p / w % tile_height ≡ y)
   inside p lo hi =

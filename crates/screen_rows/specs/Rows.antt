@@ -33,6 +33,10 @@ from_list rgba width p old = packed (λ k. get_or rgba k []) width p old
 abbrev pub one_word : ℕ → ℕ → ℕ → ℕ
 one_word word p old = word
 
+-- what the row from `first` on gets, where its words are told by their columns: what the functions of a row tell each other, no promise leans on it
+abbrev pub GivesAt : (ℕ → ℕ → Type 0) → ℕ → (ℕ → ℕ → ℕ) → Type 0
+GivesAt gives first new = (x word old : ℕ) → x < tile_width → gives x word → word ≡ new (first + x) old
+
 -- one word stands for all pixels of a row, from the first on: what the functions of a row tell each other, no promise leans on it
 abbrev pub OneWord : List (List Float) → ℕ → Type 0
 OneWord rgba first = (x : ℕ) → x < tile_width → pack_of (get_or rgba (first + x) []) ≡ pack_of (get_or rgba first [])

@@ -1,13 +1,13 @@
 // A screen tile's rows, flat or not: how their colours start, and how they are packed into the screen's pixels.
 #![tactic(auto)]
 
-ghost use Rattle.std.specs.Prelude.{◌≡◌, ◌+◌, ◌*◌, ◌≤◌, ◌<◌, length};
+ghost use Rattle.std.specs.Prelude.{ℕ, ◌≡◌, ◌+◌, ◌*◌, ◌≤◌, ◌<◌, length};
 ghost use Rattle.lists.specs.Grid.{mapi, within};
 ghost use Rattle.panel.specs.Limits.{most_tiles};
 ghost use Rattle.sides.specs.Tile.{tile_width, tile_height, tile_size};
 ghost use Rattle.colours.specs.Layer.{meant};
 ghost use Rattle.commands.specs.Alike.{same_colour};
-ghost use Rattle.screen_rows.specs.Rows.{all_flat, one_word, row_at, from_list, put_tile};
+ghost use Rattle.screen_rows.specs.Rows.{all_flat, one_word, row_at, from_list, put_tile, GivesAt};
 
 use colours::pack;
 use sides::{TILE_HEIGHT, TILE_SIZE, TILE_WIDTH};
@@ -24,11 +24,29 @@ pub fn start_rows(rgba: &mut [[f32; 4]; TILE_SIZE], px: [f32; 4])
     requires { length rgba.old ≡ tile_size }
     ensures { (length rgba.new ≡ tile_size) × (meant all_flat rgba.new ≡ same_colour px) }
 {
-    let mut y = 0usize;
-    while y < TILE_HEIGHT {
+    for y in 0..TILE_HEIGHT {
         let at = TILE_WIDTH * y;
         rgba[at] = px;
-        y += 1;
+    }
+}
+
+// Row y of the tile: in each of its pixels the word that `word` gives for the pixel's column.
+pub fn put_words<F: Fn(usize) -> u32>(
+    pixels: &mut [u32],
+    width: usize,
+    tx: usize,
+    ty: usize,
+    y: usize,
+    word: F,
+)
+    requires room { (tx < most_tiles) × (ty < most_tiles) × (y < tile_height) × (tile_width * tx + tile_width ≤ width) × (row_at width tx ty y + tile_width ≤ length pixels.old) }
+    requires callable { (x : ℕ) → x < tile_width → F.pre word x }
+    ensures { (new : ℕ → ℕ → ℕ) → GivesAt (F.post word) (row_at width tx ty y) new
+        → pixels.new ≡ mapi (within (row_at width tx ty y) (row_at width tx ty y + tile_width) new) pixels.old }
+{
+    let base = width * (TILE_HEIGHT * ty + y) + TILE_WIDTH * tx;
+    for x in 0..TILE_WIDTH {
+        pixels[base + x] = word(x);
     }
 }
 
@@ -37,13 +55,7 @@ pub fn fill_row(pixels: &mut [u32], width: usize, tx: usize, ty: usize, y: usize
     requires { (tx < most_tiles) × (ty < most_tiles) × (y < tile_height) × (tile_width * tx + tile_width ≤ width) × (row_at width tx ty y + tile_width ≤ length pixels.old) }
     ensures { pixels.new ≡ mapi (within (row_at width tx ty y) (row_at width tx ty y + tile_width) (one_word word)) pixels.old }
 {
-    let base = width * (TILE_HEIGHT * ty + y) + TILE_WIDTH * tx;
-    let mut x = 0usize;
-    while x < TILE_WIDTH {
-        let at = base + x;
-        pixels[at] = word;
-        x += 1;
-    }
+    put_words(pixels, width, tx, ty, y, |_x| word)
 }
 
 // Row y of the tile in column tx and row ty of tiles, packed pixel by pixel.
@@ -58,16 +70,8 @@ pub fn put_row(
     requires { (tx < most_tiles) × (ty < most_tiles) × (y < tile_height) × (tile_width * tx + tile_width ≤ width) × (row_at width tx ty y + tile_width ≤ length pixels.old) }
     ensures { pixels.new ≡ mapi (within (row_at width tx ty y) (row_at width tx ty y + tile_width) (from_list rgba.now width)) pixels.old }
 {
-    let base = width * (TILE_HEIGHT * ty + y) + TILE_WIDTH * tx;
     let first = TILE_WIDTH * y;
-    let mut x = 0usize;
-    while x < TILE_WIDTH {
-        let px = rgba[first + x];
-        let packed = pack(px);
-        let at = base + x;
-        pixels[at] = packed;
-        x += 1;
-    }
+    put_words(pixels, width, tx, ty, y, |x| pack(rgba[first + x]))
 }
 
 // Row y of the tile, flat or not. Of a flat row the first pixel stands for all.
@@ -92,7 +96,8 @@ pub fn put_any(
     }
 }
 
-// All rows of the tile.
+// All rows of the tile. This loop and the two like it, in fill_tile and in put_last of last_colour, stay apart: a
+// function for them would take the row as a closure that changes the pixels, which is no plainer than three lines.
 pub fn put_tile(
     pixels: &mut [u32],
     width: usize,
@@ -104,10 +109,8 @@ pub fn put_tile(
     requires { (tx < most_tiles) × (ty < most_tiles) × (tile_width * tx + tile_width ≤ width) × (width * (tile_height * ty + tile_height) ≤ length pixels.old) × (length rgba.now ≡ tile_size) }
     ensures { pixels.new ≡ put_tile (from_list (meant flat.now rgba.now) width) width tx ty pixels.old }
 {
-    let mut y = 0usize;
-    while y < TILE_HEIGHT {
+    for y in 0..TILE_HEIGHT {
         put_any(pixels, width, tx, ty, y, rgba, flat);
-        y += 1;
     }
 }
 
@@ -116,9 +119,7 @@ pub fn fill_tile(pixels: &mut [u32], width: usize, tx: usize, ty: usize, word: u
     requires { (tx < most_tiles) × (ty < most_tiles) × (tile_width * tx + tile_width ≤ width) × (width * (tile_height * ty + tile_height) ≤ length pixels.old) }
     ensures { pixels.new ≡ put_tile (one_word word) width tx ty pixels.old }
 {
-    let mut y = 0usize;
-    while y < TILE_HEIGHT {
+    for y in 0..TILE_HEIGHT {
         fill_row(pixels, width, tx, ty, y, word);
-        y += 1;
     }
 }

@@ -9,7 +9,7 @@ use lib.ListN.{length, get_or-replicate, length-replicate}
 use lib.Ieee.{Float}
 use Rattle.util.specs.Constants.{zero}
 use Rattle.panel.specs.Limits.{most_commands}
-use Rattle.panel.specs.declared.kinds.Verdict.TheVariants.{Fine}
+use Rattle.panel.specs.Verdict.{Fine}
 use Rattle.sides.specs.Tile.{tile_width, tile_height, tile_size}
 use Rattle.colours.specs.Colour.{pack_of}
 use Rattle.commands.specs.Numbers.{start_of}

@@ -4,7 +4,7 @@ use mathlib.Core.List.{List, [], ◌∷◌, ◌++◌}
 use Prim.Native.Nat.{ℕ}
 use lib.Ieee.{of_bits, of_int, add, sub, mul, div, lt, le, round, to_unsigned}
 use Rattle.float32.specs.Meaning.{clamp_of, round_of}
-use Rattle.panel.specs.declared.kinds.Verdict.TheVariants.{Fine, Against}
+use Rattle.panel.specs.Verdict.{Fine, Against}
 use Rattle.panel.specs.Refusals.{past_end, unknown}
 use Rattle.colours.specs.Colour.{channel_of, colour_of, over_of, byte_of, pack_of}
 use Rattle.commands.specs.Numbers.{color_no, end_no, encode}

@@ -2,8 +2,8 @@
 use Rattle.std.specs.Prelude.{List, ℕ, replicate, Float}
 use Rattle.util.specs.Constants.{zero}
 use Rattle.panel.specs.Limits.{most_commands}
-use Rattle.panel.specs.declared.kinds.Verdict.{Verdict}
-use Rattle.panel.specs.declared.kinds.Verdict.TheVariants.{Fine, Against}
+use Rattle.panel.specs.Verdict.{Verdict}
+use Rattle.panel.specs.Verdict.{Fine, Against}
 use Rattle.sides.specs.Tile.{tile_size}
 use Rattle.commands.specs.Numbers.{start_of}
 use Rattle.commands.specs.Moves.{Trace, trace_of, end_of}

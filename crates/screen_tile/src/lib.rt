@@ -3,6 +3,7 @@
 
 ghost use Rattle.std.specs.Prelude.{◌≡◌, ◌+◌, ◌*◌, ◌≤◌, ◌<◌, length};
 ghost use Rattle.panel.specs.Limits.{most_tiles};
+ghost use Rattle.panel.specs.Verdict.{verdict_told};
 ghost use Rattle.sides.specs.Tile.{tile_width, tile_height, tile_size};
 ghost use Rattle.screen_tile.specs.Tile.{no_colour, ends_at, tile_pixels};
 
@@ -10,8 +11,8 @@ use colours::{colour, pack};
 use commands::numbers::{LIST_START, TILE_WORDS};
 use last_colour::put_last;
 use on_pixels::{begin, same_area};
-use panel::kinds::Verdict;
-use run_list::{Stop, ends_at, run};
+use panel::refusals::Refusal;
+use run_list::{ends_at, run};
 use screen_rows::{all_flat, fill_tile, put_tile, start_rows};
 use sides::TILE_SIZE;
 
@@ -34,10 +35,10 @@ pub fn tile(
     ty: usize,
     rgba: &mut [[f32; 4]; TILE_SIZE],
     pixels: &mut [u32],
-) -> Verdict
+) -> Result<(), Refusal>
     requires { (t < most_tiles) × (tx < most_tiles) × (ty < most_tiles) × (tile_width * tx + tile_width ≤ width) × (width * (tile_height * ty + tile_height) ≤ length pixels.old)
         × (length rgba.old ≡ tile_size) }
-    ensures { (result ≡ ends_at words.now segments.now t) ×
+    ensures { (verdict_told result ≡ ends_at words.now segments.now t) ×
         (pixels.new ≡ tile_pixels words.now segments.now t width tx ty pixels.old) × (length rgba.new ≡ tile_size) }
 {
     let mut px = [0.0f32; 4];
@@ -45,21 +46,15 @@ pub fn tile(
     let o = begin(words, segments, start, &mut px);
     if ends_at(words, o.at) {
         fill_tile(pixels, width, tx, ty, pack(px));
-        return Verdict::Fine;
+        return Ok(());
     }
     start_rows(rgba, px);
     let mut flat = all_flat();
     let mut area = same_area(o.area);
-    let v = run(words, segments, o.at, o.count, &mut area, rgba, &mut flat);
-    match v {
-        Stop::End => {
-            put_tile(pixels, width, tx, ty, rgba, &flat);
-            Verdict::Fine
-        }
-        Stop::Last(word) => {
-            put_last(pixels, width, tx, ty, rgba, &flat, colour(word), &area);
-            Verdict::Fine
-        }
-        Stop::Against(no) => Verdict::Against(no),
+    let last = run(words, segments, o.at, o.count, &mut area, rgba, &mut flat)?;
+    match last {
+        None => put_tile(pixels, width, tx, ty, rgba, &flat),
+        Some(word) => put_last(pixels, width, tx, ty, rgba, &flat, colour(word), &area),
     }
+    Ok(())
 }

@@ -12,7 +12,7 @@ use Rattle.walk.specs.Step.{Boxed, z_at, step_of}
 use Rattle.carry.specs.Carry.{zs_of}
 use Rattle.walk.specs.declared.kinds.Pace.{Pace}
 use Rattle.walk.specs.declared.kinds.Walk.{Walk}
-use Rattle.walk.specs.declared.step.Step.TheVariants.{Tile}
+use Rattle.walk.specs.Stepped.{Tile}
 use Rattle.walk.proofs.Walks.{StartsAt}
 use Rattle.walk.proofs.Tiles.{step_told}
 use Rattle.carry.proofs.Corners.{step_floats}

@@ -14,8 +14,7 @@ use Rattle.panel.proofs.BoolLaws.{both}
 use Rattle.panel.proofs.HeldLaws.{held_in, within_finite}
 use Rattle.segment.specs.Clips.{make_of, edge_of, off_of, turn_of, segment_of, piece_of}
 use Rattle.panel.specs.declared.segments.Segment.{Segment}
-use Rattle.segment.specs.declared.Piece.{Piece}
-use Rattle.segment.specs.declared.Piece.TheVariants.{Kept, Crooked}
+use Rattle.segment.specs.Piece.{Kept, Crooked}
 
 kept_if : (t : Bool) (r s : Segment) → cond t (Kept r) Crooked ≡ Kept s → (t ≡ true) × (r ≡ s)
 kept_if true r s e = (refl, cc)

@@ -13,8 +13,7 @@ use Rattle.walk.specs.declared.kinds.Walk.{Walk}
 use Rattle.panel.specs.Segments.{held_of}
 use Rattle.panel.specs.declared.segments.Segment.{Segment}
 use Rattle.segment.specs.Clips.{far_of, clip_of, edge_of, turn_of}
-use Rattle.segment.specs.declared.Piece.{Piece}
-use Rattle.segment.specs.declared.Piece.TheVariants.{Kept, Crooked}
+use Rattle.segment.specs.Piece.{Piece, Kept, Crooked}
 
 -- the corner of step i's tile, whose z is z
 unfoldable pub corner_at : Pace → ℕ → Float → Vec2

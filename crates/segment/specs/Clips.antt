@@ -12,8 +12,7 @@ use Rattle.walk.specs.Step.{z_at}
 use Rattle.walk.specs.declared.kinds.Walk.{Walk}
 use Rattle.panel.specs.Segments.{held_of}
 use Rattle.panel.specs.declared.segments.Segment.{Segment}
-use Rattle.segment.specs.declared.Piece.{Piece}
-use Rattle.segment.specs.declared.Piece.TheVariants.{Kept, Crooked}
+use Rattle.segment.specs.Piece.{Piece, Kept, Crooked}
 
 -- The tile's upper left corner, and its lower right one.
 unfoldable pub corner_of : ℕ → ℕ → Vec2

@@ -1,6 +1,6 @@
 -- A step's segment on one page, in the order of path_tiling.rs from `tile_xy` on; the same as `segment_of` of specs/Clips.antt, which goes by parts
 -- (`by_parts` of proofs/Page.antt). Of an `if` without `else`, both values stand and the test picks one. Definition only.
-use Rattle.std.specs.Prelude.{ℕ, ◌-◌, Bool, cond, ◌&&◌, ltb, Float}
+use Rattle.std.specs.Prelude.{ℕ, ◌-◌, cond, ◌&&◌, ltb, Float}
 use Rattle.std.specs.Float.{binary32}
 use Rattle.std.specs.Float.Ieee.{add, sub, mul, div, eq, ne}
 use Rattle.float32.specs.Meaning.{floor_of, clamp_of}

@@ -194,13 +194,7 @@ pub fn segment_of(w: Walk, s: Zs, t: Vec2) -> Segment
 }
 
 // A segment, or none where an end lies outside the tile (12).
-#[derive(Clone, Copy)]
-pub enum Piece {
-    Kept(Segment),
-    Crooked,
-}
-
-pub fn piece_of(w: Walk, s: Zs, t: Vec2) -> Piece
+pub fn piece_of(w: Walk, s: Zs, t: Vec2) -> Option<Segment>
     requires { s.at < step_range }
     ensures { result ≡ piece_by w s t }
 {
@@ -208,8 +202,8 @@ pub fn piece_of(w: Walk, s: Zs, t: Vec2) -> Piece
     let p0 = made.p0;
     let p1 = made.p1;
     if held(p0) & held(p1) {
-        Piece::Kept(made)
+        Some(made)
     } else {
-        Piece::Crooked
+        None
     }
 }

@@ -12,6 +12,7 @@ ghost use Rattle.panel.specs.Widths.{line_floats};
 ghost use Rattle.walk.specs.Setup.{Scaled, ends_of, slope_of, b_of, a_of, walk_on};
 ghost use Rattle.walk.specs.Skip.{flat_of, past_of};
 ghost use Rattle.walk.specs.Lent.{Reached, reached_of, walked_of, walk_at};
+ghost use Rattle.walk.specs.Walked.{walked_told};
 ghost use Rattle.walk.specs.Around.{apart_of, tiles_of, Spans, counts_by, Around};
 
 use float32::pick;
@@ -19,11 +20,10 @@ use panel::kinds::Path;
 use panel::limits::COORD_MOST;
 use panel::lines::line_at;
 use panel::paths::path_at;
-use panel::refusals::{COORDINATE, NO_SUCH};
+use panel::refusals::Refusal;
 use panel::widths::PATH_WORDS;
 use util::{ONE_MINUS_ULP, ROBUST_EPSILON, TILE_SCALE, Vec2};
-use walk::choose::pick_vec;
-use walk::kinds::{Counts, Ends, Pace, Slope, Walk, Walked};
+use walk::kinds::{Counts, Ends, Pace, Slope, Walk};
 
 // Check 6: all four coordinates are finite and of magnitude up to the limit.
 pub fn reached(p0: Vec2, p1: Vec2) -> bool
@@ -33,12 +33,13 @@ pub fn reached(p0: Vec2, p1: Vec2) -> bool
         & ((float32::abs(p1.x) <= COORD_MOST) & (float32::abs(p1.y) <= COORD_MOST))
 }
 
+// Its ends in the order of y, as they are and in tiles.
 pub fn order(p0: Vec2, p1: Vec2) -> Ends
     ensures { result ≡ ends_of p0 p1 }
 {
     let is_down = p1.y >= p0.y;
-    let xy0 = pick_vec(is_down, p0, p1);
-    let xy1 = pick_vec(is_down, p1, p0);
+    let xy0 = pick(is_down, p0, p1);
+    let xy1 = pick(is_down, p1, p0);
     let s0 = xy0.scale(TILE_SCALE);
     let s1 = xy1.scale(TILE_SCALE);
     Ends {
@@ -67,6 +68,31 @@ fn across(a: f32, b: f32) -> f32
     let least = pick(b < a, b, a);
     let last = pick(a < b, b, a);
     last - least
+}
+
+// The tile edges around a line: of the columns and rows that it is in, as floats.
+#[derive(Clone, Copy)]
+pub struct Edges {
+    pub left: f32,
+    pub right: f32,
+    pub top: f32,
+    pub bottom: f32,
+}
+
+// Those of a checked line from s0 to s1, no higher; `top` is the row that s0 is in.
+pub fn edges_around(s0: Vec2, s1: Vec2, top: f32) -> Edges
+    requires { Scaled s0 × Scaled s1 × (lt s1.y s0.y ≡ false) × (top ≡ floor_of s0.y) }
+    ensures { Around s0 s1 result.left result.right result.top result.bottom }
+{
+    let bottom = -float32::floor_near(-pick(s0.y < s1.y, s1.y, s0.y));
+    let left = float32::floor_near(pick(s1.x < s0.x, s1.x, s0.x));
+    let right = -float32::floor_near(-pick(s0.x < s1.x, s1.x, s0.x));
+    Edges {
+        left,
+        right,
+        top,
+        bottom,
+    }
 }
 
 // How many tiles lie from the edge `low` to the edge `high`, as a float; at least one.
@@ -108,20 +134,20 @@ fn past(s0: Vec2, s1: Vec2, b: Path) -> bool
     (s0.y >= bottom) | ((s1.y < top) | ((left >= right) | (b.x1 == b.x0)))
 }
 
-// How many steps the walk has, by the edges of the columns and the rows that the line is in.
-pub fn count_steps(left: f32, right: f32, top: f32, bottom: f32) -> Counts
-    requires { Spans left right × Spans top bottom }
-    ensures { result ≡ counts_by left right top bottom }
+// How many steps the walk has, by the edges around the line.
+pub fn count_steps(g: Edges) -> Counts
+    requires { Spans g.left g.right × Spans g.top g.bottom }
+    ensures { result ≡ counts_by g.left g.right g.top g.bottom }
 {
-    let count_x = span(left, right) - 1;
-    let count = count_x + span(top, bottom);
+    let count_x = span(g.left, g.right) - 1;
+    let count = count_x + span(g.top, g.bottom);
     Counts { count_x, count }
 }
 
 // What a and b are made of, by the same edges: the first column starts at the left one, or at the right
 // one turned. What is added for x0, 0 or -1, is no branch, since x falls as often as it rises.
-pub fn incline(s0: Vec2, s1: Vec2, left: f32, right: f32, top: f32, bottom: f32) -> Slope
-    requires { Around s0 s1 left right top bottom }
+pub fn incline(s0: Vec2, s1: Vec2, g: Edges) -> Slope
+    requires { Around s0 s1 g.left g.right g.top g.bottom }
     ensures { result ≡ slope_of s0 s1 }
 {
     let dx = across(s0.x, s1.x);
@@ -129,9 +155,9 @@ pub fn incline(s0: Vec2, s1: Vec2, left: f32, right: f32, top: f32, bottom: f32)
     let idxdy = 1.0 / (dx + dy);
     let is_positive_slope = s1.x >= s0.x;
     let sign = pick(is_positive_slope, 1.0, -1.0);
-    let xt0 = pick(s1.x < s0.x, -right, left);
+    let xt0 = pick(s1.x < s0.x, -g.right, g.left);
     let c = s0.x * sign - xt0;
-    let ytop = pick(s0.y == s1.y, bottom, top + 1.0);
+    let ytop = pick(s0.y == s1.y, g.bottom, g.top + 1.0);
     let x0 = xt0 * sign + (sign - 1.0) * 0.5;
     Slope {
         dx,
@@ -140,7 +166,7 @@ pub fn incline(s0: Vec2, s1: Vec2, left: f32, right: f32, top: f32, bottom: f32)
         is_positive_slope,
         sign,
         c,
-        y0: top,
+        y0: g.top,
         ytop,
         x0,
     }
@@ -148,13 +174,13 @@ pub fn incline(s0: Vec2, s1: Vec2, left: f32, right: f32, top: f32, bottom: f32)
 
 // a, by a branch, since the move by ROBUST_EPSILON is rare. The steps are counted in floats, by the same edges: nothing waits for
 // a cast to whole numbers and back.
-pub fn rise(m: Slope, left: f32, right: f32, top: f32, bottom: f32, b: f32) -> f32
-    requires { Spans left right × Spans top bottom }
-    ensures { result ≡ a_of m (counts_by left right top bottom) b }
+pub fn rise(m: Slope, g: Edges, b: f32) -> f32
+    requires { Spans g.left g.right × Spans g.top g.bottom }
+    ensures { result ≡ a_of m (counts_by g.left g.right g.top g.bottom) b }
 {
     let a = m.dx * m.idxdy;
-    let count_x = apart(left, right) - 1.0;
-    let last = count_x + (apart(top, bottom) - 1.0);
+    let count_x = apart(g.left, g.right) - 1.0;
+    let last = count_x + (apart(g.top, g.bottom) - 1.0);
     let robust_err = float32::floor(a * last + b) - count_x;
     if robust_err != 0.0 {
         return a - float32::copysign(ROBUST_EPSILON, robust_err);
@@ -169,13 +195,11 @@ fn setup(e: Ends, top: f32) -> Walk
 {
     let s0 = e.s0;
     let s1 = e.s1;
-    let bottom = -float32::floor_near(-pick(s0.y < s1.y, s1.y, s0.y));
-    let left = float32::floor_near(pick(s1.x < s0.x, s1.x, s0.x));
-    let right = -float32::floor_near(-pick(s0.x < s1.x, s1.x, s0.x));
-    let k = count_steps(left, right, top, bottom);
-    let m = incline(s0, s1, left, right, top, bottom);
+    let g = edges_around(s0, s1, top);
+    let k = count_steps(g);
+    let m = incline(s0, s1, g);
     let b = start(m, s0);
-    let a = rise(m, left, right, top, bottom, b);
+    let a = rise(m, g, b);
     let pace = Pace {
         a,
         b,
@@ -194,34 +218,39 @@ fn setup(e: Ends, top: f32) -> Walk
 
 // The walk of a checked line over the box of its path, or a skip. A coordinate in tiles keeps its order,
 // so s1 is no higher than s0, and no branch asks.
-fn walk_on(p0: Vec2, p1: Vec2, b: Path) -> Walked
+fn walk_on(p0: Vec2, p1: Vec2, b: Path) -> Result<Option<(Walk, Path)>, Refusal>
     requires { Reached p0 p1 }
-    ensures { result ≡ walked_of p0 p1 b }
+    ensures { walked_told result ≡ walked_of p0 p1 b }
 {
     let e = order(p0, p1);
     let s0 = e.s0;
     let s1 = e.s1;
     let top = float32::floor_near(s0.y);
     if flat(s0, s1, top) | past(s0, s1, b) {
-        return Walked::Skipped;
+        return Ok(None);
     }
-    Walked::Line(setup(e, top), b)
+    Ok(Some((setup(e, top), b)))
 }
 
 // What becomes of line `line_no` of those lent.
-pub fn walk_at(path_nos: &[u32], coords: &[f32], paths: &[u32], line_no: u32) -> Walked
+pub fn walk_at(
+    path_nos: &[u32],
+    coords: &[f32],
+    paths: &[u32],
+    line_no: u32,
+) -> Result<Option<(Walk, Path)>, Refusal>
     requires { (line_no < length path_nos.now) × (line_no * line_floats + line_floats ≤ length coords.now) }
-    ensures { result ≡ walk_at path_nos.now coords.now paths.now line_no }
+    ensures { walked_told result ≡ walk_at path_nos.now coords.now paths.now line_no }
 {
     let line = line_at(coords, line_no);
     let p0 = line.p0;
     let p1 = line.p1;
     if !reached(p0, p1) {
-        return Walked::Refused(COORDINATE);
+        return Err(Refusal::Coordinate);
     }
     let path_no = path_nos[line_no as usize];
     if (path_no as usize) >= paths.len() / PATH_WORDS {
-        return Walked::Refused(NO_SUCH);
+        return Err(Refusal::NoSuch);
     }
     walk_on(p0, p1, path_at(paths, path_no))
 }

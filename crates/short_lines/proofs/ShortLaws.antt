@@ -2,12 +2,11 @@
 --     piece_plain, piece_moved    the segment is the line itself, seen from the tile's corner
 --     comes        a reference to its step 0, by its tile's word
 --     put_fine     a slot that is there takes the segment
-use Prim.Native.Nat.{ℕ, ◌+◌, ◌-◌, ◌*◌, ◌≤◌, ◌<◌}
+use Prim.Native.Nat.{ℕ, ◌+◌, ◌≤◌, ◌<◌}
 use native.Mathlib.Omega.{arith}
 use mathlib.Core.Path.{◌≡◌, refl, sym, ap, ◌∙◌}
 use mathlib.Core.Bool.{Bool, true, false, cond, ◌&&◌, ◌||◌, false≢true}
 use mathlib.Core.List.{List}
-use lib.Dec.{ltb}
 use lib.ListN.{length, get_or}
 use lib.Ieee.{Float, nan, inf, fin, of_bits, round, lt, le, eq}
 use borrow.Author.Tests.{lt-ltb, le-ltb}
@@ -24,10 +23,10 @@ use Rattle.panel.specs.Paths.{path_at, path_count, end_of, tile_of, beam_at, pat
 use Rattle.panel.specs.Pieces.{Pieces}
 use Rattle.panel.specs.Segments.{held_of}
 use Rattle.panel.specs.Slots.{skips, slot_of}
-use Rattle.panel.specs.declared.kinds.Answer.TheVariants.{Done}
+use Rattle.panel.specs.Answer.{Done}
 use Rattle.panel.specs.declared.kinds.Path.{Path}
 use Rattle.panel.specs.declared.kinds.TileNo.{TileNo}
-use Rattle.panel.specs.declared.kinds.Verdict.TheVariants.{Fine}
+use Rattle.panel.specs.Verdict.{Fine}
 use Rattle.panel.specs.declared.lines.LineEnds.{LineEnds}
 use Rattle.panel.specs.declared.segments.Segment.{Segment}
 use Rattle.panel.proofs.BoolLaws.{both}
@@ -35,25 +34,24 @@ use Rattle.panel.proofs.PathLaws.{checked}
 use Rattle.exact.specs.Whole.{Small}
 use Rattle.whole.proofs.Steps.{small_within}
 use Rattle.spot.specs.Spot.{OneTile, SpotMet}
-use Rattle.spot.specs.declared.Spot.{Spot}
-use Rattle.spot.specs.declared.Spot.TheVariants.{In}
+use Rattle.spot.specs.Place.{Spot, In}
 use Rattle.walk.specs.Page.{line_of}
 use Rattle.walk.specs.Lent as Lines
 use Rattle.walk.specs.Lent.{walk_at}
-use Rattle.walk.specs.Step.{Boxed, z_at, step_of}
+use Rattle.walk.specs.Step.{Boxed}
 use Rattle.walk.proofs.Boxes.{fits_boxed, tile_below}
 use Rattle.walk.specs.declared.kinds.Walk.{Walk}
-use Rattle.walk.specs.declared.kinds.Walked.TheVariants.{Line}
+use Rattle.walk.specs.Walked.{Line}
 use Rattle.segment.specs.Clips.{corner_of, make_of, edge_of, off_of, turn_of, first_of, last_of, segment_of, piece_of}
-use Rattle.segment.specs.declared.Piece.TheVariants.{Kept, Crooked}
+use Rattle.segment.specs.Piece.{Kept, Crooked}
 use Rattle.looks.specs.Look.{step_no, slice_no, piece_to, word_to, step_to, found_to, found_of}
 use Rattle.looks.specs.One.{one, one_of}
 use Rattle.short_lines.specs.Short.{inner_of, seen_of, SeenMet, Comes, PieceMet, ShortMet, PutMet, TriedMet, TookMet}
-use Rattle.short_lines.specs.declared.Short.{Short}
-use Rattle.short_lines.specs.declared.Short.TheVariants as Short
-use Rattle.short_lines.specs.declared.Inside.{Inside}
-use Rattle.short_lines.specs.declared.Inside.TheVariants as One
-use Rattle.looks.specs.declared.Look.TheVariants.{Put}
+use Rattle.short_lines.specs.Held.{Short}
+use Rattle.short_lines.specs.Held as Short
+use Rattle.short_lines.specs.Inside.{Inside}
+use Rattle.short_lines.specs.Inside as One
+use Rattle.looks.specs.Looked.{Put}
 
 -- ---- the segment
 

@@ -7,17 +7,15 @@ use Rattle.util.specs.declared.Vec2.{Vec2}
 use Rattle.panel.specs.Paths.{beam_at}
 use Rattle.panel.specs.Pieces.{Pieces}
 use Rattle.panel.specs.Segments.{held_of}
-use Rattle.panel.specs.declared.kinds.Verdict.TheVariants.{Fine}
+use Rattle.panel.specs.Verdict.{Fine}
 use Rattle.panel.specs.declared.segments.Segment.{Segment}
 use Rattle.walk.specs.Page.{line_of}
 use Rattle.segment.specs.Clips.{make_of, off_of, piece_of}
-use Rattle.segment.specs.declared.Piece.TheVariants as Piece
+use Rattle.segment.specs.Piece as Piece
 use Rattle.looks.specs.Look.{step_no, slice_no, word_to, found_to, found_of}
 use Rattle.looks.specs.One.{one, one_of}
-use Rattle.short_lines.specs.declared.Inside.{Inside}
-use Rattle.short_lines.specs.declared.Inside.TheVariants.{Kept, Odd}
-use Rattle.short_lines.specs.declared.Short.{Short}
-use Rattle.short_lines.specs.declared.Short.TheVariants.{In, Other}
+use Rattle.short_lines.specs.Inside.{Inside, Kept, Odd}
+use Rattle.short_lines.specs.Held.{Short, In, Other}
 
 -- an end in its tile, off the left and the top edge
 unfoldable pub inner_of : Vec2 → Bool

@@ -11,7 +11,7 @@ ghost use Rattle.panel.specs.Limits.{edge_most};
 ghost use Rattle.panel.specs.Widths.{line_floats, segment_floats};
 ghost use Rattle.panel.specs.Paths.{paths_answer};
 ghost use Rattle.panel.specs.Pieces.{pieces};
-ghost use Rattle.panel.specs.declared.kinds.Answer.TheVariants.{Done};
+ghost use Rattle.panel.specs.Answer.{Done};
 ghost use Rattle.short_lines.specs.Short.{inner_of, SeenMet, PieceMet, ShortMet, PutMet, TriedMet};
 
 use float32::SHIFT;
@@ -23,22 +23,8 @@ use panel::segments::{Segment, held, put};
 use panel::slots::{flipped, skips};
 use panel::widths::PATH_WORDS;
 use segment::{NO_EDGE, corner, make, off_whole};
-use spot::{Spot, spot_of};
+use spot::spot_of;
 use util::{TILE_SIDE, Vec2};
-
-// A line's segment in its one tile; or a line to be looked at in another way.
-#[derive(Clone, Copy)]
-pub enum Inside {
-    Kept(Segment),
-    Odd,
-}
-
-// What a line within one tile comes to: its segment, its tile's word and its tag; or a line to be looked at in another way.
-#[derive(Clone, Copy)]
-pub enum Short {
-    In(Segment, u32, u32),
-    Other,
-}
 
 // Whether an end lies in its tile, off the left and the top edge.
 fn inner(p: Vec2) -> bool
@@ -57,20 +43,21 @@ fn on_column(x: f32) -> bool
 }
 
 // The segment of ends of which one is on a whole column: it moves.
-fn moved(d0: Vec2, d1: Vec2) -> Inside
+fn moved(d0: Vec2, d1: Vec2) -> Option<Segment>
     ensures { SeenMet d0 d1 result }
 {
     let r0 = off_whole(d0);
     let r1 = off_whole(d1);
     if held(r0) & held(r1) {
-        Inside::Kept(make(r0.x, r0.y, r1.x, r1.y, NO_EDGE))
+        Some(make(r0.x, r0.y, r1.x, r1.y, NO_EDGE))
     } else {
-        Inside::Odd
+        None
     }
 }
 
 // The segment in the tile of column x and row y: the ends as they are seen from its corner. Few ends are on a whole column.
-fn piece_in(p0: Vec2, p1: Vec2, x: u32, y: u32) -> Inside
+// None where the line is to be looked at in another way.
+fn piece_in(p0: Vec2, p1: Vec2, x: u32, y: u32) -> Option<Segment>
     requires { (x ≤ edge_most) × (y ≤ edge_most) }
     ensures { PieceMet p0 p1 x y result }
 {
@@ -78,39 +65,38 @@ fn piece_in(p0: Vec2, p1: Vec2, x: u32, y: u32) -> Inside
     let d0 = p0.subtract(t);
     let d1 = p1.subtract(t);
     if !(inner(d0) & inner(d1)) {
-        return Inside::Odd;
+        return None;
     }
     if on_column(d0.x) | on_column(d1.x) {
         return moved(d0, d1);
     }
-    Inside::Kept(make(d0.x, d0.y, d1.x, d1.y, NO_EDGE))
+    Some(make(d0.x, d0.y, d1.x, d1.y, NO_EDGE))
 }
 
-// A line of those lent, whose path is there.
-fn short_at(path_nos: &[u32], coords: &[f32], paths: &[u32], stored: &[u32], line: LineNo) -> Short
+// What a line of those lent comes to that lies within one tile: its segment, its tile's word and its tag. None where it
+// is to be looked at in another way.
+fn short_at(
+    path_nos: &[u32],
+    coords: &[f32],
+    paths: &[u32],
+    stored: &[u32],
+    line: LineNo,
+) -> Option<(Segment, u32, u32)>
     requires { (length path_nos.now * line_floats ≤ length coords.now) × (paths_answer paths.now (length stored.now) ≡ Done) }
     ensures { ShortMet path_nos.now coords.now paths.now stored.now line.0 result }
 {
     if (line.0 as usize) >= path_nos.len() {
-        return Short::Other;
+        return None;
     }
     let path = path_nos[line.0 as usize];
     if (path as usize) >= paths.len() / PATH_WORDS {
-        return Short::Other;
+        return None;
     }
     let ends = line_at(coords, line.0);
-    let p0 = ends.p0;
-    let p1 = ends.p1;
-    let spot = spot_of(p0, p1, path_at(paths, path));
-    let Spot::In(tile, x, y) = spot else {
-        return Short::Other;
-    };
-    let piece = piece_in(p0, p1, x, y);
-    let Inside::Kept(s) = piece else {
-        return Short::Other;
-    };
+    let (tile, x, y) = spot_of(ends.p0, ends.p1, path_at(paths, path))?;
+    let s = piece_in(ends.p0, ends.p1, x, y)?;
     let word = stored[tile.0 as usize];
-    Short::In(s, word, beam_at(paths, path))
+    Some((s, word, beam_at(paths, path)))
 }
 
 // The same, where it is to be tried so.
@@ -121,12 +107,12 @@ pub fn try_short(
     paths: &[u32],
     stored: &[u32],
     line: LineNo,
-) -> Short
+) -> Option<(Segment, u32, u32)>
     requires { (length path_nos.now * line_floats ≤ length coords.now) × (paths_answer paths.now (length stored.now) ≡ Done) }
     ensures { ShortMet path_nos.now coords.now paths.now stored.now line.0 result }
 {
     if !tried {
-        return Short::Other;
+        return None;
     }
     short_at(path_nos, coords, paths, stored, line)
 }
@@ -161,7 +147,7 @@ fn put_short(
 
 // A reference to a line, by its second word and what the line comes to: whether it was written here.
 pub fn put_tried(
-    short: Short,
+    short: Option<(Segment, u32, u32)>,
     packed: u32,
     slots: u32,
     segments: &mut [f32],
@@ -170,7 +156,7 @@ pub fn put_tried(
     requires { (slots * segment_floats ≤ length segments.old) × (slots ≤ length tags.old) }
     ensures { TriedMet slots packed short (pieces segments.old tags.old) result (pieces segments.new tags.new) }
 {
-    let Short::In(s, word, tag) = short else {
+    let Some((s, word, tag)) = short else {
         return false;
     };
     put_short(s, word, tag, packed, slots, segments, tags)

@@ -7,24 +7,13 @@ ghost use Rattle.std.specs.Prelude.{◌≡◌, ◌+◌, ◌-◌, ◌*◌, ◌≤
 ghost use Rattle.panel.specs.Limits.{most_lines};
 ghost use Rattle.panel.specs.Paths.{paths_answer};
 ghost use Rattle.panel.specs.Widths.{line_floats};
-ghost use Rattle.panel.specs.declared.kinds.Answer.TheVariants.{Done};
+ghost use Rattle.panel.specs.Answer.{Done};
 ghost use Rattle.short_runs.specs.Ones.{OnesMet};
 
 use acts::visit;
-use one_tile::{One, one_at};
+use one_tile::one_at;
 use panel::kinds::LineNo;
 use panel::limits::MOST_LINES;
-
-// How many of so many lines, numbered from this one on, have a number that is not refused.
-fn numbered(line: LineNo, many: u32) -> u32
-    ensures { result ≡ min many (most_lines - line.0) }
-{
-    if line.0 >= MOST_LINES {
-        return 0;
-    }
-    let left = MOST_LINES - line.0;
-    if many < left { many } else { left }
-}
 
 // Of so many lines from a place of those lent on, numbered from this line's number on, the first that each lie within one
 // tile: how many they are. Each makes one reference, the first as number made.
@@ -44,15 +33,14 @@ pub fn count_ones(
     ensures { OnesMet path_nos.now coords.now paths.now line.0 place many made
         counts.old refs.old counts.new refs.new result }
 {
-    let most = numbered(line, many);
-    let mut n: u32 = 0;
-    while n < most {
+    // Those whose number is not refused.
+    let most = many.min(MOST_LINES.saturating_sub(line.0));
+    for n in 0..most {
         let one = one_at(place + n, made + n, path_nos, coords, paths, counts, refs);
-        let One::In(tile) = one else {
+        let Some(tile) = one else {
             return n;
         };
         visit(tile, LineNo(line.0 + n), 0, made + n, counts, refs);
-        n += 1;
     }
-    n
+    most
 }

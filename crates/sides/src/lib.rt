@@ -6,4 +6,4 @@ pub const TILE_WIDTH: usize = 16;
 
 pub const TILE_HEIGHT: usize = 16;
 
-pub const TILE_SIZE: usize = 256;
+pub const TILE_SIZE: usize = TILE_WIDTH * TILE_HEIGHT;

@@ -1,5 +1,5 @@
 -- The checks of what is lent answer 1 to 4, and never 9. Assumes nothing.
-use mathlib.Core.Path.{◌≡◌, refl, sym, ap, ◌∙◌}
+use mathlib.Core.Path.{◌≡◌, refl}
 use mathlib.Core.Bool.{Bool, true, false, cond}
 use mathlib.Core.List.{List, [], ◌∷◌}
 use Prim.Native.Nat.{ℕ, ◌<◌}
@@ -12,10 +12,8 @@ use Rattle.panel.specs.Refusals.{line_number}
 use Rattle.panel.specs.Checks.{Check, first_no, unless}
 use Rattle.panel.specs.Paths.{paths_answer}
 use Rattle.panel.specs.Pieces.{Pieces}
-use Rattle.panel.specs.declared.kinds.Verdict.{Verdict}
-use Rattle.panel.specs.declared.kinds.Verdict.TheVariants.{Fine, Against}
-use Rattle.panel.specs.declared.kinds.Answer.{Answer}
-use Rattle.panel.specs.declared.kinds.Answer.TheVariants.{Done, Refused}
+use Rattle.panel.specs.Verdict.{Verdict, Fine, Against}
+use Rattle.panel.specs.Answer.{Refused}
 use Rattle.frame.specs.Frame as Frame
 use Rattle.pairs.specs.Pairs.{Tables}
 use Rattle.write_lists.specs.Lists as Lists

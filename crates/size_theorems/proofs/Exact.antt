@@ -1,43 +1,39 @@
 -- `sizes` is exact: its promise is met where one of its ways holds, and nowhere else. docs/THEOREMS.md, "Sizes". Assumes nothing.
-use mathlib.Core.Path.{◌≡◌, refl, sym, ap, subst, ◌∙◌}
-use mathlib.Core.Logic.{◌↔◌, ◌⊎◌, inl, inr}
+use mathlib.Core.Path.{◌≡◌, refl, sym, ap, ◌∙◌}
+use mathlib.Core.Logic.{◌↔◌}
 use mathlib.Core.Bool.{Bool, true, false, cond, ◌&&◌}
-use mathlib.Core.List.{List, [], ◌∷◌, ◌++◌}
+use mathlib.Core.List.{List}
 use Prim.Native.Nat.{ℕ, zero, suc, ◌+◌, ◌-◌, ◌≤◌, ◌<◌}
 use native.Mathlib.Decide.{dec_lt}
 use native.Mathlib.Omega.{arith}
-use lib.Dec.{leb, ltb}
+use lib.Dec.{ltb}
 use lib.ListN.{length, get_or}
 use lib.Ieee.{Float}
-use borrow.Author.Tests.{lt-ltb, le-ltb, le-leb, lt-leb, ltb-true, ltb-false}
+use borrow.Author.Tests.{lt-ltb, le-ltb, ltb-true, ltb-false}
 use Rattle.lists.specs.Run.{Step, taken, halted, Ran, done, refused, on_step, run, run_append_done}
 use Rattle.lists.specs.Sums.{from, from_add}
 use Rattle.panel.specs.Limits.{most_tiles, most_lines, most_steps, most_slots}
 use Rattle.panel.specs.Refusals.{line_number, coordinate, no_such, count_over, no_room_word}
-use Rattle.panel.specs.Checks.{first_no, unless}
+use Rattle.panel.specs.Checks.{first_no}
 use Rattle.panel.specs.Paths.{path_at, path_count, paths_answer}
 use Rattle.panel.specs.declared.kinds.Path.{Path}
-use Rattle.panel.specs.declared.kinds.Answer.{Answer}
-use Rattle.panel.specs.declared.kinds.Answer.TheVariants as Answer
-use Rattle.panel.specs.declared.kinds.Verdict.{Verdict}
-use Rattle.panel.specs.declared.kinds.Verdict.TheVariants.{Fine, Against}
-use Rattle.panel.proofs.CheckLaws.{unless_no, unless_fine, unless_done}
+use Rattle.panel.specs.Answer.{Answer}
+use Rattle.panel.specs.Verdict.{Verdict, Fine, Against}
 use Rattle.walk.specs.Lent.{line_at, reached_of, walked_of, walk_at}
 use Rattle.walk.specs.declared.kinds.Walk.{Walk}
-use Rattle.walk.specs.declared.kinds.Walked.{Walked}
-use Rattle.walk.specs.declared.kinds.Walked.TheVariants as Found
+use Rattle.walk.specs.Walked.{Walked}
+use Rattle.walk.specs.Walked as Found
 use Rattle.acts.specs.Line.{Plan, too_far, Refusal}
 use Rattle.walked_lines.specs.Line.{plan_of}
 use Rattle.walked_lines.proofs.Lines.{is_far, not_far}
-use Rattle.theorems.specs.Refusing.{BadEnds, RowWhy, Walks}
+use Rattle.theorems.specs.Refusing.{BadEnds, Walks}
 use Rattle.theorems.proofs.Exact.{no_clash, row_exact, never}
 use Rattle.theorems.proofs.ExactPaths.{paths_exact}
 use Rattle.theorems.proofs.Grounds.{ends_exact, ends_good, good_ends}
-use Rattle.sizes.specs.Refs.{stop_if, plan_size, walked_size, line_size, size_at, lines_size, told_ran, refs_of}
+use Rattle.sizes.specs.Refs.{stop_if, plan_size, walked_size, line_size, size_at, lines_size, refs_of}
 use Rattle.sizes.specs.Words.{tiles_of, words_of}
-use Rattle.sizes.specs.Sizes.{call_answer, measured, asked, room_of, sizes_of, SizesMet}
-use Rattle.sizes.specs.declared.Measured.{Measured}
-use Rattle.sizes.specs.declared.Measured.TheVariants.{Done, Refused}
+use Rattle.sizes.specs.Sizes.{call_answer, room_of, sizes_of, SizesMet}
+use Rattle.sizes.specs.Measured.{Measured, Done, Refused}
 use Rattle.sizes.proofs.RefLaws.{line_over, line_walked}
 use Rattle.size_theorems.specs.Ways.{SizeWhy, five, six, seven, eight, nine, sizes_row, Passes, SizesWay, row_refused, paths_refused, line_refused, all_told}
 

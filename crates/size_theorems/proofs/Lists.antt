@@ -1,9 +1,9 @@
 -- Lists over the words that `sizes` tells, after hand-out, are never refused with 9. docs/THEOREMS.md, "Sizes". Assumes nothing.
 use mathlib.Core.Path.{◌≡◌, refl, sym, ap, ◌∙◌}
-use mathlib.Core.Logic.{◌⊎◌, inl, inr, ◌≢◌}
+use mathlib.Core.Logic.{◌≢◌}
 use mathlib.Core.Bool.{Bool, true, false, cond}
 use mathlib.Core.List.{List, [], ◌∷◌, ◌++◌}
-use Prim.Native.Nat.{ℕ, zero, suc, ◌+◌, ◌-◌, ◌*◌, ◌/◌, ◌%◌, ◌≤◌, ◌<◌}
+use Prim.Native.Nat.{ℕ, zero, suc, ◌+◌, ◌*◌, ◌/◌, ◌%◌, ◌≤◌}
 use native.Mathlib.Omega.{arith}
 use lib.Dec.{leb, ltb}
 use lib.ListN.{length, length-append}
@@ -15,24 +15,21 @@ use Rattle.panel.specs.Refusals.{no_room_word, too_long_word}
 use Rattle.panel.specs.Checks.{Check, first_no, unless}
 use Rattle.panel.specs.Paths.{path_at, path_count, tile_of}
 use Rattle.panel.specs.Slots.{not32}
-use Rattle.panel.specs.declared.kinds.Verdict.{Verdict}
-use Rattle.panel.specs.declared.kinds.Verdict.TheVariants.{Fine, Against}
-use Rattle.panel.specs.declared.kinds.Answer.{Answer}
-use Rattle.panel.specs.declared.kinds.Answer.TheVariants as Answer
+use Rattle.panel.specs.Verdict.{Verdict, Fine, Against}
+use Rattle.panel.specs.Answer.{Answer}
 use Rattle.panel.proofs.CheckLaws.{none_fails}
 use Rattle.commands.specs.Numbers.{tile_words}
 use Rattle.commands.specs.Pixel.{even_odd_of}
 use Rattle.pairs.specs.Pairs.{Tables, tables, in_box, covers, bits_of, on_tile, by_path, on_path, pairs_of, tile_pairs}
 use Rattle.lay_pairs.specs.Layout.{jumps_of, own_words, commands_of, written}
 use Rattle.write_lists.specs.Lists.{call_answer, long_from, fresh_of, fills_fit, room_checks, screen_tiles, regions_of, then_check, answer_of, lists_of, on_done, write_lists_of}
-use Rattle.pairs.specs.declared.Pair.{Pair}
 use Rattle.pairs.specs.declared.Pair.TheVariants.{Fill, Solid}
 use Rattle.list_theorems.proofs.Handed.{Handed, handed_fits}
-use Rattle.sizes.specs.Words.{screen_pairs, pairs_to, region_pairs, words_of}
+use Rattle.sizes.specs.Words.{pairs_to, region_pairs, words_of}
 use Rattle.sizes.proofs.WordLaws.{pairs_suc, pairs_none}
 use Rattle.size_theorems.proofs.Checks.{lists_early}
 use Rattle.size_theorems.proofs.Jumps.{jumps_most}
-use Rattle.size_theorems.proofs.Grid.{sum_to, sum_zero, sum_suc, sum_le, sum_same, sum_add, sum_none, bit, box_tiles}
+use Rattle.size_theorems.proofs.Grid.{sum_to, sum_zero, sum_suc, sum_same, sum_add, sum_none, bit, box_tiles}
 
 module _ (s : Tables) where
   -- ---- what a path puts on a tile: at most one pair, and none off its box

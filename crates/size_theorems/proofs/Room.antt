@@ -1,9 +1,9 @@
 -- With room for the references that `sizes` tells, a count is never refused with 9; nor is a frame with a segment for each. Where either is done, it made as
 -- many. docs/THEOREMS.md, "Sizes". Assumes nothing.
-use mathlib.Core.Path.{◌≡◌, refl, sym, ap, ◌∙◌}
-use mathlib.Core.Logic.{◌⊎◌, inl, inr, ◌≢◌}
-use mathlib.Core.List.{List, [], ◌∷◌}
-use Prim.Native.Nat.{ℕ, zero, suc, ◌+◌, ◌-◌, ◌/◌, ◌≤◌, ◌<◌, min}
+use mathlib.Core.Path.{◌≡◌, refl, sym, ◌∙◌}
+use mathlib.Core.Logic.{◌≢◌}
+use mathlib.Core.List.{List}
+use Prim.Native.Nat.{ℕ, ◌/◌, ◌≤◌, ◌<◌}
 use native.Mathlib.Omega.{arith}
 use lib.ListN.{length}
 use lib.IntN.{ℤ}
@@ -14,16 +14,14 @@ use Rattle.panel.specs.Refusals.{no_room_word}
 use Rattle.panel.specs.Widths.{ref_words, segment_floats}
 use Rattle.panel.specs.Pieces.{Pieces}
 use Rattle.panel.specs.declared.kinds.Running.{Running}
-use Rattle.acts.specs.Acts.{St, st_of, Act, mark, visit, stop, delta_of}
-use Rattle.acts.specs.Line.{plan_acts, Refusal}
-use Rattle.walked_lines.specs.Line.{plan_of, line_step}
+use Rattle.acts.specs.Acts.{St, Act, mark, visit, stop, delta_of}
+use Rattle.acts.specs.Line.{Refusal}
+use Rattle.walked_lines.specs.Line.{plan_of}
 use Rattle.path_count.specs.Count.{batch}
-use Rattle.path_tiling.specs.Tiling.{slots_of}
 use Rattle.frame.specs.Frame.{out_of, frame_of}
 use Rattle.frame.specs.declared.kinds.Stage.{Stage}
-use Rattle.frame.specs.declared.kinds.Stage.TheVariants as Stage
-use Rattle.frame.specs.declared.kinds.Framed.TheVariants.{Done, Refused}
-use Rattle.theorems.specs.Refusing.{StopsAt, ActWhy, LineWhy, five, six, seven, eight, nine, ten, stops, BatchWhy}
+use Rattle.frame.specs.Framed.{Done, Refused}
+use Rattle.theorems.specs.Refusing.{ActWhy, LineWhy, five, six, seven, eight, nine, ten, stops, BatchWhy}
 use Rattle.theorems.specs.Framing.{Counts}
 use Rattle.theorems.proofs.Exact.{line_exact}
 use Rattle.theorems.proofs.SumLaws.{went}
@@ -31,8 +29,8 @@ use Rattle.theorems.proofs.Framing.{frame_lent, frame_line, frame_slots, frame_n
 use Rattle.theorems.proofs.FrameNumbers.{frame_crooked}
 use Rattle.sizes.specs.Sizes.{sizes_of}
 use Rattle.sizes.specs.declared.Room.{Room}
-use Rattle.sizes.specs.declared.Measured.TheVariants as Measured
-use Rattle.sizes.specs.Refs.{line_size, lines_size}
+use Rattle.sizes.specs.Measured as Measured
+use Rattle.sizes.specs.Refs.{lines_size}
 use Rattle.size_theorems.proofs.Checks.{frame_early}
 use Rattle.size_theorems.proofs.Same.{batch_same}
 use Rattle.size_theorems.proofs.Told.{SizesTold, sizes_told, walk_adds, lines_few, line_within}

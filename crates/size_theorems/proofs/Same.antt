@@ -1,24 +1,20 @@
 -- Where counting is done, the references that it made are the number that `sizes` tells. Assumes nothing.
-use mathlib.Core.Path.{◌≡◌, refl, sym, ap, ◌∙◌}
+use mathlib.Core.Path.{◌≡◌, sym, ap, ◌∙◌}
 use mathlib.Core.Bool.{Bool, true, false}
-use mathlib.Core.List.{List, [], ◌∷◌}
-use Prim.Native.Nat.{ℕ, zero, suc, ◌+◌, ◌-◌, ◌/◌, ◌≤◌, ◌<◌, min}
+use mathlib.Core.List.{List}
+use Prim.Native.Nat.{ℕ, zero, suc, ◌+◌, ◌-◌, ◌≤◌}
 use native.Mathlib.Omega.{arith}
-use lib.Dec.{leb, ltb}
-use lib.ListN.{length}
-use lib.IntN.{ℤ}
+use lib.Dec.{leb}
 use lib.Ieee.{Float}
 use borrow.Author.Tests.{le-ltb}
-use Rattle.lists.specs.Run.{Step, taken, halted, Ran, done, refused, on_step, run, run_cons_done}
+use Rattle.lists.specs.Run.{Step, taken, halted, done, on_step, run, run_cons_done}
 use Rattle.lists.specs.Sums.{from}
 use Rattle.panel.specs.Limits.{most_lines, most_slots}
 use Rattle.panel.specs.Refusals.{line_number}
-use Rattle.panel.specs.Widths.{ref_words}
 use Rattle.walk.specs.Lent.{walk_at}
-use Rattle.walk.specs.declared.kinds.Walked.{Walked}
-use Rattle.walk.specs.declared.kinds.Walked.TheVariants.{Refused as WalkRefused, Skipped, Line}
+use Rattle.walk.specs.Walked.{Walked, Refused as WalkRefused, Skipped, Line}
 use Rattle.acts.specs.Acts.{St}
-use Rattle.acts.specs.Line.{Plan, halt_if, plan_step, Refusal, at_line, batch_of}
+use Rattle.acts.specs.Line.{Plan, halt_if, plan_step, at_line, batch_of}
 use Rattle.walked_lines.specs.Line.{plan_of, walked_step, line_step}
 use Rattle.path_count.specs.Count.{batch}
 use Rattle.sizes.specs.Refs.{stop_if, plan_size, walked_size, line_size, size_at, lines_size}

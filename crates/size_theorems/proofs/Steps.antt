@@ -1,19 +1,19 @@
 -- A line that is taken makes exactly one reference for each step of its clipped walk. Assumes nothing.
-use mathlib.Core.Path.{◌≡◌, refl, ap}
+use mathlib.Core.Path.{◌≡◌, refl}
 use mathlib.Core.Bool.{Bool, true, false}
 use mathlib.Core.List.{List, [], ◌∷◌, ◌++◌}
-use Prim.Native.Nat.{ℕ, zero, suc, ◌+◌, ◌-◌, ◌≤◌, ◌<◌, min}
+use Prim.Native.Nat.{ℕ, zero, suc, ◌+◌, ◌-◌, ◌≤◌, min}
 use native.Mathlib.Omega.{arith}
 use lib.Dec.{ltb}
 use lib.ListN.{length, get_or}
 use lib.IntN.{ℤ, pos, ◌+ℤ◌}
-use Rattle.lists.specs.Run.{Step, taken, halted, Ran, done, refused}
+use Rattle.lists.specs.Run.{Step, taken, done}
 use Rattle.panel.specs.Limits.{most_count, most_slots}
 use Rattle.panel.specs.Refusals.{count_over, sum_over}
 use Rattle.panel.specs.Signed.{in_i32}
-use Rattle.acts.specs.Acts.{St, Act, mark, visit, stop, Hit, on, off, row_acts, cross_acts, step_acts, steps_acts, marked, visited, run_acts, delta_of}
+use Rattle.acts.specs.Acts.{St, Act, mark, visit, stop, Hit, on, off, row_acts, step_acts, steps_acts, marked, visited, run_acts, delta_of}
 use Rattle.acts.specs.Rows.{rows_acts}
-use Rattle.acts.specs.Line.{Plan, plan_acts, refs_of, plan_refs, halt_if, too_far, plan_step}
+use Rattle.acts.specs.Line.{Plan, plan_acts, refs_of, halt_if, too_far, plan_step}
 use Rattle.acts.proofs.Whole.{on_taken, no_stop, run_made, plan_taken}
 
 -- the acts that refuse

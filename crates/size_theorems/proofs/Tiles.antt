@@ -1,20 +1,18 @@
 -- The tiles that `sizes` tells suffice for the paths, and no fewer do. docs/THEOREMS.md, "Sizes". Assumes nothing.
-use mathlib.Core.Path.{◌≡◌, refl, sym, ap, subst, ◌∙◌}
-use mathlib.Core.Logic.{◌⊎◌, inl, inr}
+use mathlib.Core.Path.{◌≡◌, refl, subst}
+use mathlib.Core.Logic.{inl, inr}
 use mathlib.Core.Bool.{Bool, true, false, cond}
 use mathlib.Core.List.{List}
-use Prim.Native.Nat.{ℕ, zero, suc, ◌+◌, ◌-◌, ◌*◌, ◌/◌, ◌%◌, ◌≤◌, ◌<◌}
+use Prim.Native.Nat.{ℕ, zero, suc, ◌-◌, ◌≤◌, ◌<◌}
 use native.Mathlib.Decide.{dec_lt}
 use native.Mathlib.Omega.{arith}
 use lib.Dec.{eqb}
-use lib.ListN.{length}
 use borrow.Author.Tests.{eqb-true, eqb-false}
 use Rattle.panel.specs.Limits.{most_tiles}
 use Rattle.panel.specs.Paths.{path_at, path_count, end_of, paths_answer}
-use Rattle.panel.specs.declared.kinds.Answer.{Answer}
-use Rattle.panel.specs.declared.kinds.Answer.TheVariants.{Done, Refused}
+use Rattle.panel.specs.Answer.{Answer, Done, Refused}
 use Rattle.panel.proofs.PathLaws.{Checked, checked}
-use Rattle.theorems.specs.Refusing.{GoodBox, end_before, PathsWhy, one, two, three, four}
+use Rattle.theorems.specs.Refusing.{end_before, PathsWhy, one, two, three, four}
 use Rattle.theorems.proofs.ExactPaths.{paths_exact}
 use Rattle.sizes.specs.Words.{tiles_of}
 

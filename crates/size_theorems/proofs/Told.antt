@@ -1,8 +1,8 @@
 -- What an answer of `sizes` says: its parts, and how the references grow line by line. Assumes nothing.
 use mathlib.Core.Path.{◌≡◌, refl, sym, ap, ◌∙◌, subst}
 use mathlib.Core.Bool.{Bool, true, false}
-use mathlib.Core.List.{List, [], ◌∷◌, ◌++◌}
-use Prim.Native.Nat.{ℕ, zero, suc, ◌+◌, ◌-◌, ◌≤◌, ◌<◌}
+use mathlib.Core.List.{List, ◌++◌}
+use Prim.Native.Nat.{ℕ, suc, ◌+◌, ◌-◌, ◌≤◌, ◌<◌}
 use native.Mathlib.Omega.{arith}
 use lib.Dec.{leb, ltb}
 use lib.ListN.{length}
@@ -13,19 +13,17 @@ use Rattle.lists.specs.Sums.{from, from_add}
 use Rattle.panel.specs.Limits.{most_lines, most_slots}
 use Rattle.panel.specs.Refusals.{line_number, count_over, no_room_word}
 use Rattle.panel.specs.declared.kinds.Path.{Path}
-use Rattle.panel.specs.declared.kinds.Answer.{Answer}
-use Rattle.panel.specs.declared.kinds.Answer.TheVariants as Answer
+use Rattle.panel.specs.Answer.{Answer}
 use Rattle.walk.specs.Lent.{walk_at}
 use Rattle.walk.specs.declared.kinds.Walk.{Walk}
-use Rattle.walk.specs.declared.kinds.Walked.{Walked}
-use Rattle.walk.specs.declared.kinds.Walked.TheVariants.{Refused as WalkRefused, Skipped, Line}
+use Rattle.walk.specs.Walked.{Walked, Refused as WalkRefused, Skipped, Line}
 use Rattle.acts.specs.Line.{Plan, too_far, Refusal}
 use Rattle.walked_lines.specs.Line.{plan_of}
 use Rattle.sizes.specs.Refs.{stop_if, plan_size, walked_size, line_size, size_at, lines_size, told_ran, refs_of}
 use Rattle.sizes.specs.Words.{tiles_of, words_of}
 use Rattle.sizes.specs.Sizes.{call_answer, measured, asked, sizes_of, room_of}
 use Rattle.sizes.specs.declared.Room.{Room}
-use Rattle.sizes.specs.declared.Measured.TheVariants.{Done, Refused}
+use Rattle.sizes.specs.Measured.{Done}
 use Rattle.sizes.proofs.RefLaws.{line_few}
 
 -- ---- an answer that is done
@@ -110,6 +108,6 @@ module _ (nos : List ℕ) (coords : List Float) (paths : List ℕ) where
       ∙ sym (run_append step (from 0 (l - 0)) (from (0 + (l - 0)) (suc (n - suc l))) 0) ∙ whole in
       let w = run_cons_done step l (from (suc l) (n - suc l)) m all (rw here at rest) in
       let g : w.0 ≤ all =
-      subst (λ (o : Ran ℕ Refusal). w.0 ≤ left o) w.2
+      subst (λ (o : Ran ℕ Refusal). w.0 ≤ left o) {x = run step (from (suc l) (n - suc l)) w.0} w.2
       (run_keeps step (λ k. w.0 ≤ k) (λ j k k' p q. omega (arith, p, grows j k k' (at_taken j (line_size nos coords paths j k) k' q))) (from (suc l) (n - suc l)) w.0 (omega arith)) in
       (w.0, at_taken l (line_size nos coords paths l m) w.0 w.1, g)

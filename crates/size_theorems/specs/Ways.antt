@@ -1,13 +1,13 @@
 -- The ways in which `sizes` can end, and the grounds of its refusals. docs/THEOREMS.md, "Sizes". Definitions only.
-use Rattle.std.specs.Prelude.{◌≡◌, ◌⊎◌, List, ℕ, ◌+◌, ◌-◌, ◌≤◌, ◌<◌, length, get_or, Float}
+use Rattle.std.specs.Prelude.{◌≡◌, List, ℕ, ◌+◌, ◌-◌, ◌≤◌, ◌<◌, length, get_or, Float}
 use Rattle.lists.specs.Run.{done}
 use Rattle.panel.specs.Limits.{most_tiles, most_lines, most_steps, most_slots}
 use Rattle.panel.specs.Refusals.{line_number, coordinate, no_such, count_over, no_room_word}
 use Rattle.panel.specs.Checks.{Check, first_no}
 use Rattle.panel.specs.Paths.{path_count, paths_answer}
 use Rattle.panel.specs.declared.kinds.Path.{Path}
-use Rattle.panel.specs.declared.kinds.Answer.TheVariants as Answer
-use Rattle.panel.specs.declared.kinds.Verdict.TheVariants.{Fine}
+use Rattle.panel.specs.Answer as Answer
+use Rattle.panel.specs.Verdict.{Fine}
 use Rattle.walk.specs.Lent.{line_at}
 use Rattle.walk.specs.declared.kinds.Walk.{Walk}
 use Rattle.walked_lines.specs.Line.{plan_of}
@@ -15,8 +15,7 @@ use Rattle.theorems.specs.Refusing.{RowWhy, PathsWhy, BadEnds, Walks}
 use Rattle.sizes.specs.Refs.{lines_size}
 use Rattle.sizes.specs.Words.{tiles_of, words_of}
 use Rattle.sizes.specs.Sizes.{lent_checks, room_of}
-use Rattle.sizes.specs.declared.Measured.{Measured}
-use Rattle.sizes.specs.declared.Measured.TheVariants.{Done, Refused}
+use Rattle.sizes.specs.Measured.{Measured, Done, Refused}
 
 -- line l, after so many references, is refused with n
 pub data SizeWhy (nos : List ℕ) (coords : List Float) (paths : List ℕ) (l made n : ℕ) : Type 0 where

@@ -1,7 +1,7 @@
 -- What the checks of the call leave, and its answers. Assumes nothing.
-use mathlib.Core.Path.{◌≡◌, refl, sym, ap, ◌∙◌}
+use mathlib.Core.Path.{◌≡◌, sym, ◌∙◌}
 use mathlib.Core.List.{List}
-use Prim.Native.Nat.{ℕ, ◌*◌, ◌/◌, ◌%◌, ◌≤◌}
+use Prim.Native.Nat.{ℕ, ◌*◌, ◌/◌, ◌≤◌}
 use native.Mathlib.Omega.{arith}
 use lib.ListN.{length}
 use lib.Ieee.{Float}
@@ -10,15 +10,13 @@ use Rattle.panel.specs.Limits.{most_tiles}
 use Rattle.panel.specs.Widths.{line_floats}
 use Rattle.panel.specs.Checks.{first_no}
 use Rattle.panel.specs.Paths.{paths_answer}
-use Rattle.panel.specs.declared.kinds.Answer.{Answer}
-use Rattle.panel.specs.declared.kinds.Answer.TheVariants as Answer
+use Rattle.panel.specs.Answer.{Answer}
 use Rattle.panel.proofs.CheckLaws.{all_ok, unless_done}
 use Rattle.sizes.specs.Refs.{refs_of}
 use Rattle.sizes.specs.Words.{tiles_of, words_of}
-use Rattle.sizes.specs.Sizes.{lent_checks, call_answer, measured, asked, sizes_of}
-use Rattle.sizes.specs.declared.Refs.{Refs}
-use Rattle.sizes.specs.declared.Measured.{Measured}
-use Rattle.sizes.specs.declared.Measured.TheVariants.{Refused}
+use Rattle.sizes.specs.Sizes.{lent_checks, call_answer, measured, sizes_of}
+use Rattle.sizes.specs.RefsMade.{Refs}
+use Rattle.sizes.specs.Measured.{Measured, Refused}
 
 pub record Passed (nn nc : ℕ) (paths : List ℕ) (cols rows : ℕ) : Type 0 where
   pub whole : nn * line_floats ≤ nc

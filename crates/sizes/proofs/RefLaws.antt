@@ -16,15 +16,14 @@ use Rattle.panel.specs.Refusals.{count_over, no_room_word, line_number}
 use Rattle.panel.specs.declared.kinds.Path.{Path}
 use Rattle.walk.specs.Lent.{walk_at}
 use Rattle.walk.specs.declared.kinds.Walk.{Walk}
-use Rattle.walk.specs.declared.kinds.Walked.{Walked}
-use Rattle.walk.specs.declared.kinds.Walked.TheVariants.{Refused as WalkRefused, Skipped, Line}
+use Rattle.walk.specs.Walked.{Walked}
+use Rattle.walk.specs.Walked.{Refused as WalkRefused, Skipped, Line}
 use Rattle.clip.specs.Page.{clipped_of}
 use Rattle.clip.specs.declared.Clip.{Clip}
 use Rattle.acts.specs.Line.{Plan, too_far, Refusal}
 use Rattle.walked_lines.specs.Line.{plan_by, plan_of}
 use Rattle.sizes.specs.Refs.{stop_if, plan_size, walked_size, line_size, size_at, lines_size, told_ran, refs_of}
-use Rattle.sizes.specs.declared.Refs.{Refs}
-use Rattle.sizes.specs.declared.Refs.TheVariants.{Made, Refused}
+use Rattle.sizes.specs.RefsMade.{Made, Refused}
 
 -- ---- a walk, by the clip in hand
 

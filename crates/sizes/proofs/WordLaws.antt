@@ -1,10 +1,9 @@
 -- The pairs that paths can put on a screen are no more than their tiles. Assumes nothing.
 use mathlib.Core.Path.{◌≡◌, refl}
 use mathlib.Core.List.{List}
-use Prim.Native.Nat.{ℕ, zero, suc, ◌+◌, ◌-◌, ◌*◌, ◌/◌, ◌≤◌, ◌<◌, ◌^◌, min}
+use Prim.Native.Nat.{ℕ, zero, suc, ◌+◌, ◌*◌, ◌≤◌, ◌<◌}
 use native.Mathlib.Nat.{mul-le-mul}
 use native.Mathlib.Omega.{arith}
-use Rattle.panel.specs.Limits.{most_tiles}
 use Rattle.panel.specs.Paths.{path_at, path_count, width_of, height_of, end_of}
 use Rattle.panel.specs.declared.kinds.Path.{Path}
 use Rattle.panel.proofs.PathLaws.{Checked}

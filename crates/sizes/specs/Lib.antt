@@ -5,3 +5,5 @@
 pub mod Refs
 pub mod Words
 pub mod Sizes
+pub mod RefsMade
+pub mod Measured

@@ -6,14 +6,12 @@ use Rattle.lists.specs.Sums.{from}
 use Rattle.panel.specs.Limits.{most_lines, most_slots}
 use Rattle.panel.specs.Refusals.{line_number, count_over, no_room_word}
 use Rattle.walk.specs.Lent.{walk_at}
-use Rattle.walk.specs.declared.kinds.Walked.{Walked}
-use Rattle.walk.specs.declared.kinds.Walked.TheVariants.{Refused as WalkRefused, Skipped, Line}
+use Rattle.walk.specs.Walked.{Walked}
+use Rattle.walk.specs.Walked.{Refused as WalkRefused, Skipped, Line}
 use Rattle.acts.specs.Line.{Plan, too_far, Refusal}
 use Rattle.walked_lines.specs.Line.{plan_of}
-use Rattle.walked_lines.specs.declared.Tallied.{Tallied}
-use Rattle.walked_lines.specs.declared.Tallied.TheVariants.{On, Against}
-use Rattle.sizes.specs.declared.Refs.{Refs}
-use Rattle.sizes.specs.declared.Refs.TheVariants.{Made, Refused}
+use Rattle.walked_lines.specs.Tallied.{Tallied, On, Against}
+use Rattle.sizes.specs.RefsMade.{Refs, Made, Refused}
 
 -- ---- a line, after so many references: how many there are then, or why it is refused
 

@@ -5,15 +5,12 @@ use Rattle.panel.specs.Refusals.{done_no, not_whole, too_many}
 use Rattle.panel.specs.Widths.{line_floats, path_words}
 use Rattle.panel.specs.Checks.{Check, check, first_no, unless}
 use Rattle.panel.specs.Paths.{paths_answer}
-use Rattle.panel.specs.declared.kinds.Answer.{Answer}
-use Rattle.panel.specs.declared.kinds.Answer.TheVariants as Answer
+use Rattle.panel.specs.Answer.{Answer}
 use Rattle.sizes.specs.Refs.{refs_of}
 use Rattle.sizes.specs.Words.{tiles_of, words_of}
-use Rattle.sizes.specs.declared.Refs.{Refs}
-use Rattle.sizes.specs.declared.Refs.TheVariants as Refs
+use Rattle.sizes.specs.RefsMade.{Refs}
 use Rattle.sizes.specs.declared.Room.{Room}
-use Rattle.sizes.specs.declared.Measured.{Measured}
-use Rattle.sizes.specs.declared.Measured.TheVariants.{Done, Refused}
+use Rattle.sizes.specs.Measured.{Measured, Done, Refused}
 
 abbrev pub room_of : (tiles refs words : ℕ) → Room
 room_of tiles refs words = record { tiles = tiles; refs = refs; words = words }

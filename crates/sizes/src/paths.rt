@@ -1,8 +1,8 @@
 // The tiles that the paths take, and command words for the lists of a screen.
-ghost use Rattle.std.specs.Prelude.{◌≡◌, ◌-◌, ◌*◌, ◌≤◌};
+ghost use Rattle.std.specs.Prelude.{◌≡◌, ◌*◌, ◌≤◌};
 ghost use Rattle.panel.specs.Limits.{most_tiles};
 ghost use Rattle.panel.specs.Paths.{path_count, paths_answer};
-ghost use Rattle.panel.specs.declared.kinds.Answer.TheVariants.{Done};
+ghost use Rattle.panel.specs.Answer.{Done};
 ghost use Rattle.sizes.specs.Words.{tiles_of, on_screen, screen_pairs, pairs_to, region_pairs, words_of};
 
 use commands::numbers::{COLOR_WORDS, FILL_WORDS, JUMP_WORDS, LIST_START, TILE_WORDS};
@@ -20,28 +20,14 @@ pub fn tiles_of(paths: &[u32]) -> u32
     if n == 0 {
         return 0;
     }
-    let last = path_at(paths, n - 1);
-    end_of(last) as u32
-}
-
-// From a up to b: none where b is below.
-fn between(a: u32, b: u32) -> u64
-    ensures { result ≡ b - a }
-{
-    if b < a {
-        return 0;
-    }
-    (b - a) as u64
+    end_of(path_at(paths, n - 1)) as u32
 }
 
 // The columns, or rows, from a up to b that lie below a screen's.
 fn on_screen(a: u32, b: u32, most: u32) -> u64
     ensures { result ≡ on_screen a b most }
 {
-    if b < most {
-        return between(a, b);
-    }
-    between(a, most)
+    b.min(most).saturating_sub(a) as u64
 }
 
 // The tiles of a path's box that lie on the screen.
@@ -59,11 +45,9 @@ fn pairs_to(paths: &[u32], n: u32, cols: u32, rows: u32) -> u64
     ensures { result ≡ pairs_to paths.now cols rows n }
 {
     let mut pairs: u64 = 0;
-    let mut k: u32 = 0;
-    while k < n {
+    for k in 0..n {
         let p = path_at(paths, k);
         pairs += screen_pairs(p, cols, rows);
-        k += 1;
     }
     pairs
 }

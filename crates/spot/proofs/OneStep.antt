@@ -20,7 +20,7 @@ use Rattle.errors.proofs.Parts.{parts_pos}
 use Rattle.margin.proofs.Ends.{times_unit, floor_turned}
 use Rattle.walk.specs.Num.{float, cut_of, inside_of}
 use Rattle.walk.specs.Step.{Within, tile_in}
-use Rattle.walk.specs.declared.step.Step.TheVariants.{Tile}
+use Rattle.walk.specs.Stepped.{Tile}
 use Rattle.walk.proofs.Boxes.{ok_of, tile_yes}
 use Rattle.spot.proofs.InTile.{Off, off_floor, off_up, off_small}
 

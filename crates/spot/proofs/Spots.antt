@@ -27,15 +27,15 @@ use Rattle.walk.specs.Page.{line_of, by_parts}
 use Rattle.walk.specs.Lent.{Reached}
 use Rattle.walk.specs.Step.{Boxed, Within, z_at, tile_in, step_of}
 use Rattle.walk.specs.declared.kinds.Walk.{Walk}
-use Rattle.walk.specs.declared.step.Step.TheVariants.{Tile}
+use Rattle.walk.specs.Stepped.{Tile}
 use Rattle.walk.proofs.AroundLaws.{ends_ordered}
 use Rattle.walk.proofs.Counts.{ends_scaled}
 use Rattle.walk.proofs.Lines.{skipped, walks}
 use Rattle.walk.proofs.StepTiles.{z_fits}
 use Rattle.spot.specs.Spot.{OneTile, SpotMet}
 use Rattle.spot.specs.Tests.{short, shift, shifted_of, stretch_of, between_of, long_of, held_of, At, AtMet, Real}
-use Rattle.spot.specs.declared.Spot.{Spot}
-use Rattle.spot.specs.declared.Spot.TheVariants.{In, Other}
+use Rattle.spot.specs.Place.{Spot}
+use Rattle.spot.specs.Place.{In, Other}
 use Rattle.spot.specs.declared.Stretch.{Stretch}
 use Rattle.spot.proofs.InTile.{Off, off_edge, off_span, off_reach}
 use Rattle.spot.proofs.Guess.{guess_is, guess_next, both_off}

@@ -3,3 +3,4 @@
 --     Tests   the tests by which it is found; for proofs
 pub mod Spot
 pub mod Tests
+pub mod Place

@@ -8,11 +8,11 @@ use Rattle.walk.specs.Num.{float}
 use Rattle.walk.specs.Page.{line_of}
 use Rattle.walk.specs.Lent.{Reached, walked_of}
 use Rattle.walk.specs.Step.{Within, z_at, step_of}
-use Rattle.walk.specs.declared.kinds.Walked.TheVariants.{Line}
-use Rattle.walk.specs.declared.step.Step.TheVariants.{Tile}
+use Rattle.walk.specs.Walked.{Line}
+use Rattle.walk.specs.Stepped.{Tile}
 use Rattle.clip.specs.Page.{clipped_of}
-use Rattle.spot.specs.declared.Spot.{Spot}
-use Rattle.spot.specs.declared.Spot.TheVariants.{In, Other}
+use Rattle.spot.specs.Place.{Spot}
+use Rattle.spot.specs.Place.{In, Other}
 
 -- the line from p0 to p1 lies within the tile in column x and row y of the box b: it is walked in one step, which is on that tile and marks
 -- nothing, and it passes no row left of the box

@@ -8,8 +8,8 @@ use Rattle.panel.specs.Paths.{tile_of}
 use Rattle.panel.specs.declared.kinds.Path.{Path}
 use Rattle.whole.specs.Bits.{zero_bits}
 use Rattle.walk.specs.Step.{Within}
-use Rattle.spot.specs.declared.Spot.{Spot}
-use Rattle.spot.specs.declared.Spot.TheVariants.{In, Other}
+use Rattle.spot.specs.Place.{Spot}
+use Rattle.spot.specs.Place.{In, Other}
 use Rattle.spot.specs.declared.Stretch.{Stretch}
 
 -- 3 * 2 ^ 22, from which on the floats are the whole numbers; and 2 ^ -20

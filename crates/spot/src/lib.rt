@@ -17,13 +17,6 @@ use whole::ZERO;
 // length is far from an infinity.
 const SHORT: f32 = 9.5367431640625e-7;
 
-// The tile by its number, its column and its row; or a line to be looked at in another way.
-#[derive(Clone, Copy)]
-pub enum Spot {
-    In(TileNo, u32, u32),
-    Other,
-}
-
 // From the smaller of two numbers to the larger.
 #[derive(Clone, Copy)]
 struct Stretch {
@@ -71,23 +64,23 @@ fn held(tx: f32, ty: f32, across: Stretch, down: Stretch) -> bool
     between(tx, across) & between(ty, down) & long(across, down)
 }
 
-// The tile by the guesses, where it is in the box.
-fn tile_by(tx: f32, ty: f32, b: Path) -> Spot
+// The tile by the guesses, where it is in the box: its number, its column and its row.
+fn tile_by(tx: f32, ty: f32, b: Path) -> Option<(TileNo, u32, u32)>
     requires { Boxed b × Real tx × Real ty }
     ensures { AtMet tx ty b result }
 {
-    let col = std::num::wrapping_sub_u32(f32::to_bits(tx), ZERO);
-    let row = std::num::wrapping_sub_u32(f32::to_bits(ty), ZERO);
-    let x = std::num::wrapping_sub_u32(col, b.x0);
-    let y = std::num::wrapping_sub_u32(row, b.y0);
+    let col = f32::to_bits(tx).wrapping_sub(ZERO);
+    let row = f32::to_bits(ty).wrapping_sub(ZERO);
+    let x = col.wrapping_sub(b.x0);
+    let y = row.wrapping_sub(b.y0);
     if (x >= b.x1 - b.x0) | (y >= b.y1 - b.y0) {
-        return Spot::Other;
+        return None;
     }
-    Spot::In(tile_at(b, col, row), col, row)
+    Some((tile_at(b, col, row), col, row))
 }
 
 // The tile that the line from p0 to p1 lies in, where it lies in one of the box b.
-pub fn spot_of(p0: Vec2, p1: Vec2, b: Path) -> Spot
+pub fn spot_of(p0: Vec2, p1: Vec2, b: Path) -> Option<(TileNo, u32, u32)>
     requires { Boxed b }
     ensures { SpotMet p0 p1 b result }
 {
@@ -96,7 +89,7 @@ pub fn spot_of(p0: Vec2, p1: Vec2, b: Path) -> Spot
     let tx = shifted(s0.x);
     let ty = shifted(s0.y);
     if !held(tx, ty, stretch_of(s0.x, s1.x), stretch_of(s0.y, s1.y)) {
-        return Spot::Other;
+        return None;
     }
     tile_by(tx, ty, b)
 }

@@ -5,29 +5,28 @@
 ghost use Rattle.std.specs.Prelude.{◌≡◌, ◌≤◌, ◌<◌, length};
 ghost use Rattle.panel.specs.Widths.{line_floats};
 ghost use Rattle.panel.specs.Lines.{line_at};
+ghost use Rattle.panel.specs.Refusals.{no_of};
 ghost use Rattle.stretches.specs.Stretches.{Stretch, other_no};
 
 use panel::kinds::LineNo;
 use panel::limits::MOST_LINES;
 use panel::lines::line_at;
-use panel::refusals::{COORDINATE, LINE_NUMBER, NO_SUCH};
+use panel::refusals::Refusal;
 use setup::reached;
 
 // Why the first line lent is refused, which is of another path: 5 and 6 come first.
-pub fn other_no(line: LineNo, coords: &[f32]) -> u32
+pub fn other_no(line: LineNo, coords: &[f32]) -> Refusal
     requires { line_floats ≤ length coords.now }
-    ensures { result ≡ other_no line.0 (line_at coords.now 0) }
+    ensures { no_of result ≡ other_no line.0 (line_at coords.now 0) }
 {
     if line.0 >= MOST_LINES {
-        return LINE_NUMBER;
+        return Refusal::LineNumber;
     }
     let ends = line_at(coords, 0);
-    let p0 = ends.p0;
-    let p1 = ends.p1;
-    if reached(p0, p1) {
-        return NO_SUCH;
+    if reached(ends.p0, ends.p1) {
+        return Refusal::NoSuch;
     }
-    COORDINATE
+    Refusal::Coordinate
 }
 
 // How many lines from line k on are of this path and numbered one after the other. None, where line k is of another path.
@@ -36,8 +35,7 @@ pub fn stretch(path: u32, line_nos: &[u32], path_nos: &[u32], k: usize) -> u32
     ensures { Stretch path line_nos.now path_nos.now k result }
 {
     let first = line_nos[k] as u64;
-    let mut n: u32 = 0;
-    while n < MOST_LINES {
+    for n in 0..MOST_LINES {
         let at = k + (n as usize);
         if at >= path_nos.len() {
             return n;
@@ -48,7 +46,6 @@ pub fn stretch(path: u32, line_nos: &[u32], path_nos: &[u32], k: usize) -> u32
         if line_nos[at] as u64 != first + (n as u64) {
             return n;
         }
-        n += 1;
     }
-    n
+    MOST_LINES
 }

@@ -3,9 +3,9 @@
 --     same_z                 the bits of two floors are equal just where the floors are
 --     Grid, grid             what a line's numbers are, by where it starts
 --     struck                 a step that passes the tests is on its tile
-use Rattle.std.proofs.Common.{◌≡◌, ℕ, ◌+◌, ◌-◌, ◌*◌, ◌/◌, ◌%◌, ◌^◌, ◌<◌, ◌≤◌, min, Bool, true, false, cond, not, ◌&&◌, ◌||◌, T, eqb, ltb, leb, ◌⊎◌, ℤ, pos, negsuc, ◌+ℤ◌, ◌-ℤ◌, neg_ℤ, nat_abs, sym, refl, ap, ◌∙◌, subst, inl, inr, true≢false, mul-div_cancel, arith, lit<, lit≤, le-ltb, lt-ltb, eq-eqb, ne_eqb, eqb-true, le-leb, leb-false}
+use Rattle.std.proofs.Common.{◌≡◌, ℕ, ◌+◌, ◌-◌, ◌*◌, ◌/◌, ◌%◌, ◌^◌, ◌<◌, ◌≤◌, Bool, true, false, cond, not, ◌&&◌, ◌||◌, T, eqb, ltb, leb, ◌⊎◌, ℤ, pos, ◌+ℤ◌, ◌-ℤ◌, neg_ℤ, nat_abs, sym, refl, ap, ◌∙◌, subst, inl, inr, true≢false, mul-div_cancel, arith, lit<, lit≤, le-ltb, lt-ltb, eq-eqb, ne_eqb, eqb-true, le-leb, leb-false}
 use mathlib.Core.Bool.{false≢true}
-use lib.Ieee.{Float, nan, inf, fin, binary32, add, sub, mul, lt, eq, fits, sum, round, to_signed, to_unsigned, in_unsigned, of_bits, whole as is_whole}
+use lib.Ieee.{Float, nan, inf, fin, binary32, add, sub, mul, lt, eq, fits, sum, round, to_unsigned, in_unsigned, of_bits, whole as is_whole}
 use lib.Ieee.Fits.{add-fits}
 use lib.Ieee.Scale.{finite}
 use Rattle.float32.specs.Inner.{Within, limit}
@@ -14,13 +14,13 @@ use Rattle.float32.specs.Meaning.{floor_of, unit}
 use Rattle.util.specs.Constants.{zero, one}
 use Rattle.panel.specs.Limits.{most_tiles}
 use Rattle.panel.specs.Kinds.{tile_no_of}
-use Rattle.panel.specs.Paths.{width_of, height_of, end_of, tile_of}
+use Rattle.panel.specs.Paths.{width_of, height_of, tile_of}
 use Rattle.panel.specs.Widths.{step_range}
 use Rattle.panel.specs.declared.kinds.Path.{Path}
 use Rattle.panel.proofs.PathLaws.{cell_in}
 use Rattle.panel.proofs.BoolLaws.{both}
 use Rattle.exact.specs.Whole.{IsWhole, floor_z, turn}
-use Rattle.exact.specs.Reach.{Starts, coord_tiles}
+use Rattle.exact.specs.Reach.{Starts}
 use Rattle.exact.proofs.Signs.{plus_of, minus_of, one_part, abs_parts, neg_plus, neg_minus, sum_parts, same_parts, abs_sum, abs_neg, abs_turn}
 use Rattle.exact.proofs.Exact.{floor_whole, nat_whole, whole_cast, add_whole, sub_whole}
 use Rattle.exact.proofs.Spans.{one_whole, pos_cast}
@@ -30,14 +30,20 @@ use Rattle.whole.specs.Bits.{zero_bits, bits_of}
 use Rattle.whole.proofs.Shifted.{shifted}
 use Rattle.whole.proofs.Steps.{bits_parts, same_bits, whole_within}
 use Rattle.walk.specs.Num.{float, cut_of, inside_of}
-use Rattle.walk.specs.Step.{Boxed, z_at, tile_in, step_of, last_z_word, cross_of}
+use Rattle.walk.specs.Step.{Boxed, z_at, tile_in, step_of, last_z_word}
 use Rattle.walk.specs.declared.kinds.Pace.{Pace}
-use Rattle.walk.specs.declared.step.Step.{Step}
-use Rattle.walk.specs.declared.step.Step.TheVariants.{Tile, Refused}
+use Rattle.walk.specs.Stepped.{Tile}
 use Rattle.walk.proofs.StepTiles.{col_of, row_at, z_fits, turned_whole}
 use Rattle.walk.proofs.Walks.{last_z}
-use Rattle.strides.specs.Strides.{sum_at, bits_at, low_of, strides_of, on_top, Before, Struck}
+use Rattle.strides.specs.Strides.{sum_at, bits_at, low_of, strides_of, Before, Struck}
 use Rattle.strides.specs.declared.Strides.{Strides}
+
+-- ---- a subtraction that wraps
+abbrev pub less : ℕ → ℕ → ℕ
+less a b = (a + (2 ^ 32 - b)) % 2 ^ 32
+
+pub less_back : (a b : ℕ) → a < 2 ^ 32 → b ≤ 2 ^ 32 → (less a b + b) % 2 ^ 32 ≡ a
+less_back a b h k = omega arith
 
 -- ---- floats below 2 ^ 22 in size
 pub near_within : (x : Float) (r : Bool) → r ≡ (lt x (limit false) && lt (limit true) x) → r ≡ true → Within x

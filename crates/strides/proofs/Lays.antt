@@ -3,12 +3,11 @@
 --     held_own               in a box's columns it is what it was
 --     room                   no sum of a tile's number is below 0, or large
 --     laid                   a step that is told to be good is on its tile
-use Rattle.std.proofs.Common.{◌≡◌, ℕ, ◌+◌, ◌-◌, ◌*◌, ◌%◌, ◌^◌, ◌<◌, ◌≤◌, Bool, true, false, cond, not, ◌&&◌, eqb, ltb, ◌⊎◌, ℤ, pos, sym, refl, ap, ◌∙◌, subst, inl, inr, true≢false, le_of_lt, arith, lit<, ltb-true, eq-eqb, ne_eqb}
+use Rattle.std.proofs.Common.{◌≡◌, ℕ, ◌+◌, ◌-◌, ◌*◌, ◌%◌, ◌^◌, ◌<◌, ◌≤◌, Bool, true, false, cond, not, ◌&&◌, eqb, ltb, ◌⊎◌, pos, sym, refl, ap, ◌∙◌, subst, inl, inr, le_of_lt, arith, lit<, ltb-true, eq-eqb, ne_eqb}
 use mathlib.Core.Bool.{false≢true}
 use lib.Ieee.{Float, nan, inf, fin, up, down, neg, lt, of_bits}
 use Rattle.float32.specs.Inner.{Within}
 use Rattle.float32.proofs.Floors.{lt_plus, gt_minus}
-use Rattle.panel.specs.Limits.{most_tiles}
 use Rattle.panel.specs.Paths.{width_of, height_of}
 use Rattle.panel.specs.Widths.{step_range}
 use Rattle.panel.specs.declared.kinds.Path.{Path}

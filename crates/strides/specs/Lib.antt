@@ -3,3 +3,5 @@
 --     Words     a step noted in one word
 pub mod Strides
 pub mod Words
+pub mod Stride
+pub mod Last

@@ -12,14 +12,14 @@ use Rattle.whole.specs.Bits.{zero_bits, bits_of}
 use Rattle.walk.specs.Num.{float}
 use Rattle.walk.specs.Step.{z_at, step_of, last_z_word, cross_of}
 use Rattle.walk.specs.declared.kinds.Pace.{Pace}
-use Rattle.walk.specs.declared.step.Step.TheVariants.{Tile}
+use Rattle.walk.specs.Stepped.{Tile}
 use Rattle.strides.specs.Words.{word_tile, word_marks}
 use Rattle.strides.specs.declared.Strides.{Strides}
-use Rattle.strides.specs.declared.Stride.{Stride}
-use Rattle.strides.specs.declared.Stride.TheVariants.{At, Other}
+use Rattle.strides.specs.Stride.{Stride}
+use Rattle.strides.specs.Stride.{At, Other}
 use Rattle.strides.specs.declared.Laid.{Laid}
-use Rattle.strides.specs.declared.Last.{Last}
-use Rattle.strides.specs.declared.Last.TheVariants.{Z, Other as NoLast}
+use Rattle.strides.specs.Last.{Last}
+use Rattle.strides.specs.Last.{Z, Other as NoLast}
 
 -- a f + b, whose floor is z
 abbrev pub sum_at : Pace → Float → Float
@@ -28,6 +28,15 @@ sum_at p f = add binary32 (mul binary32 p.a f) p.b
 -- its floor's bits
 abbrev pub bits_at : Pace → Float → ℕ
 bits_at p f = bits_of (floor_z (sum_at p f))
+
+-- v's floor's bits, of a v below 2 ^ 22 in size
+pub record Bits (v : Float) (z : ℕ) : Type 0 where
+  pub near : Within v
+  pub is : z ≡ bits_of (floor_z v)
+
+abbrev pub BitsMet : Float → Last → Type 0
+BitsMet v (Z z) = Bits v z
+BitsMet v NoLast = Unit {0}
 
 -- where z is 0 at the left edge of the box, or at its right edge where x falls
 abbrev pub low_of : Bool → (col : ℕ) → Path → ℕ

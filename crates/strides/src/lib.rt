@@ -3,23 +3,22 @@
 // what is out of the ordinary is left to `walk::step`. Where it says a tile, that is the step's.
 #![tactic(auto)]
 
-ghost use Rattle.std.specs.Prelude.{◌≡◌, ◌<◌, true, false, ◌&&◌, if◌then◌else◌};
+ghost use Rattle.std.specs.Prelude.{◌≡◌, ◌<◌, true, false, ◌&&◌};
 ghost use Rattle.std.specs.Float.Ieee.{lt};
 ghost use Rattle.float32.specs.Inner.{limit};
 ghost use Rattle.panel.specs.Widths.{step_range};
 ghost use Rattle.exact.specs.Reach.{Starts};
 ghost use Rattle.walk.specs.Step.{Boxed};
-ghost use Rattle.strides.specs.Strides.{strides_of, held_of, own_at, Room, Before, LastMet, StrideMet, LaidMet};
+ghost use Rattle.strides.specs.Strides.{strides_of, held_of, own_at, Room, Before, BitsMet, LastMet, StrideMet, LaidMet};
 ghost use Rattle.strides.specs.Words.{word_of};
 
 use float32::pick;
 use panel::kinds::Path;
 use walk::kinds::Pace;
 use whole::{ZERO, floor_bits};
+pub use words::{word_marks, word_of, word_tile};
 
 mod words;
-
-pub use words::{word_marks, word_of, word_tile};
 
 // Below it in size a float is a whole number by its bits.
 const NEAR: f32 = 4194304.0;
@@ -44,13 +43,6 @@ pub struct Strides {
     pub height: u32,
 }
 
-// A step's tile, whether it marks the tile right of it, and its z; or a step to be looked at in another way.
-#[derive(Clone, Copy)]
-pub enum Stride {
-    At(u32, bool, u32),
-    Other,
-}
-
 // A step's word (`words.rt`), its z, and whether the step is in the box and as told. Where it isn't, word and z say
 // nothing.
 #[derive(Clone, Copy)]
@@ -60,26 +52,21 @@ pub struct Laid {
     pub good: bool,
 }
 
-// z of the step before, or what stands for it at step 0: equal to that step's z where its top edge is crossed.
-#[derive(Clone, Copy)]
-pub enum Last {
-    Z(u32),
-    Other,
-}
-
+// Whether `floor_bits` takes x.
 fn near(x: f32) -> bool
     ensures { result ≡ (lt x (limit false) && lt (limit true) x) }
 {
     (x < NEAR) & (-NEAR < x)
 }
 
-// `if t { x } else { y }`, of two whole numbers.
-fn pick_u32(t: bool, x: u32, y: u32) -> u32
-    ensures { result ≡ (if t then x else y) }
+// The floor of v, as `floor_bits` gives it; nothing where v is far off.
+fn bits_near(v: f32) -> Option<u32>
+    ensures { BitsMet v result }
 {
-    if t { x } else { y }
+    if near(v) { Some(floor_bits(v)) } else { None }
 }
 
+// A line's numbers, of its walk and its path's box.
 pub fn strides_of(p: Pace, b: Path) -> Strides
     requires { Boxed b × Starts p.sign p.x0 p.y0 }
     ensures { result ≡ strides_of p b }
@@ -89,11 +76,11 @@ pub fn strides_of(p: Pace, b: Path) -> Strides
     let row = floor_bits(p.y0);
     let width = b.x1 - b.x0;
     let height = b.y1 - b.y0;
-    let low = pick_u32(rises, ZERO + ZERO + b.x0 - col, col + 1 - b.x1);
-    let edge = pick_u32(rises, low + width - 1, low);
+    let low = pick(rises, ZERO + ZERO + b.x0 - col, col + 1 - b.x1);
+    let edge = pick(rises, low + width - 1, low);
     let top = row - b.y0;
     let base = b.first + width;
-    let back = pick_u32(rises, width, 1);
+    let back = pick(rises, width, 1);
     let twice = (p.sign + 1.0) as u32;
     Strides {
         twice,
@@ -107,47 +94,37 @@ pub fn strides_of(p: Pace, b: Path) -> Strides
     }
 }
 
-// What step i's z is held against.
-pub fn last_of(p: Pace, i: u32) -> Last
+// What step i's z is held against: z of the step before, or what stands for it at step 0, equal to that step's z where
+// its top edge is crossed. Nothing where z is far off.
+pub fn last_of(p: Pace, i: u32) -> Option<u32>
     requires { i < step_range }
     ensures { LastMet p i result }
 {
     let f = i as f32;
     if i == 0 {
-        let v = p.a * f + p.b;
-        if !near(v) {
-            return Last::Other;
-        }
-        let z = floor_bits(v);
-        return Last::Z(pick_u32(p.on_top, z, z - 1));
+        let z = bits_near(p.a * f + p.b)?;
+        return Some(pick(p.on_top, z, z - 1));
     }
-    let v = p.a * (f - 1.0) + p.b;
-    if !near(v) {
-        return Last::Other;
-    }
-    Last::Z(floor_bits(v))
+    bits_near(p.a * (f - 1.0) + p.b)
 }
 
-// Step i.
-pub fn stride_at(p: Pace, b: Path, g: Strides, i: u32, last: u32) -> Stride
+// Step i's tile, whether it marks the tile right of it, and its z; nothing of a step that is to be looked at in another
+// way.
+pub fn stride_at(p: Pace, b: Path, g: Strides, i: u32, last: u32) -> Option<(u32, bool, u32)>
     requires { Boxed b × Starts p.sign p.x0 p.y0 × (i < step_range) × (g ≡ strides_of p b) × Before p i last }
     ensures { StrideMet p b i result }
 {
     let f = i as f32;
-    let v = p.a * f + p.b;
-    if !near(v) {
-        return Stride::Other;
-    }
-    let z = floor_bits(v);
-    let x = std::num::wrapping_sub_u32(z, g.low);
-    let y = std::num::wrapping_sub_u32(g.top + i, z);
+    let z = bits_near(p.a * f + p.b)?;
+    let x = z.wrapping_sub(g.low);
+    let y = (g.top + i).wrapping_sub(z);
     if (x >= g.width) | (y >= g.height) {
-        return Stride::Other;
+        return None;
     }
     let t = g.base + y * g.width;
     let own = t + g.twice * x - (x + g.back);
     let marks = (z == last) & (z != g.edge);
-    Stride::At(own, marks, z)
+    Some((own, marks, z))
 }
 
 // v, or what no z in a box is where v is further from 0, or no number.
@@ -165,7 +142,7 @@ fn word_at(g: Strides, col: u32, row: u32, marks: bool) -> u32
 {
     let rises = g.twice == 2;
     let t = g.base - g.back + row * g.width;
-    let own = t + pick_u32(rises, col, 0) - pick_u32(rises, 0, col);
+    let own = t + pick(rises, col, 0) - pick(rises, 0, col);
     word_of(own, marks)
 }
 
@@ -176,11 +153,11 @@ pub fn laid_at(p: Pace, b: Path, g: Strides, i: u32, last: u32) -> Laid
 {
     let f = (i as i32) as f32;
     let z = floor_bits(held(p.a * f + p.b));
-    let x = std::num::wrapping_sub_u32(z, g.low);
-    let y = std::num::wrapping_sub_u32(g.top + i, z);
+    let x = z.wrapping_sub(g.low);
+    let y = (g.top + i).wrapping_sub(z);
     let good = (x < g.width) & (y < g.height);
-    let col = pick_u32(good, x, 0);
-    let row = pick_u32(good, y, 0);
+    let col = pick(good, x, 0);
+    let row = pick(good, y, 0);
     let crosses = (z == last) & (z != g.edge);
     Laid {
         word: word_at(g, col, row, crosses),

@@ -38,8 +38,7 @@ use Rattle.rounded.proofs.Rises.{Rd, rd_order}
 use Rattle.rounded.proofs.Numbers.{zero_number, one_number}
 use Rattle.sum_theorems.proofs.Signed.{At, Place, own_at, own_rd, sub_rd, rd_abs, rd_size, rd_number, at_order, at_plus, at_minus}
 use Rattle.sum_theorems.proofs.Tame.{of_most, sum_size, mul_small, half_small}
-use Rattle.sum_theorems.proofs.Shares.{Eps, eps_of, eps_place, parts_same, parts_many, wide, taken_bound}
-use Rattle.sum_theorems.proofs.Shares.{zero_at, one_at, zero_fits, one_fits, at_finite, at_number, low_fits, low_under}
+use Rattle.sum_theorems.proofs.Shares.{Eps, eps_of, eps_place, parts_same, parts_many, wide, taken_bound, zero_at, one_at, zero_fits, one_fits, at_finite, at_number, low_fits, low_under}
 use Rattle.sum_theorems.proofs.Rows.{unit_small}
 
 -- ---- sizes up to powers of two

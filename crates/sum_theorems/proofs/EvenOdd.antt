@@ -21,9 +21,8 @@ use Rattle.panel.specs.Checks.{first_no, unless}
 use Rattle.panel.specs.Kinds.{paper_of}
 use Rattle.panel.specs.Segments.{held_of, segment_at, straight_of}
 use Rattle.panel.proofs.CheckLaws.{all_ok}
-use Rattle.panel.specs.declared.kinds.Answer.TheVariants.{Done}
-use Rattle.panel.specs.declared.kinds.Verdict.{Verdict}
-use Rattle.panel.specs.declared.kinds.Verdict.TheVariants.{Fine, Against}
+use Rattle.panel.specs.Answer.{Done}
+use Rattle.panel.specs.Verdict.{Verdict, Fine, Against}
 use Rattle.exact.proofs.Bounds.{small_finite}
 use Rattle.sides.specs.Tile.{tile_width, tile_height, tile_size}
 use Rattle.coverage.specs.Ground.{straight_from, ground_of}

@@ -185,7 +185,7 @@ first_right x t d pw nw pd nd fx ft fd hx zx few hd wide b =
     let i : nw + q.n ≤ pw + q.p + h = omega (arith, zx, q.low) in
     let j : pw + q.p ≤ 33 * parts + (nw + q.n) = omega (arith, few, q.high, side.at.0) in
     squeeze (add binary32 x (mul binary32 t d)) (pw + q.p) (nw + q.n) parts wide_left 0 h far_right (33 * parts) 0 parts_pos (add-fits binary32 x (mul binary32 t d)) left_fits far_fits hl
-    (omega arith, refl) (add_rd x (mul binary32 t d) pw nw q.p q.n hx q.at) (omega (arith, mul-le-mul_right parts i)) (omega (arith, mul-le-mul_right parts j))
+    (omega arith, refl) (add_rd x (mul binary32 t d) pw nw q.p q.n hx q.at) (omega (arith, mul-le-mul_right {m = nw + q.n} {n = pw + q.p + h} parts i)) (omega (arith, mul-le-mul_right {m = pw + q.p} {n = 33 * parts + (nw + q.n)} parts j))
   where
     times : (a o n h P : ℕ) → a ≤ o → n ≤ 16 * P → o * 16 ≡ h → a * n ≤ h * P
     times a o n h P x y e = let k : a * n ≤ o * (16 * P) = mul-le-mul x y in omega (arith, k, ap (λ (z : ℕ). z * P) e)

@@ -16,7 +16,7 @@ use Rattle.util.specs.Constants as Number
 use Rattle.panel.specs.Segments.{segment_at, Straight}
 use Rattle.panel.proofs.HeldLaws.{straight_is}
 use Rattle.panel.proofs.CheckLaws.{all_ok}
-use Rattle.panel.specs.declared.kinds.Verdict.TheVariants.{Fine}
+use Rattle.panel.specs.Verdict.{Fine}
 use Rattle.exact.specs.Whole.{Small}
 use Rattle.exact.proofs.Bounds.{small_more}
 use Rattle.sides.specs.Tile.{tile_width, tile_height}

@@ -1,31 +1,29 @@
 -- Which case of the definitions holds, from what the call's tests show. Assumes nothing.
 use mathlib.Core.Path.{◌≡◌, refl, sym, ap, ◌∙◌, subst}
-use mathlib.Core.Bool.{Bool, true, false, cond, ◌&&◌, false≢true}
-use mathlib.Core.List.{List, [], ◌∷◌}
-use Prim.Native.Nat.{ℕ, zero, suc, ◌+◌, ◌-◌, ◌*◌, ◌^◌, ◌/◌, ◌%◌, ◌≤◌, ◌<◌}
-use native.Mathlib.Numerals.{add-one}
+use mathlib.Core.Bool.{Bool, true, false, cond}
+use mathlib.Core.List.{List, ◌++◌}
+use Prim.Native.Nat.{ℕ, ◌+◌, ◌*◌, ◌/◌, ◌%◌, ◌≤◌, ◌<◌}
 use native.Mathlib.Omega.{arith}
 use lib.Dec.{eqb, leb}
-use lib.ListN.{length, replicate, set, length-set}
-use lib.Seq.{sets}
+use lib.ListN.{length, replicate, take, drop, length-replicate}
+use lib.Seq.{sets, sets-eq, length-take-le}
 use lib.Ieee.{Float}
-use borrow.Author.Tests.{le-leb, lt-leb, leb-true, leb-false, eqb-true}
-use Rattle.panel.specs.Refusals.{done_no, not_whole, no_room_word, bad_text, too_deep}
+use borrow.Author.Tests.{le-leb, lt-leb, leb-true, eqb-true}
+use Rattle.panel.specs.Refusals.{not_whole, no_room_word, bad_text, too_deep}
 use Rattle.panel.specs.Widths.{line_floats}
 use Rattle.svg_path.specs.declared.State.TheVariants.{Start}
-use Rattle.svg_path.specs.declared.Verdict.{Verdict}
-use Rattle.svg_path.specs.declared.Verdict.TheVariants.{Fine, Refused as Against}
+use Rattle.svg_path.specs.Verdict.{Verdict}
+use Rattle.svg_path.specs.Verdict.{Fine, Refused as Against}
 use Rattle.svg_path.specs.Machine.{verdict_of}
 use Rattle.svg_path.proofs.Sound.{and_both}
 use Rattle.svg_outline.specs.Outline.{depth_most}
 use Rattle.svg_outline.specs.Strokes.{text_lines}
 use Rattle.svg_outline.specs.Counts.{text_count, sum_of}
-use Rattle.svg_outline.specs.declared.count.Sum.{Sum}
-use Rattle.svg_outline.specs.declared.count.Sum.TheVariants.{Lines, Over}
+use Rattle.svg_outline.specs.Sum.{Sum}
+use Rattle.svg_outline.specs.Sum.{Lines, Over}
 use Rattle.svg_outline.proofs.Texts.{text_count_lem}
-use Rattle.svg.specs.declared.Answer.{Answer}
-use Rattle.svg.specs.declared.Answer.TheVariants.{Done, Refused}
-use Rattle.svg.specs.Lines.{paper_of, Left, refused, paired_of, wrote, drawn_of, on_verdict, lines_of}
+use Rattle.svg.specs.Answer.{Done}
+use Rattle.svg.specs.Lines.{paper_of, Left, refused, paired_of, drawn_of, on_verdict, lines_of}
 
 -- ---- four coordinates to each path number
 pub paired_is : (n f : ℕ) (b : Bool) → b ≡ paired_of n f → b ≡ true → f ≡ line_floats * n
@@ -36,23 +34,13 @@ paired_is n f b e t = go (and_both (eqb (f % line_floats) 0) (eqb (f / line_floa
     go p = let a : f % line_floats ≡ 0 = eqb-true (f % line_floats) 0 p.0 in let c : f / line_floats ≡ n = eqb-true (f / line_floats) n p.1 in omega arith
 
 -- ---- the path's number, stored
-pub name_start : (l : List ℕ) (n p : ℕ) → sets l 0 (replicate (n - 0) p) ≡ sets l 0 (replicate n p)
-name_start l n p = ap (λ (k : ℕ). sets l 0 (replicate k p)) (native.Mathlib.Nat.sub-zero n)
-
-pub name_turn : (l : List ℕ) (i n p : ℕ) (w : List ℕ) → i < n → sets l i (replicate (n - i) p) ≡ w → sets (set l i p) (i + 1) (replicate (n - (i + 1)) p) ≡ w
-name_turn l i n p w h e =
-    ap (λ (k : ℕ). sets (set l i p) k (replicate (n - (i + 1)) p)) (add-one i)
-    ∙ sym (ap (λ (k : ℕ). sets l i (replicate k p)) (one_less n i h))
-    ∙ e
+pub named : (ps q : List ℕ) (n p : ℕ) → n ≤ length ps → q ≡ replicate (length (take n ps)) p → q ++ drop n ps ≡ sets ps 0 (replicate n p)
+named ps q n p h e =
+    let l : length (replicate n p) ≡ n = length-replicate n p in
+    rw (e, length-take-le n ps h) (sym (sets-eq (replicate n p) ps 0 (omega arith) ∙ rest l))
   where
-    one_less : (n i : ℕ) → i < n → n - i ≡ suc (n - (i + 1))
-    one_less n i h = omega arith
-
-pub name_done : (l : List ℕ) (i n p : ℕ) (w : List ℕ) → n ≤ i → sets l i (replicate (n - i) p) ≡ w → l ≡ w
-name_done l i n p w h e = sym (ap (λ (k : ℕ). sets l i (replicate k p)) (none n i h)) ∙ e
-  where
-    none : (n i : ℕ) → n ≤ i → n - i ≡ 0
-    none n i h = omega arith
+    rest : length (replicate n p) ≡ n → replicate n p ++ drop (0 + length (replicate n p)) ps ≡ replicate n p ++ drop n ps
+    rest l = let z : 0 + length (replicate n p) ≡ n = omega arith in rw z
 
 -- ---- counted
 lines_in : (room total n : ℕ) → sum_of room total ≡ Lines n → (n ≡ total) × (leb total room ≡ true)

@@ -1,13 +1,12 @@
 -- The call's promise leaves one answer only, and is met where one of the call's ways holds, and nowhere else. Assumes nothing.
 use mathlib.Core.Path.{◌≡◌, refl, sym, ap, ◌∙◌, subst}
 use mathlib.Core.Logic.{◌↔◌}
-use mathlib.Core.Bool.{Bool, true, false, false≢true}
+use mathlib.Core.Bool.{Bool, true, false}
 use mathlib.Core.List.{List, [], ◌∷◌, ◌++◌, append_assoc}
-use Prim.Native.Nat.{ℕ, zero, suc, ◌+◌, ◌*◌, ◌/◌, ◌%◌, ◌≤◌, ◌<◌}
+use Prim.Native.Nat.{ℕ, ◌*◌, ◌/◌, ◌%◌, ◌≤◌, ◌<◌}
 use native.Mathlib.Decide.{dec_lt, ℕ_discrete}
 use native.Mathlib.Nat.{zero-add}
 use native.Mathlib.Omega.{arith}
-use lib.Dec.{eqb, leb}
 use lib.ListN.{length, replicate}
 use lib.Seq.{sets}
 use lib.Ieee.{Float}
@@ -15,8 +14,8 @@ use borrow.Author.Tests.{le-leb, lt-leb, eq-eqb}
 use Rattle.panel.specs.Refusals.{not_whole, no_room_word, bad_text, too_deep}
 use Rattle.panel.specs.Widths.{line_floats}
 use Rattle.svg_path.specs.declared.State.TheVariants.{Start}
-use Rattle.svg_path.specs.declared.Verdict.{Verdict}
-use Rattle.svg_path.specs.declared.Verdict.TheVariants.{Fine, Refused as Against}
+use Rattle.svg_path.specs.Verdict.{Verdict}
+use Rattle.svg_path.specs.Verdict.{Fine, Refused as Against}
 use Rattle.svg_path.specs.Machine.{verdict_of}
 use Rattle.svg_path.specs.Grammar.{Cmd, PathData}
 use Rattle.svg_path.proofs.Theorems.{fine_is, refused_is}
@@ -24,8 +23,8 @@ use Rattle.svg_outline.specs.Outline.{depth_most, outline_of}
 use Rattle.svg_outline.specs.Strokes.{text_lines}
 use Rattle.svg_outline.specs.Counts.{text_count}
 use Rattle.svg_outline.proofs.Texts.{text_count_lem}
-use Rattle.svg.specs.declared.Answer.{Answer}
-use Rattle.svg.specs.declared.Answer.TheVariants.{Done, Refused}
+use Rattle.svg.specs.Answer.{Answer}
+use Rattle.svg.specs.Answer.{Done, Refused}
 use Rattle.svg.specs.Lines.{paper_of, Left, refused, paired_of, wrote, drawn_of, lines_of, LinesMet}
 use Rattle.svg.specs.Ways.{Language, FaultAt, Paired, LinesWay, too_deep_lem, unpaired, at_fault, no_place, all_drawn}
 use Rattle.svg.proofs.Answers as A

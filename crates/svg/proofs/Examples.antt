@@ -1,6 +1,6 @@
 -- Whole calls, and what they answer: the order of the refusals. Assumes nothing.
-use mathlib.Core.Path.{◌≡◌, refl}
-use mathlib.Core.List.{List, [], ◌∷◌}
+use mathlib.Core.Path.{refl}
+use mathlib.Core.List.{[], ◌∷◌}
 use Prim.Native.Nat.{ℕ}
 use Rattle.panel.specs.Refusals.{not_whole, no_room_word, bad_text, too_deep}
 use Rattle.svg_path.specs.Chars.{is_space, is_digit, is_sign, is_move, is_pair, is_axis, is_quad, is_close}
@@ -11,7 +11,7 @@ use Rattle.curve.specs.Halves.{line_of}
 use Rattle.svg_outline.specs.Outline.{placed, kind_of, relative_of}
 use Rattle.svg_outline.specs.Tokens.{size_of, later_of, act_of, gait_of, count_of}
 use Rattle.svg_outline.specs.Strokes.{held_of, turn_lines, turn_hand, lines_from}
-use Rattle.svg.specs.declared.Answer.TheVariants.{Refused}
+use Rattle.svg.specs.Answer.{Refused}
 use Rattle.svg.specs.Lines.{paired_of, drawn_of, lines_of, LinesMet}
 
 -- each names what a call computes with: up to its check, its count, its lines

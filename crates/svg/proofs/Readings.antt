@@ -1,24 +1,22 @@
 -- The lines of a text in the grammar are those of its reading: what the tokens draw one by one is what the commands draw. Assumes nothing.
-use mathlib.Core.Path.{◌≡◌, refl, sym, ap, ◌∙◌, subst}
-use mathlib.Core.Bool.{Bool, true, false, cond, not, ◌&&◌, ◌||◌}
+use mathlib.Core.Path.{◌≡◌, refl, sym, ap, ◌∙◌}
+use mathlib.Core.Bool.{Bool, true, false, ◌&&◌, ◌||◌}
 use mathlib.Core.List.{List, [], ◌∷◌, ◌++◌, map, append_assoc, append-nil}
-use Prim.Native.Nat.{ℕ, zero, suc, ◌+◌, ◌-◌, ◌≤◌, ◌<◌}
+use Prim.Native.Nat.{ℕ, suc}
 use native.Mathlib.Omega.{arith}
 use lib.ListN.{length}
 use lib.Ieee.{Float}
-use lib.Dec.{eqb, leb}
+use lib.Dec.{eqb}
 use Rattle.curve.specs.Halves.{line_of}
 use Rattle.svg_path.specs.Chars.{is_move, is_pair, is_axis, is_quad, is_close}
 use Rattle.svg_path.specs.Grammar.{Num, num, Cmd, cmd, PathData}
-use Rattle.svg_tokens.specs.declared.Token.TheVariants.{Letter, Value}
-use Rattle.svg_tokens.specs.Tokens.{Tok, letter, value, tokens_of}
-use Rattle.svg_outline.specs.declared.steps.Kind.{Kind}
-use Rattle.svg_outline.specs.declared.steps.Kind.TheVariants.{Rest, Move, Line, Across, Upright, Curved, Close}
+use Rattle.svg_tokens.specs.Tokens.{Tok, letter}
+use Rattle.svg_outline.specs.declared.steps.Kind.TheVariants.{Rest, Close}
 use Rattle.svg_outline.specs.declared.steps.Gait.{Gait}
 use Rattle.svg_outline.specs.declared.strokes.Hand.{Hand}
-use Rattle.svg_outline.specs.Outline.{Pen, Drawn, float_of, group, groups, after, kind_of, relative_of, with_close, command, drawn_of, outline_of}
+use Rattle.svg_outline.specs.Outline.{Pen, Drawn, float_of, group, groups, after, kind_of, relative_of, command, drawn_of, outline_of}
 use Rattle.svg_outline.specs.Tokens.{size_of, later_of, act_of, gait_of, start_of}
-use Rattle.svg_outline.specs.Strokes.{held_of, pen_of, stroke_of, lines_at, turn_lines, turn_hand, lines_from, origin_of, text_lines}
+use Rattle.svg_outline.specs.Strokes.{held_of, pen_of, stroke_of, turn_lines, turn_hand, lines_from, origin_of, text_lines}
 use Rattle.svg.proofs.Tokens.{tok_of, flat, Sized, toks_of, all_toks, AllFit, Fit, closes, pairs, axes, quads, either, only, path_tokens}
 
 abbrev at : ℕ → ℕ → Bool → Gait

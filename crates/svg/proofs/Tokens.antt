@@ -1,6 +1,6 @@
 -- The tokens of a text in the grammar: a letter, then its groups' numbers, command by command. Assumes nothing.
 use mathlib.Core.Path.{◌≡◌, refl, sym, ap, ◌∙◌, subst}
-use mathlib.Core.Bool.{Bool, true, false, cond, not, ◌&&◌, ◌||◌, false≢true}
+use mathlib.Core.Bool.{Bool, true, false, not, ◌||◌, false≢true}
 use mathlib.Core.List.{List, [], ◌∷◌, ◌++◌, map, append_assoc, append-nil}
 use Prim.Native.Nat.{ℕ, zero, suc, ◌+◌, ◌-◌, ◌*◌, ◌^◌, ◌≤◌, ◌<◌}
 use native.Mathlib.Nat.{add-zero, zero-add}
@@ -8,8 +8,8 @@ use native.Mathlib.Omega.{arith}
 use lib.Dec.{eqb, leb}
 use lib.ListN.{length, drop, length-append}
 use lib.Seq.{drop-append_seam, drop-drop}
-use borrow.Author.Tests.{eqb-true, le-leb, lt-leb, leb-true, ne_eqb}
-use Rattle.svg_path.specs.Chars.{whole_most, part_most, is_space, is_digit, is_sign, is_move, is_pair, is_axis, is_quad, is_close}
+use borrow.Author.Tests.{eqb-true, lt-leb, leb-true, ne_eqb}
+use Rattle.svg_path.specs.Chars.{whole_most, part_most, is_space, is_digit, is_sign, is_pair, is_axis, is_quad, is_close}
 use Rattle.svg_path.specs.Grammar as G
 use Rattle.svg_path.specs.Grammar.{Num, num, Cmd, cmd, Space, Gap, Digits, no_digit, no_more, all_digits, value_of, thousandths, Sign, Body, Number, Args, Groups, Command, Rest, PathData}
 use Rattle.svg_path.proofs.Sound.{and_both}

@@ -4,14 +4,14 @@ use Rattle.std.proofs.lemmas.List.Edits.{sets}
 use Rattle.panel.specs.Refusals.{done_no, not_whole, no_room_word, bad_text, too_deep}
 use Rattle.panel.specs.Widths.{line_floats}
 use Rattle.svg_path.specs.declared.State.TheVariants.{Start}
-use Rattle.svg_path.specs.declared.Verdict.{Verdict}
-use Rattle.svg_path.specs.declared.Verdict.TheVariants.{Fine, Refused as Against}
+use Rattle.svg_path.specs.Verdict.{Verdict}
+use Rattle.svg_path.specs.Verdict.{Fine, Refused as Against}
 use Rattle.svg_path.specs.Machine.{verdict_of}
 use Rattle.svg_outline.specs.Outline.{depth_most}
 use Rattle.svg_outline.specs.Strokes.{text_lines}
 use Rattle.svg_outline.specs.Counts.{text_count}
-use Rattle.svg.specs.declared.Answer.{Answer}
-use Rattle.svg.specs.declared.Answer.TheVariants.{Done, Refused}
+use Rattle.svg.specs.Answer.{Answer}
+use Rattle.svg.specs.Answer.{Done, Refused}
 
 -- an answer's number, and after it how many lines were written; a refusal wrote none, and has the text's place last
 abbrev pub paper_of : Answer → List ℕ

@@ -5,8 +5,8 @@ use Rattle.panel.specs.Refusals.{not_whole, no_room_word, bad_text, too_deep}
 use Rattle.panel.specs.Widths.{line_floats}
 use Rattle.svg_path.specs.Grammar.{Cmd, PathData}
 use Rattle.svg_outline.specs.Outline.{depth_most, outline_of}
-use Rattle.svg.specs.declared.Answer.{Answer}
-use Rattle.svg.specs.declared.Answer.TheVariants.{Done, Refused}
+use Rattle.svg.specs.Answer.{Answer}
+use Rattle.svg.specs.Answer.{Done, Refused}
 
 -- the language: the texts that the grammar has a reading of
 abbrev pub Language : List ℕ → Type 0

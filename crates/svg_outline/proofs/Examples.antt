@@ -1,12 +1,12 @@
 -- Readings, and what they draw. Assumes nothing.
 use mathlib.Core.Path.{◌≡◌, refl}
-use mathlib.Core.Bool.{true, false}
-use mathlib.Core.List.{List, [], ◌∷◌, ◌++◌}
+use mathlib.Core.Bool.{false}
+use mathlib.Core.List.{List, [], ◌∷◌}
 use Prim.Native.Nat.{ℕ}
 use lib.Ieee.{Float, binary32, of_bits, add, mul, round}
 use Rattle.curve.specs.Halves.{left_of, right_of, line_of, lines_of}
 use Rattle.svg_path.specs.Chars.{is_move, is_quad, is_close}
-use Rattle.svg_path.specs.Grammar.{Num, num, Cmd, cmd}
+use Rattle.svg_path.specs.Grammar.{Num, num, cmd}
 use Rattle.svg_outline.specs.Outline.{placed, groups, kind_of, relative_of, drawn_of, outline_of}
 
 -- so many thousandths, and two and four of them

@@ -2,10 +2,9 @@
 use mathlib.Core.Path.{◌≡◌, refl, sym, ap, ◌∙◌, subst}
 use mathlib.Core.Bool.{Bool, true, false, cond}
 use mathlib.Core.List.{List, [], ◌∷◌, ◌++◌}
-use Prim.Native.Nat.{ℕ, zero, suc, ◌+◌, ◌-◌, ◌*◌, ◌^◌, ◌≤◌, ◌<◌}
-use native.Mathlib.Nat.{add-zero, zero-add, add_assoc}
+use Prim.Native.Nat.{ℕ, zero, suc, ◌+◌, ◌*◌, ◌^◌, ◌≤◌, ◌<◌}
+use native.Mathlib.Nat.{zero-add}
 use native.Mathlib.Omega.{arith}
-use lib.Dec.{leb}
 use lib.ListN.{length, drop, length-append, drop_of_length-le}
 use lib.Seq.{sets, length-sets}
 use lib.Ieee.{Float}
@@ -15,13 +14,12 @@ use Rattle.panel.specs.Widths.{line_floats}
 use Rattle.curve.proofs.Sets.{lines_length}
 use Rattle.svg_tokens.specs.declared.Token.{Token}
 use Rattle.svg_tokens.specs.declared.Token.TheVariants.{End, Letter, Value}
-use Rattle.svg_tokens.specs.Tokens.{Tok, letter, value, tokens_of, rest_of, place_of, Within}
+use Rattle.svg_tokens.specs.Tokens.{Tok, tokens_of, rest_of, place_of, Within}
 use Rattle.svg_outline.specs.declared.steps.Kind.{Kind}
 use Rattle.svg_outline.specs.declared.steps.Kind.TheVariants.{Rest, Move, Line, Across, Upright, Curved, Close}
 use Rattle.svg_outline.specs.declared.steps.Gait.{Gait}
 use Rattle.svg_outline.specs.declared.strokes.Hand.{Hand}
-use Rattle.svg_outline.specs.declared.count.Sum.{Sum}
-use Rattle.svg_outline.specs.declared.count.Sum.TheVariants.{Lines, Over}
+use Rattle.svg_outline.specs.Sum.{Lines, Over}
 use Rattle.svg_outline.specs.Outline.{depth_most, relative_of}
 use Rattle.svg_outline.specs.Tokens.{act_of, gait_of, start_of, many_of, token_of, count_of}
 use Rattle.svg_outline.specs.Strokes.{held_of, origin_of, lines_at, shut_lines, turn_lines, turn_hand, lines_from, text_lines}

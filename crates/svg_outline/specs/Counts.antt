@@ -1,8 +1,8 @@
 -- How many lines a text draws, and whether there is room for them. Definitions only.
 use Rattle.std.specs.Prelude.{cond, List, ℕ, ◌^◌, leb}
 use Rattle.svg_tokens.specs.Tokens.{tokens_of}
-use Rattle.svg_outline.specs.declared.count.Sum.{Sum}
-use Rattle.svg_outline.specs.declared.count.Sum.TheVariants.{Lines, Over}
+use Rattle.svg_outline.specs.Sum.{Sum}
+use Rattle.svg_outline.specs.Sum.{Lines, Over}
 use Rattle.svg_outline.specs.Tokens.{start_of, count_of}
 
 -- no room is larger: lines have four floats each

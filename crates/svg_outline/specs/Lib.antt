@@ -2,3 +2,4 @@ pub mod Outline
 pub mod Tokens
 pub mod Strokes
 pub mod Counts
+pub mod Sum

@@ -1,9 +1,8 @@
 -- The lines that a reading of path data draws: what M, L, H, V, Z and Q mean (SVG 1.1, 8.3.2 to 8.3.7), in floats. docs/RULES.md, "Outlines from SVG".
 -- Definitions only.
-use Rattle.std.specs.Prelude.{Bool, true, false, cond, ◌||◌, List, [], ◌∷◌, ◌++◌, map, ℕ, zero, suc, ◌≤◌, eqb, leb, get_or, Float}
+use Rattle.std.specs.Prelude.{Bool, true, false, cond, ◌||◌, List, [], ◌∷◌, ◌++◌, map, ℕ, eqb, leb, get_or, Float}
 use Rattle.std.specs.Float.{binary32}
 use Rattle.std.specs.Float.Ieee.{round, add, of_bits}
-use Rattle.curve.specs.declared.Curve.{Curve}
 use Rattle.curve.specs.Halves.{line_of, lines_of as halved}
 use Rattle.svg_path.specs.Chars.{is_move, is_quad, is_close}
 use Rattle.svg_path.specs.Grammar.{Num, num, Cmd, cmd}

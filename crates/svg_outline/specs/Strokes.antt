@@ -1,5 +1,5 @@
 -- The lines of a text, token by token: each group as specs/Outline.antt draws it, the lines one after another. Definitions only.
-use Rattle.std.specs.Prelude.{Bool, true, false, cond, List, [], ◌∷◌, ◌++◌, ℕ, ◌+◌, length, Float}
+use Rattle.std.specs.Prelude.{Bool, cond, List, [], ◌∷◌, ◌++◌, ℕ, ◌+◌, length, Float}
 use Rattle.curve.specs.Halves.{line_of}
 use Rattle.svg_path.specs.Grammar.{num}
 use Rattle.svg_tokens.specs.declared.Token.{Token}

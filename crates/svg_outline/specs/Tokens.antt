@@ -1,6 +1,6 @@
 -- What a token does: the group that it ends, and where the reading stands after it. The same over a text's tokens gives how many lines it draws.
 -- Definitions only.
-use Rattle.std.specs.Prelude.{Bool, true, false, cond, not, ◌&&◌, List, [], ◌∷◌, ℕ, ◌+◌, ◌-◌, ◌^◌, eqb, leb}
+use Rattle.std.specs.Prelude.{Bool, false, cond, not, ◌&&◌, List, [], ◌∷◌, ℕ, ◌+◌, ◌-◌, ◌^◌, eqb, leb}
 use Rattle.svg_path.specs.Chars.{is_move, is_pair, is_axis, is_quad, is_close}
 use Rattle.svg_tokens.specs.declared.Token.{Token}
 use Rattle.svg_tokens.specs.declared.Token.TheVariants.{End, Letter, Value}

@@ -3,35 +3,30 @@ ghost use Rattle.std.specs.Prelude.{◌≡◌, ◌≤◌, ◌<◌, length};
 ghost use Rattle.svg_outline.specs.Outline.{depth_most};
 ghost use Rattle.svg_outline.specs.Counts.{text_count, sum_of, room_most};
 
-use crate::steps::{Kind, act, many, pass, place, start};
+use crate::steps::{Gait, Kind};
 use svg_tokens::next;
 
-// A number of lines, or more than there is room for.
-#[derive(Clone, Copy)]
-pub enum Sum {
-    Lines(usize),
-    Over,
-}
-
-pub fn count(s: &[u8], depth: u32, room: usize) -> Sum
+// The number of lines, where there is room for them.
+pub fn count(s: &[u8], depth: u32, room: usize) -> Option<usize>
     requires { (depth ≤ depth_most) × (room ≤ room_most) }
     ensures { result ≡ sum_of room (text_count depth s.now) }
 {
-    let mut g = start();
+    let mut g = Gait::start();
     let mut n: usize = 0;
     let mut i: usize = 0;
+    // a token's own length moves the place
     while i < s.len() {
         let t = next(s, i);
-        n += many(act(g, t), g.drawn, depth);
+        n += g.act(t).many(g.drawn, depth);
         if room < n {
-            return Sum::Over;
+            return None;
         }
-        g = pass(g, t);
-        i = place(t);
+        g = g.pass(t);
+        i = t.place();
     }
-    n += many(Kind::Move, g.drawn, depth);
+    n += Kind::Move.many(g.drawn, depth);
     if room < n {
-        return Sum::Over;
+        return None;
     }
-    Sum::Lines(n)
+    Some(n)
 }

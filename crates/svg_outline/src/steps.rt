@@ -3,7 +3,6 @@
 ghost use Rattle.std.specs.Prelude.{◌≡◌, ◌≤◌};
 ghost use Rattle.svg_outline.specs.Outline.{kind_of, relative_of, depth_most};
 ghost use Rattle.svg_outline.specs.Tokens.{size_of, later_of, act_of, gait_of, many_of, start_of};
-ghost use Rattle.svg_tokens.specs.Tokens.{place_of};
 
 use svg_path::{axis, close, movement, pair, quad};
 use svg_tokens::Token;
@@ -37,18 +36,8 @@ pub fn depth_most() -> u32
     DEPTH_MOST
 }
 
-// Before the first letter.
-pub fn start() -> Gait
-    ensures { result ≡ start_of }
-{
-    Gait {
-        letter: 0,
-        need: 0,
-        drawn: false,
-    }
-}
-
 // A letter that is small counts from the current point.
+#[tactic(auto, unfolding(crate::specs::Outline::relative_of))]
 pub fn relative(c: u8) -> bool
     ensures { result ≡ relative_of c }
 {
@@ -56,128 +45,121 @@ pub fn relative(c: u8) -> bool
 }
 
 // What a group of a letter's numbers draws.
+#[tactic(auto, using(std::proofs::lemmas::Bool::Decides::nat_tests), unfolding(crate::specs::Outline::kind_of, svg_path::specs::Chars::is_move, svg_path::specs::Chars::is_quad, svg_path::specs::Chars::is_close))]
 fn kind_at(c: u8) -> Kind
     ensures { result ≡ kind_of c }
 {
-    if movement(c) {
-        return Kind::Move;
+    match c {
+        b'M' | b'm' => Kind::Move,
+        b'L' | b'l' => Kind::Line,
+        b'H' | b'h' => Kind::Across,
+        b'V' | b'v' => Kind::Upright,
+        b'Q' | b'q' => Kind::Curved,
+        b'Z' | b'z' => Kind::Close,
+        _ => Kind::Rest,
     }
-    if (c == b'L') | (c == b'l') {
-        return Kind::Line;
-    }
-    if (c == b'H') | (c == b'h') {
-        return Kind::Across;
-    }
-    if (c == b'V') | (c == b'v') {
-        return Kind::Upright;
-    }
-    if quad(c) {
-        return Kind::Curved;
-    }
-    if close(c) {
-        return Kind::Close;
-    }
-    Kind::Rest
 }
 
 // How many numbers a letter's group has.
+#[tactic(auto, using(std::proofs::lemmas::Bool::Decides::nat_tests), unfolding(crate::specs::Tokens::size_of))]
 fn size(c: u8) -> u8
     ensures { result ≡ size_of c }
 {
     if pair(c) {
-        return 2;
+        2
+    } else if axis(c) {
+        1
+    } else if quad(c) {
+        4
+    } else {
+        0
     }
-    if axis(c) {
-        return 1;
-    }
-    if quad(c) {
-        return 4;
-    }
-    0
 }
 
 // The letter that goes on after a group: a move's further pairs are lines.
+#[tactic(auto, using(std::proofs::lemmas::Bool::Decides::nat_tests), unfolding(crate::specs::Tokens::later_of))]
 fn later(c: u8) -> u8
     ensures { result ≡ later_of c }
 {
-    if c == b'M' {
-        return b'L';
+    match c {
+        b'M' => b'L',
+        b'm' => b'l',
+        _ => c,
     }
-    if c == b'm' {
-        return b'l';
-    }
-    c
 }
 
-// What a token draws: Z at once, a number where it ends its group.
-pub fn act(g: Gait, t: Token) -> Kind
-    ensures { result ≡ act_of g t }
-{
-    match t {
-        Token::End(_) => Kind::Rest,
-        Token::Letter(c, _) => { if close(c) { Kind::Close } else { Kind::Rest } }
-        Token::Value(_, _, _) => {
-            if g.need <= 1 {
-                kind_at(g.letter)
-            } else {
-                Kind::Rest
+impl Gait {
+    // Before the first letter.
+    pub fn start() -> Gait
+        ensures { result ≡ start_of }
+    {
+        Gait {
+            letter: 0,
+            need: 0,
+            drawn: false,
+        }
+    }
+
+    // What a token draws: Z at once, a number where it ends its group.
+    #[tactic(auto, using(std::proofs::lemmas::Bool::Decides::nat_tests), unfolding(crate::specs::Tokens::act_of))]
+    pub fn act(self, t: Token) -> Kind
+        ensures { result ≡ act_of self t }
+    {
+        match t {
+            Token::End(_) => Kind::Rest,
+            Token::Letter(c, _) => { if close(c) { Kind::Close } else { Kind::Rest } }
+            Token::Value(_, _, _) => {
+                if self.need <= 1 {
+                    kind_at(self.letter)
+                } else {
+                    Kind::Rest
+                }
+            }
+        }
+    }
+
+    // Where the reading stands after a token.
+    #[tactic(auto, using(std::proofs::lemmas::Bool::Decides::nat_tests), unfolding(crate::specs::Tokens::gait_of))]
+    pub fn pass(self, t: Token) -> Gait
+        ensures { result ≡ gait_of self t }
+    {
+        match t {
+            Token::End(_) => self,
+            Token::Letter(c, _) => Gait {
+                letter: c,
+                need: size(c),
+                drawn: self.drawn & !close(c),
+            },
+            Token::Value(_, _, _) => {
+                if self.need <= 1 {
+                    Gait {
+                        letter: later(self.letter),
+                        need: size(self.letter),
+                        drawn: !movement(self.letter),
+                    }
+                } else {
+                    Gait {
+                        need: self.need - 1,
+                        ..self
+                    }
+                }
             }
         }
     }
 }
 
-// Where the reading stands after a token.
-pub fn pass(g: Gait, t: Token) -> Gait
-    ensures { result ≡ gait_of g t }
-{
-    match t {
-        Token::End(_) => g,
-        Token::Letter(c, _) => Gait {
-            letter: c,
-            need: size(c),
-            drawn: g.drawn & !close(c),
-        },
-        Token::Value(_, _, _) => {
-            if g.need <= 1 {
-                Gait {
-                    letter: later(g.letter),
-                    need: size(g.letter),
-                    drawn: !movement(g.letter),
-                }
-            } else {
-                Gait {
-                    letter: g.letter,
-                    need: g.need - 1,
-                    drawn: g.drawn,
-                }
-            }
+impl Kind {
+    // How many lines are drawn.
+    pub fn many(self, drawn: bool, depth: u32) -> usize
+        requires { depth ≤ depth_most }
+        ensures { result ≡ many_of self drawn depth }
+    {
+        match self {
+            Kind::Rest => 0,
+            Kind::Move => usize::from(drawn),
+            Kind::Line | Kind::Across | Kind::Upright => 1,
+            Kind::Curved => 1usize << depth,
+            Kind::Close => 1,
         }
-    }
-}
-
-// The place after a token.
-pub fn place(t: Token) -> usize
-    ensures { result ≡ place_of t }
-{
-    match t {
-        Token::End(i) => i,
-        Token::Letter(_, i) => i,
-        Token::Value(_, _, i) => i,
-    }
-}
-
-// How many lines are drawn.
-pub fn many(k: Kind, drawn: bool, depth: u32) -> usize
-    requires { depth ≤ depth_most }
-    ensures { result ≡ many_of k drawn depth }
-{
-    match k {
-        Kind::Rest => 0,
-        Kind::Move => { if drawn { 1 } else { 0 } }
-        Kind::Line => 1,
-        Kind::Across => 1,
-        Kind::Upright => 1,
-        Kind::Curved => 1usize << depth,
-        Kind::Close => 1,
     }
 }

@@ -1,20 +1,19 @@
 -- The first token of a text, over plain variables. Assumes nothing.
 use mathlib.Core.Path.{◌≡◌, refl, sym, ap, ◌∙◌, subst}
-use mathlib.Core.Bool.{Bool, true, false, cond, ◌||◌, false≢true}
+use mathlib.Core.Bool.{Bool, true, false, cond, ◌||◌}
 use mathlib.Core.List.{List, [], ◌∷◌}
 use Prim.Native.Nat.{ℕ, zero, suc, ◌+◌, ◌-◌, ◌*◌, ◌^◌, ◌≤◌, ◌<◌}
 use native.Mathlib.Numerals.{add-one}
 use native.Mathlib.Omega.{arith}
 use lib.Dec.{eqb, leb}
 use lib.ListN.{length, drop, get_or, drop_of_length-le, length-drop}
-use lib.Seq.{drop-cons, drop-drop, drop-nil}
+use lib.Seq.{drop-cons, drop-drop}
 use borrow.Author.Tests.{le-leb, lt-leb}
 use Rattle.svg_path.specs.Chars.{whole_most, part_most, is_digit, is_sign}
-use Rattle.svg_tokens.specs.declared.Run.{Run}
 use Rattle.svg_tokens.specs.declared.Number.{Number}
 use Rattle.svg_tokens.specs.Run.{run_of}
-use Rattle.svg_tokens.specs.Tokens.{Tok, letter, value, begins_of, signs_of, point_at, head_of, part_of, number_of, tokens_of}
-use Rattle.svg_tokens.proofs.Turn.{run_few, run_within, run_more}
+use Rattle.svg_tokens.specs.Tokens.{Tok, letter, value, begins_of, signs_of, point_at, part_of, number_of, tokens_of}
+use Rattle.svg_tokens.proofs.Turn.{run_within, run_more}
 
 -- ---- the bytes that a token takes are gone over
 pub skipped : (k : ℕ) (s : List ℕ) → tokens_of k s ≡ tokens_of 0 (drop k s)

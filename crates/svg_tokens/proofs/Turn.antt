@@ -49,15 +49,11 @@ small n left h = go (le_trans (subst (λ (x : ℕ). x ≤ (n + 1) * 10 ^ left) (
     go : n + 1 ≤ 1000000 → n < 1000000
     go h = omega arith
 
-pub none_left : (n k left : ℕ) (s : List ℕ) (v : Run) → left ≤ 0 → run_of left n k s ≡ v → record { n = n; taken = k } ≡ v
+-- no digit is to come, or the text ends
+pub done : (n k j left : ℕ) (s : List ℕ) (v : Run) → j ≡ k → (0 < left → length s ≤ k) → run_of left n k (drop k s) ≡ v → record { n = n; taken = j } ≡ v
 unfolding run_of
-none_left n k zero s v h g = g
-none_left n k (suc l) s v h g = absurd (omega arith)
-
-pub at_end : (n k i left : ℕ) (s : List ℕ) (v : Run) → length s ≤ i → run_of left n k (drop i s) ≡ v → record { n = n; taken = k } ≡ v
-unfolding run_of
-at_end n k i zero s v h g = g
-at_end n k i (suc l) s v h g = sym (ap (run_of (suc l) n k) (drop_of_length-le s h)) ∙ g
+done n k j zero s v e h g = rw e g
+done n k j (suc l) s v e h g = rw e (sym (ap (run_of (suc l) n k) (drop_of_length-le s (h (omega arith)))) ∙ g)
 
 opened : (n k i l : ℕ) (s : List ℕ) → i < length s
     → run_of (suc l) n k (drop i s) ≡ cond (is_digit (get_or s i 0)) (run_of l (n * 10 + (get_or s i 0 - 48)) (suc k) (drop (suc i) s)) (record { n = n; taken = k })
@@ -70,26 +66,19 @@ no_digit n k i zero s v t h e f g = g
 no_digit n k i (suc l) s v t h e f g =
     sym (ap (λ (b : Bool). cond b (run_of l (n * 10 + (get_or s i 0 - 48)) (suc k) (drop (suc i) s)) (record { n = n; taken = k })) (sym e ∙ f)) ∙ sym (opened n k i l s h) ∙ g
 
-pub one_digit : (n k at left d : ℕ) (s : List ℕ) (v : Run) (t : Bool) → 0 < left → at + k < length s → t ≡ is_digit (get_or s (at + k) 0) → t ≡ true → d ≡ get_or s (at + k) 0
-    → run_of left n k (drop (at + k) s) ≡ v → run_of (left - 1) (n * 10 + (d - 48)) (k + 1) (drop (at + (k + 1)) s) ≡ v
-one_digit n k at zero d s v t p h e f x g = absurd (omega arith)
-one_digit n k at (suc l) d s v t p h e f x g =
-    ap (λ (j : ℕ). run_of j (n * 10 + (d - 48)) (k + 1) (drop (at + (k + 1)) s)) (back l)
-    ∙ ap (λ (j : ℕ). run_of l (n * 10 + (d - 48)) (k + 1) (drop j s)) (shift at k)
-    ∙ ap (λ (j : ℕ). run_of l (n * 10 + (d - 48)) j (drop (suc (at + k)) s)) (add-one k)
-    ∙ ap (λ (y : ℕ). run_of l (n * 10 + (y - 48)) (suc k) (drop (suc (at + k)) s)) x
-    ∙ sym (ap (λ (b : Bool). cond b (run_of l (n * 10 + (get_or s (at + k) 0 - 48)) (suc k) (drop (suc (at + k)) s)) (record { n = n; taken = k })) (sym e ∙ f))
-    ∙ sym (opened n k (at + k) l s h)
+pub one_digit : (n k left d : ℕ) (s : List ℕ) (v : Run) (t : Bool) → 0 < left → k < length s → t ≡ is_digit (get_or s k 0) → t ≡ true → d ≡ get_or s k 0 - 48
+    → run_of left n k (drop k s) ≡ v → run_of (left - 1) (n * 10 + d) (k + 1) (drop (k + 1) s) ≡ v
+one_digit n k zero d s v t p h e f x g = absurd (omega arith)
+one_digit n k (suc l) d s v t p h e f x g =
+    ap (λ (j : ℕ). run_of j (n * 10 + d) (k + 1) (drop (k + 1) s)) (back l)
+    ∙ ap (λ (j : ℕ). run_of l (n * 10 + d) j (drop j s)) (add-one k)
+    ∙ ap (λ (y : ℕ). run_of l (n * 10 + y) (suc k) (drop (suc k) s)) x
+    ∙ sym (ap (λ (b : Bool). cond b (run_of l (n * 10 + (get_or s k 0 - 48)) (suc k) (drop (suc k) s)) (record { n = n; taken = k })) (sym e ∙ f))
+    ∙ sym (opened n k k l s h)
     ∙ g
   where
     back : (k : ℕ) → suc k - 1 ≡ k
     back k = omega arith
-
-    shift : (at k : ℕ) → at + (k + 1) ≡ suc (at + k)
-    shift at k = omega arith
-
-pub from_start : (limit at : ℕ) (s : List ℕ) → run_of limit 0 0 (drop (at + 0) s) ≡ run_of limit 0 0 (drop at s)
-from_start limit at s = ap (λ (j : ℕ). run_of limit 0 0 (drop j s)) (add-zero at)
 
 pub start : (k : ℕ) → k ≤ 6 → (0 + 1) * 10 ^ k ≤ 1000000
 start zero h = lit≤ tt

@@ -1,5 +1,5 @@
 -- The digits at the head of a text, up to a limit: the number that they make after n, and how many were taken, k before them. Definitions only.
-use Rattle.std.specs.Prelude.{ℕ, zero, suc, ◌+◌, ◌-◌, ◌*◌, Bool, cond, List, [], ◌∷◌}
+use Rattle.std.specs.Prelude.{ℕ, zero, suc, ◌+◌, ◌-◌, ◌*◌, cond, List, [], ◌∷◌}
 use Rattle.svg_path.specs.Chars.{is_digit}
 use Rattle.svg_tokens.specs.declared.Run.{Run}
 

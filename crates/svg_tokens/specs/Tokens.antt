@@ -1,5 +1,5 @@
 -- The tokens of a text: its letters, and its numbers with their values. Definitions only.
-use Rattle.std.specs.Prelude.{ℕ, zero, suc, ◌+◌, ◌-◌, ◌*◌, ◌^◌, ◌≤◌, ◌<◌, ◌≡◌, Bool, true, false, cond, ◌||◌, List, [], ◌∷◌, eqb, leb, drop}
+use Rattle.std.specs.Prelude.{ℕ, zero, suc, ◌+◌, ◌-◌, ◌*◌, ◌^◌, ◌≤◌, ◌<◌, ◌≡◌, Bool, false, cond, ◌||◌, List, [], ◌∷◌, eqb, leb, drop}
 use Rattle.svg_path.specs.Chars.{whole_most, part_most, is_digit, is_sign}
 use Rattle.svg_tokens.specs.declared.Number.{Number}
 use Rattle.svg_tokens.specs.declared.Token.{Token}

@@ -5,7 +5,7 @@
 ghost use Rattle.std.specs.Prelude.{◌≡◌, ◌+◌, ◌-◌, ◌*◌, ◌^◌, ◌≤◌, ◌<◌, length, drop};
 ghost use Rattle.svg_path.specs.Chars.{whole_most, part_most};
 ghost use Rattle.svg_tokens.specs.Run.{run_of};
-ghost use Rattle.svg_tokens.specs.Tokens.{begins_of, signs_of, point_at, part_of, number_of, tokens_of, rest_of, Within};
+ghost use Rattle.svg_tokens.specs.Tokens.{begins_of, signs_of, point_at, part_of, number_of, tokens_of, rest_of, place_of, Within};
 
 use svg_path::{PART_MOST, WHOLE_MOST, digit, sign};
 
@@ -39,34 +39,32 @@ pub enum Token {
     Value(bool, u32, usize),
 }
 
-fn wide(c: u8) -> u32
-    ensures { result ≡ c }
-{
-    c as u32
-}
-
-// The digits from a place on: as many as there are, up to a limit.
-fn digits(s: &[u8], at: usize, limit: u32) -> Run
-    requires { (at ≤ length s.now) × (limit ≤ whole_most) }
-    ensures { result ≡ run_of limit 0 0 (drop at s.now) }
-{
-    let mut taken: usize = 0;
-    let mut n: u32 = 0;
-    let mut left = limit;
-    while 0 < left {
-        if s.len() <= at + taken {
-            return Run { n, taken };
-        }
-        let c = s[at + taken];
-        if digit(c) {
-            n = n * 10 + (wide(c) - 48);
-            taken += 1;
-            left -= 1;
-        } else {
-            return Run { n, taken };
+impl Token {
+    // The place after it.
+    pub fn place(self) -> usize
+        ensures { result ≡ place_of self }
+    {
+        match self {
+            Token::End(i) | Token::Letter(_, i) | Token::Value(_, _, i) => i,
         }
     }
-    Run { n, taken }
+}
+
+// The digits at the head of a text: as many as there are, up to a limit.
+fn digits(s: &[u8], limit: usize) -> Run
+    requires { limit ≤ whole_most }
+    ensures { result ≡ run_of limit 0 0 s.now }
+{
+    let mut n: u32 = 0;
+    let most = limit.min(s.len());
+    for taken in 0..most {
+        let c = s[taken];
+        if !digit(c) {
+            return Run { n, taken };
+        }
+        n = n * 10 + u32::from(c - b'0');
+    }
+    Run { n, taken: most }
 }
 
 // Digits after a point, as thousandths.
@@ -74,74 +72,70 @@ fn padded(n: u32, taken: usize) -> u32
     requires { (taken ≤ part_most) × (n < 1000000) }
     ensures { result ≡ n * 10 ^ (part_most - taken) }
 {
-    if taken == 0 {
-        return n * 1000;
+    match taken {
+        0 => n * 1000,
+        1 => n * 100,
+        2 => n * 10,
+        _ => n,
     }
-    if taken == 1 {
-        return n * 100;
-    }
-    if taken == 2 {
-        return n * 10;
-    }
-    n
 }
 
 // How many bytes a number's sign takes.
+#[tactic(auto, using(std::proofs::lemmas::Bool::Decides::nat_tests), unfolding(crate::specs::Tokens::signs_of))]
 fn signs(c: u8) -> usize
     ensures { result ≡ signs_of c }
 {
-    if sign(c) { 1 } else { 0 }
+    usize::from(sign(c))
 }
 
-// Whether a point stands at a place.
-fn point_at(s: &[u8], at: usize) -> bool
-    ensures { result ≡ point_at (drop at s.now) }
+// Whether a point stands at the head of a text.
+#[tactic(auto, using(std::proofs::lemmas::Bool::Decides::nat_tests), unfolding(crate::specs::Tokens::point_at))]
+fn point_at(s: &[u8]) -> bool
+    ensures { result ≡ point_at s.now }
 {
-    if s.len() <= at {
-        return false;
-    }
-    s[at] == POINT
+    s.first().copied() == Some(POINT)
 }
 
 // Whether a number begins with this byte.
+#[tactic(auto, using(std::proofs::lemmas::Bool::Decides::nat_tests), unfolding(crate::specs::Tokens::begins_of))]
 fn begins(c: u8) -> bool
     ensures { result ≡ begins_of c }
 {
     digit(c) | sign(c) | (c == POINT)
 }
 
-// A number of k bytes before this place, which make n; and the digits after a point here, if there is one.
-fn part(s: &[u8], at: usize, minus: bool, n: u32, k: usize) -> Number
-    requires { (at ≤ length s.now) × (n < 1000000) × (k ≤ at) }
-    ensures { result ≡ part_of minus n k (drop at s.now) }
+// A number of k bytes, which make n, and the digits after a point at the head of the text that follows
+// them, if there is one.
+fn part(s: &[u8], minus: bool, n: u32, k: usize) -> Number
+    requires { (n < 1000000) × (k ≤ 1 + whole_most) }
+    ensures { result ≡ part_of minus n k s.now }
 {
-    if point_at(s, at) {
-        let p = digits(s, at + 1, PART_MOST);
-        let thousandths = n * 1000 + padded(p.n, p.taken);
-        return Number {
+    if point_at(s) {
+        let p = digits(&s[1..], PART_MOST);
+        Number {
             minus,
-            n: thousandths,
+            n: n * 1000 + padded(p.n, p.taken),
             taken: k + 1 + p.taken,
-        };
-    }
-    Number {
-        minus,
-        n: n * 1000,
-        taken: k,
+        }
+    } else {
+        Number {
+            minus,
+            n: n * 1000,
+            taken: k,
+        }
     }
 }
 
-// The number that begins at a place.
-fn read(s: &[u8], at: usize) -> Number
-    requires { at < length s.now }
-    ensures { result ≡ number_of (drop at s.now) }
+// The number at the head of a text.
+fn read(s: &[u8]) -> Number
+    requires { 0 < length s.now }
+    ensures { result ≡ number_of s.now }
 {
-    let c = s[at];
+    let c = s[0];
     let k = signs(c);
-    let whole = digits(s, at + k, WHOLE_MOST);
-    let n = whole.n;
+    let whole = digits(&s[k..], WHOLE_MOST);
     let past = k + whole.taken;
-    part(s, at + past, c == MINUS, n, past)
+    part(&s[past..], c == MINUS, whole.n, past)
 }
 
 // The first token from a place on.
@@ -149,17 +143,15 @@ pub fn next(s: &[u8], from: usize) -> Token
     requires { from ≤ length s.now }
     ensures { (rest_of s.now result ≡ tokens_of 0 (drop from s.now)) × Within from (length s.now) result }
 {
-    let mut i = from;
-    while i < s.len() {
+    for i in from..s.len() {
         let c = s[i];
         if LETTERS <= c {
             return Token::Letter(c, i + 1);
         }
         if begins(c) {
-            let v = read(s, i);
+            let v = read(&s[i..]);
             return Token::Value(v.minus, v.n, i + v.taken);
         }
-        i += 1;
     }
-    Token::End(i)
+    Token::End(s.len())
 }

@@ -17,12 +17,10 @@ use Rattle.panel.specs.Widths.{line_floats, ref_words}
 use Rattle.panel.specs.Kinds.{running_of}
 use Rattle.panel.specs.Paths.{paths_answer}
 use Rattle.panel.specs.declared.kinds.Running.{Running}
-use Rattle.panel.specs.declared.kinds.Answer.{Answer}
-use Rattle.panel.specs.declared.kinds.Answer.TheVariants as Answer
+use Rattle.panel.specs.Answer.{Answer}
 use Rattle.acts.specs.Acts.{St, st_of}
 use Rattle.acts.specs.Line.{Refusal}
-use Rattle.path_count.specs.Count.{Told, paper_of, batch, batch_told, call_answer, call_told, counted}
-use Rattle.path_count.specs.declared.kinds.Counted.TheVariants.{Done}
+use Rattle.path_count.specs.Count.{Told, batch, batch_told, call_answer, call_told, counted}
 use Rattle.path_count.proofs.Batches.{batches}
 use Rattle.panel.specs.Kinds as Kinds
 use Rattle.looks.specs.Look.{Lent}

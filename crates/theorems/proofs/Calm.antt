@@ -7,7 +7,6 @@ use mathlib.Core.List.{List, [], ◌∷◌, map}
 use Prim.Native.Nat.{ℕ, zero, suc, ◌+◌, ◌-◌, ◌*◌, ◌/◌, ◌≤◌, ◌<◌, ◌^◌}
 use native.Mathlib.Nat.{le_trans}
 use native.Mathlib.Omega.{arith}
-use lib.Dec.{ltb}
 use lib.ListN.{length, get_or, replicate, length-replicate}
 use lib.IntN.{ℤ, pos, negsuc, ◌+ℤ◌}
 use lib.Signed.{mag}
@@ -20,7 +19,7 @@ use Rattle.panel.specs.Limits.{most_lines, most_steps, edge_most}
 use Rattle.panel.specs.Widths.{ref_words, step_range}
 use Rattle.panel.specs.Paths.{path_at, path_count, width_of, height_of, paths_answer}
 use Rattle.panel.specs.declared.kinds.Path.{Path}
-use Rattle.panel.specs.declared.kinds.Answer.TheVariants.{Done}
+use Rattle.panel.specs.Answer.{Done}
 use Rattle.panel.proofs.LimitLaws.{small, packs}
 use Rattle.panel.proofs.PathLaws.{Checked, checked, Holds}
 use Rattle.backdrop.specs.Backdrop.{out_of, backdrop_at, path_fits, path_sums, sum_paths, backdrop_of}
@@ -31,8 +30,7 @@ use Rattle.backdrop.proofs.CellLaws.{path_elsewhere}
 use Rattle.backdrop.proofs.PathSums.{call_done}
 use Rattle.walk.specs.Lent.{walk_at}
 use Rattle.walk.specs.declared.kinds.Walk.{Walk}
-use Rattle.walk.specs.declared.kinds.Walked.{Walked}
-use Rattle.walk.specs.declared.kinds.Walked.TheVariants.{Refused, Skipped, Line}
+use Rattle.walk.specs.Walked.{Walked, Refused, Skipped, Line}
 use Rattle.clip.specs.Page.{clipped_of}
 use Rattle.acts.specs.Acts.{St, st_of, Act, mark, visit, stop, delta_of}
 use Rattle.acts.specs.Line.{plan_acts, at_line, batch_of}

@@ -16,11 +16,10 @@ use Rattle.panel.specs.Limits.{most_lines, most_slots}
 use Rattle.panel.specs.Widths.{ref_words}
 use Rattle.panel.specs.Paths.{path_at, path_count, paths_answer}
 use Rattle.panel.specs.declared.kinds.Path.{Path}
-use Rattle.panel.specs.declared.kinds.Answer.TheVariants.{Done}
+use Rattle.panel.specs.Answer.{Done}
 use Rattle.walk.specs.Lent.{walk_at}
 use Rattle.walk.specs.declared.kinds.Walk.{Walk}
-use Rattle.walk.specs.declared.kinds.Walked.{Walked}
-use Rattle.walk.specs.declared.kinds.Walked.TheVariants.{Refused, Skipped, Line}
+use Rattle.walk.specs.Walked.{Walked, Refused, Skipped, Line}
 use Rattle.walk.proofs.Walks.{line_told}
 use Rattle.acts.specs.Acts.{St, Act, mark, visit, stop}
 use Rattle.acts.specs.Line.{plan_acts, at_line, batch_of}

@@ -10,24 +10,24 @@ use lib.Dec.{ltb}
 use lib.ListN.{length, get_or}
 use lib.IntN.{ℤ, pos, ◌+ℤ◌}
 use lib.Ieee.{Float}
-use borrow.Author.Tests.{lt-ltb, le-ltb, le-leb, lt-leb, eq-eqb, ne_eqb, ltb-true, ltb-false}
+use borrow.Author.Tests.{le-ltb, le-leb, lt-leb, eq-eqb, ne_eqb, ltb-true, ltb-false}
 use Rattle.lists.specs.Run.{Step, halted, Ran, done, refused, all_or_none, run_refused, run_stopped}
 use Rattle.lists.specs.Sums.{sum}
-use Rattle.panel.specs.Limits.{most_tiles, most_lines, most_steps, most_count, most_slots}
+use Rattle.panel.specs.Limits.{most_tiles, most_lines, most_count, most_slots}
 use Rattle.panel.specs.Refusals.{not_whole, too_many, no_room_word, line_number, coordinate, no_such, count_over, sum_over}
 use Rattle.panel.specs.Paths.{path_at, path_count}
 use Rattle.panel.specs.declared.kinds.Path.{Path}
 use Rattle.panel.specs.Checks.{Check, first_no}
-use Rattle.panel.specs.declared.kinds.Verdict.TheVariants.{Against}
-use Rattle.panel.specs.declared.kinds.Answer.TheVariants.{Done, Refused}
+use Rattle.panel.specs.Verdict.{Against}
+use Rattle.panel.specs.Answer.{Done, Refused}
 use Rattle.hand_out.specs.HandOut.{out_of, hand_out_of, hand}
 use Rattle.util.specs.declared.Vec2.{Vec2}
 use Rattle.walk.specs.Page.{line_of}
 use Rattle.walk.proofs.Lines.{skipped}
 use Rattle.walk.specs.Lent.{line_at, reached_of, walked_of, walk_at}
 use Rattle.walk.specs.declared.kinds.Walk.{Walk}
-use Rattle.walk.specs.declared.kinds.Walked.{Walked}
-use Rattle.walk.specs.declared.kinds.Walked.TheVariants as Found
+use Rattle.walk.specs.Walked.{Walked}
+use Rattle.walk.specs.Walked as Found
 use Rattle.panel.specs.Signed.{in_i32}
 use Rattle.acts.specs.Acts.{St, Act, mark, visit, stop, marked, visited, take_if, act, run_acts, delta_of}
 use Rattle.acts.specs.Line.{Plan, plan_acts, halt_if, too_far, plan_step}

@@ -13,22 +13,19 @@ use borrow.Author.Tests.{lt-ltb, le-ltb, le-leb, lt-leb, leb-true, leb-false, eq
 use Rattle.panel.specs.Refusals.{past_end, bad_segment, too_long_word}
 use Rattle.panel.specs.Segments.{segment_at}
 use Rattle.panel.proofs.HeldLaws.{not_straight, crooked_not}
-use Rattle.panel.specs.declared.kinds.Verdict.{Verdict}
-use Rattle.panel.specs.declared.kinds.Verdict.TheVariants.{Fine, Against}
+use Rattle.panel.specs.Verdict.{Verdict, Fine, Against}
 use Rattle.coverage.specs.Ground.{straight_from, ground_of}
 use Rattle.coverage.proofs.Crooked.{crooked_at, first_crooked}
 use Rattle.reader.specs.Look.{look_at}
-use Rattle.commands.specs.Numbers.{end_no, words_of, fill_words}
+use Rattle.commands.specs.Numbers.{end_no, words_of, fill_words, start_of}
 use Rattle.commands.specs.Moves.{op_of, count_of, on_ground, fill_move, whole_move, move_of, Trace, ends, does, on_move, on_look, trace_of, end_of}
 use Rattle.commands.specs.declared.steps.Op.{Op}
 use Rattle.commands.specs.declared.steps.Op.TheVariants.{Fill, Solid, Color, Jump, Unknown}
 use Rattle.commands.specs.declared.steps.Act.{Act}
 use Rattle.commands.specs.declared.steps.Act.TheVariants as Does
-use Rattle.commands.specs.declared.steps.Move.{Move}
-use Rattle.commands.specs.declared.steps.Move.TheVariants.{Refused, Goes}
+use Rattle.commands.specs.Move.{Move, Refused, Goes}
 use Rattle.panel.specs.Limits.{most_commands}
 use Rattle.panel.specs.Widths.{segment_floats}
-use Rattle.commands.specs.Numbers.{start_of}
 use Rattle.screen_tile.specs.Tile.{tile_trace, ends_at}
 use Rattle.theorems.specs.Commands.{GroundWhy, WholeWhy, MoveWhy, TraceWhy}
 use Rattle.theorems.proofs.Exact.{no_clash}

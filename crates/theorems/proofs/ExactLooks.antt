@@ -16,16 +16,15 @@ use Rattle.util.specs.declared.Vec2.{Vec2}
 use Rattle.walk.specs.Step.{step_of}
 use Rattle.walk.specs.Lent.{line_at, reached_of, walked_of, walk_at}
 use Rattle.walk.specs.declared.kinds.Walk.{Walk}
-use Rattle.walk.specs.declared.step.Step.{Step}
-use Rattle.walk.specs.declared.step.Step.TheVariants as On
-use Rattle.walk.specs.declared.kinds.Walked.{Walked}
-use Rattle.walk.specs.declared.kinds.Walked.TheVariants as Found
+use Rattle.walk.specs.Stepped.{Step}
+use Rattle.walk.specs.Stepped as On
+use Rattle.walk.specs.Walked.{Walked}
+use Rattle.walk.specs.Walked as Found
 use Rattle.segment.specs.Clips.{piece_of}
-use Rattle.segment.specs.declared.Piece.{Piece}
-use Rattle.segment.specs.declared.Piece.TheVariants.{Kept, Crooked}
+use Rattle.segment.specs.Piece.{Piece, Kept, Crooked}
 use Rattle.looks.specs.Look as Look
 use Rattle.looks.specs.Look.{Lent, packed_at, step_no, slice_no, piece_to, word_to, step_to, found_to, found_of, look_of}
-use Rattle.looks.specs.declared.Look.TheVariants.{Empty, Against}
+use Rattle.looks.specs.Looked.{Empty, Against}
 use Rattle.theorems.specs.Refusing.{RefWalks, RefOn, LookWhy, seven_line, six_line, seven_path, seven_skipped, ten_step, nine_slot, twelve}
 use Rattle.theorems.proofs.Grounds.{ends_exact, ends_good, good_ends, step_exact, piece_exact}
 use Rattle.theorems.proofs.Exact.{no_clash, never}

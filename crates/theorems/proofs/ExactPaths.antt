@@ -16,11 +16,10 @@ use Rattle.panel.specs.Limits.{most_paths, most_tiles, edge_most}
 use Rattle.panel.specs.Refusals.{not_whole, too_many, bad_box, bad_range}
 use Rattle.panel.specs.Widths.{path_words}
 use Rattle.panel.specs.Checks.{Check, first_no, unless}
-use Rattle.panel.specs.Paths.{path_at, path_count, end_of, box_fits, path_checks, paths_from, lent_checks, paths_answer}
+use Rattle.panel.specs.Paths.{path_at, path_count, end_of, box_fits, path_checks, paths_from, paths_answer}
 use Rattle.panel.specs.declared.kinds.Path.{Path}
-use Rattle.panel.specs.declared.kinds.Verdict.{Verdict}
-use Rattle.panel.specs.declared.kinds.Verdict.TheVariants.{Fine, Against}
-use Rattle.panel.specs.declared.kinds.Answer.TheVariants.{Done, Refused}
+use Rattle.panel.specs.Verdict.{Verdict, Fine, Against}
+use Rattle.panel.specs.Answer.{Done, Refused}
 use Rattle.panel.proofs.PathLaws.{box_fits_lem, from_turn, from_no}
 use Rattle.panel.specs.Kinds.{paper_of}
 use Rattle.acts.specs.Acts.{St}

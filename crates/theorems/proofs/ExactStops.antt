@@ -13,16 +13,14 @@ use Rattle.lists.specs.Run.{Step, taken, halted, Ran, done, refused, run, on_ste
 use Rattle.lists.specs.Sums.{from, from_add}
 use Rattle.panel.specs.Refusals.{sum_over}
 use Rattle.panel.specs.Paths.{path_at, path_count, paths_answer}
-use Rattle.panel.specs.declared.kinds.Answer.{Answer}
-use Rattle.panel.specs.declared.kinds.Answer.TheVariants.{Done, Refused}
-use Rattle.panel.specs.declared.kinds.Verdict.{Verdict}
-use Rattle.panel.specs.declared.kinds.Verdict.TheVariants as Verdict
+use Rattle.panel.specs.Answer.{Answer, Done, Refused}
+use Rattle.panel.specs.Verdict.{Verdict}
 use Rattle.backdrop.specs.Backdrop.{out_of, path_fits, path_sums, sum_paths, on_done, backdrop_of}
 use Rattle.backdrop.proofs.CellLaws.{out_once}
 use Rattle.looks.specs.Look.{Lent, look_of}
 use Rattle.path_tiling.specs.Tiling.{look_then_word, range_of}
-use Rattle.looks.specs.declared.Look as Lk
-use Rattle.looks.specs.declared.Look.TheVariants.{Put, Empty, Against}
+use Rattle.looks.specs.Looked as Lk
+use Rattle.looks.specs.Looked.{Put, Empty, Against}
 use Rattle.screen_tile.specs.Tile.{ends_at, tile_pixels}
 use Rattle.fine.specs.Fine.{No, on_end, tile_step, tiles_of}
 use Rattle.theorems.specs.Refusing.{PathsWhy, one, two, three, four, BackdropWhy, RangeWhy, TilesWhy}

@@ -8,9 +8,8 @@ use lib.Ieee.{Float}
 use borrow.Author.Tests.{le-leb}
 use Rattle.lists.specs.Run.{Ran, done, refused, left}
 use Rattle.panel.specs.Checks.{first_no}
-use Rattle.panel.specs.declared.kinds.Answer.TheVariants.{Done, Refused}
-use Rattle.panel.specs.declared.kinds.Verdict.{Verdict}
-use Rattle.panel.specs.declared.kinds.Verdict.TheVariants.{Fine, Against}
+use Rattle.panel.specs.Answer.{Done, Refused}
+use Rattle.panel.specs.Verdict.{Verdict, Fine, Against}
 use Rattle.fine.specs.Fine.{shown, fine_checks, No, tiles_of, fine_of}
 use Rattle.fine.proofs.Ranges.{two_ranges}
 use Rattle.fine.proofs.Screens.{next_range}

@@ -2,7 +2,7 @@
 use mathlib.Core.Path.{◌≡◌, refl, sym, ap, ◌∙◌}
 use mathlib.Core.Logic.{◌⊎◌, inl, inr}
 use mathlib.Core.List.{List, [], ◌∷◌}
-use Prim.Native.Nat.{ℕ, zero, suc, ◌+◌, ◌-◌, ◌/◌, ◌≤◌, ◌<◌}
+use Prim.Native.Nat.{ℕ, zero, suc, ◌+◌, ◌/◌, ◌≤◌, ◌<◌}
 use native.Mathlib.Omega.{arith}
 use lib.ListN.{length, get_or}
 use lib.IntN.{ℤ}
@@ -14,26 +14,24 @@ use Rattle.panel.specs.Refusals.{crooked}
 use Rattle.panel.specs.Widths.{ref_words}
 use Rattle.panel.specs.declared.kinds.Running.{Running}
 use Rattle.panel.specs.Slots.{slot_of}
-use Rattle.panel.specs.declared.kinds.TileNo.{TileNo}
 use Rattle.walk.specs.Step.{step_of}
 use Rattle.walk.specs.Lent as WalkLent
 use Rattle.walk.specs.Lent.{walk_at}
-use Rattle.walk.specs.declared.step.Step.TheVariants as On
-use Rattle.walk.specs.declared.kinds.Walked.TheVariants.{Line}
+use Rattle.walk.specs.Stepped as On
+use Rattle.walk.specs.Walked.{Line}
 use Rattle.walk.proofs.Walks.{line_told}
 use Rattle.acts.specs.Acts.{St, st_of, Act, mark, visit, stop, delta_of}
 use Rattle.acts.specs.Line.{plan_acts}
 use Rattle.walked_lines.specs.Line.{plan_of}
 use Rattle.hand_out.specs.HandOut.{hand}
-use Rattle.looks.specs.Look.{Lent, lent, line_at, packed_at, step_no, slice_no}
+use Rattle.looks.specs.Look.{lent, line_at, packed_at, step_no, slice_no}
 use Rattle.path_tiling.specs.Tiling.{slots_of}
 use Rattle.frame.specs.Frame.{out_of, frame_of}
 use Rattle.frame.specs.declared.kinds.Stage.{Stage}
-use Rattle.frame.specs.declared.kinds.Stage.TheVariants as Stage
-use Rattle.frame.specs.declared.kinds.Framed.TheVariants.{Refused}
+use Rattle.frame.specs.Framed.{Refused}
 use Rattle.theorems.specs.Drawn.{acts_by, walk_of, drawn_at}
 use Rattle.theorems.specs.Events.{Event, EventOwn, events_in, events_of, tiles_ev, slice_of}
-use Rattle.theorems.specs.Refs.{AllCounted}
+use Rattle.theorems.specs.Refs.{AllCounted, step_tile}
 use Rattle.theorems.specs.Refusing.{
   StopsAt,
   ActWhy,
@@ -151,8 +149,8 @@ module _ (b : ℕ) (nos : List ℕ) (coords : List Float) (paths : List ℕ) (n 
       let y : c ≡ own.box = cc in
       let z : step_of own.walk.pace own.box (event_at es k).step ≡ On.Tile o.tile o.x o.y o.z = rw (x, y, step) at o.fell in
       let f : On.Tile o.tile o.x o.y o.z ≡ On.Tile own.on.tile own.on.x own.on.y own.on.z = sym z ∙ own.on.fell in
-      let g : o.tile ≡ own.on.tile = cc in
-      absurd (omega (arith, slot_in o.tile.0 (ap (λ (t : TileNo). t.0) g ∙ own.on.number)))
+      let g : o.tile.0 ≡ own.on.tile.0 = ap step_tile f in
+      absurd (omega (arith, slot_in o.tile.0 (g ∙ own.on.number)))
   no_other why (twelve e v c h o p d) = e
 
 -- a reference that counting made, with room for all of them: tiling refuses it with 12 alone

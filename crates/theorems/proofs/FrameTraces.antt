@@ -14,7 +14,7 @@ use Rattle.panel.specs.Kinds.{running_of}
 use Rattle.backdrop.specs.Backdrop.{row_sums, row_fits, rows_sums, rows_fit, sum_paths, backdrop_of}
 use Rattle.frame.specs.Frame.{Out, out_of, placed_of, drawn_of, checks_of as frame_checks, frame_of}
 use Rattle.frame.specs.declared.kinds.Stage.TheVariants as Stage
-use Rattle.frame.specs.declared.kinds.Framed.TheVariants.{Done, Refused}
+use Rattle.frame.specs.Framed.{Done, Refused}
 use Rattle.theorems.specs.Starred.{floats_of}
 use Rattle.theorems.proofs.StarredTable.{computing}
 

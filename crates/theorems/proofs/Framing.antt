@@ -18,16 +18,14 @@ use Rattle.panel.specs.Kinds.{running_of}
 use Rattle.panel.specs.Checks.{Check, first_no}
 use Rattle.panel.specs.Paths.{path_at, path_count, tile_of, paths_answer}
 use Rattle.panel.specs.declared.kinds.Running.{Running}
-use Rattle.panel.specs.declared.kinds.Answer.{Answer}
-use Rattle.panel.specs.declared.kinds.Answer.TheVariants as Answer
+use Rattle.panel.specs.Answer.{Answer}
 use Rattle.panel.proofs.CheckLaws.{AllOk, all_ok, none_fails, unless_done, unless_fine}
 use Rattle.panel.proofs.KindLaws.{paper_once}
 use Rattle.panel.proofs.PathLaws.{InBox, checked}
 use Rattle.acts.specs.Acts.{St, st_of}
 use Rattle.acts.specs.Line.{Refusal}
 use Rattle.path_count.specs.Count.{Told, told_of, paper_of, batch, lent_checks as count_checks, batch_told, call_answer, call_told, counted}
-use Rattle.path_count.specs.declared.kinds.Counted.{Counted}
-use Rattle.path_count.specs.declared.kinds.Counted.TheVariants as Counted
+use Rattle.path_count.specs.Counted.{Counted}
 use Rattle.backdrop.specs.Backdrop as Backdrop
 use Rattle.hand_out.specs.HandOut as HandOut
 use Rattle.hand_out.specs.HandOut.{hand}
@@ -37,8 +35,7 @@ use Rattle.hand_out.proofs.HandLaws.{length_hand}
 use Rattle.path_tiling.proofs.CallLaws as Tiling
 use Rattle.frame.specs.Frame.{Out, stage_no, out_of, answer_on, counted_on, go_on, go_on_counted, placed_of, drawn_of, lent_checks, checks_of, frame_of}
 use Rattle.frame.specs.declared.kinds.Stage.TheVariants as Stage
-use Rattle.frame.specs.declared.kinds.Framed.{Framed}
-use Rattle.frame.specs.declared.kinds.Framed.TheVariants.{Done, Refused}
+use Rattle.frame.specs.Framed.{Framed, Done, Refused}
 use Rattle.frame.proofs.FrameLaws.{answer_on_lem}
 use Rattle.frame.proofs.KindLaws as Framed
 use Rattle.theorems.specs.Drawn.{drawn, of_path, InPath}

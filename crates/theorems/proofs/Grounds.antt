@@ -24,14 +24,14 @@ use Rattle.walk.specs.Step.{tile_in, step_of}
 use Rattle.panel.specs.declared.lines.LineEnds.{LineEnds}
 use Rattle.walk.specs.declared.kinds.Pace.{Pace}
 use Rattle.walk.specs.declared.kinds.Walk.{Walk}
-use Rattle.walk.specs.declared.step.Step.{Step}
-use Rattle.walk.specs.declared.step.Step.TheVariants as On
+use Rattle.walk.specs.Stepped.{Step}
+use Rattle.walk.specs.Stepped as On
 use Rattle.walk.proofs.Boxes.{ok_of, tile_yes, tile_no}
 use Rattle.panel.specs.Segments.{InTile, held_of}
 use Rattle.panel.proofs.HeldLaws.{in_held, held_not}
 use Rattle.segment.specs.Clips.{segment_of, piece_of}
 use Rattle.panel.specs.declared.segments.Segment.{Segment}
-use Rattle.segment.specs.declared.Piece.TheVariants.{Kept, Crooked}
+use Rattle.segment.specs.Piece.{Kept, Crooked}
 use Rattle.acts.specs.Acts.{St, Act, mark, visit, stop, Hit, on, off, row_acts, step_acts, steps_acts, act, run_acts}
 use Rattle.acts.specs.Rows.{rows_acts}
 use Rattle.acts.specs.Line.{Plan, plan_acts}

@@ -18,7 +18,7 @@ use Rattle.lists.specs.Tally.{tally, tally_at, length_tally, zeros}
 use Rattle.lists.specs.Order as Order
 use Rattle.lists.specs.Order.{add_at_word, counts_any_order, backs_any_order}
 use Rattle.panel.specs.Paths.{path_at, path_count, tile_of, paths_answer}
-use Rattle.panel.specs.declared.kinds.Answer.TheVariants.{Done}
+use Rattle.panel.specs.Answer.{Done}
 use Rattle.panel.proofs.PathLaws.{Checked, checked, one_path, InBox}
 use Rattle.backdrop.specs.Backdrop.{backdrop_at, backdrop_of, out_of}
 use Rattle.backdrop.proofs.CellLaws.{backdrop_cell, sum_of_same, row_start, row_held}

@@ -23,9 +23,8 @@ use Rattle.walk.specs.Skip.{flat_of, past_of}
 use Rattle.walk.specs.Lent.{line_at, reached_of, walked_of, walk_at}
 use Rattle.walk.specs.Step.{Boxed, step_of}
 use Rattle.walk.specs.declared.kinds.Walk.{Walk}
-use Rattle.walk.specs.declared.kinds.Walked.{Walked}
-use Rattle.walk.specs.declared.kinds.Walked.TheVariants.{Refused, Skipped, Line}
-use Rattle.walk.specs.declared.step.Step.TheVariants as On
+use Rattle.walk.specs.Walked.{Walked, Refused, Skipped, Line}
+use Rattle.walk.specs.Stepped as On
 use Rattle.walk.proofs.Walks.{line_told}
 use Rattle.clip.specs.Page.{clipped_of}
 use Rattle.acts.specs.Acts.{St, Act, mark, visit, stop, delta_of}

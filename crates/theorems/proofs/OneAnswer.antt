@@ -15,12 +15,11 @@ use Rattle.lists.specs.Tally.{zeros}
 use Rattle.panel.specs.Paths.{boxed}
 use Rattle.panel.specs.Kinds.{running_of}
 use Rattle.panel.specs.declared.kinds.Running.{Running}
-use Rattle.panel.specs.declared.kinds.Answer.{Answer}
+use Rattle.panel.specs.Answer.{Answer}
 use Rattle.panel.proofs.KindLaws.{paper_once}
 use Rattle.path_count.specs.Count.{Told, told_of, paper_of, made_of, counted}
-use Rattle.path_count.specs.declared.kinds.Counted.{Counted}
+use Rattle.path_count.specs.Counted.{Counted, Done}
 use Rattle.path_count.proofs.Batches.{counted_once}
-use Rattle.path_count.specs.declared.kinds.Counted.TheVariants.{Done}
 use Rattle.acts.specs.Acts.{st_of}
 use Rattle.backdrop.proofs.CellLaws as Backdrop
 use Rattle.hand_out.proofs.HandLaws as HandOut

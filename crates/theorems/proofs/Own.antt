@@ -1,28 +1,26 @@
 -- All acts of a line are on its own path's tiles; and what a line that is taken did. Assumes nothing.
 use mathlib.Core.Path.{◌≡◌, refl, sym, ap, subst}
 use mathlib.Core.Bool.{Bool, true, false, not, cond}
-use mathlib.Core.List.{List, [], ◌∷◌, ◌++◌}
+use mathlib.Core.List.{List, ◌∷◌}
 use Prim.Native.Nat.{ℕ, zero, suc, ◌+◌, ◌-◌, ◌≤◌, ◌<◌, min}
 use native.Mathlib.Omega.{arith}
 use lib.Dec.{ltb, leb, eqb}
 use lib.ListN.{get_or}
 use lib.Ieee.{Float, eq}
-use borrow.Author.Tests.{ltb-true, ltb-false, leb-false, lt-ltb}
+use borrow.Author.Tests.{ltb-true, leb-false}
 use Rattle.lists.specs.Run.{Step, taken, done, All, all_append}
 use Rattle.panel.specs.Limits.{most_lines, most_steps, most_slots}
 use Rattle.panel.specs.Refusals.{count_over, line_number}
 use Rattle.panel.specs.Paths.{end_of, width_of, path_at, paths_answer}
 use Rattle.panel.specs.declared.kinds.Path.{Path}
-use Rattle.panel.specs.declared.kinds.Answer.TheVariants.{Done}
+use Rattle.panel.specs.Answer.{Done}
 use Rattle.panel.proofs.PathLaws.{Holds, checked}
 use Rattle.panel.proofs.BoolLaws.{both}
 use Rattle.walk.specs.Lent.{walk_at}
 use Rattle.walk.specs.Step.{Boxed, step_of, last_z_word, cross_of}
 use Rattle.walk.specs.declared.kinds.Walk.{Walk}
-use Rattle.walk.specs.declared.step.Step as S
-use Rattle.walk.specs.declared.step.Step.TheVariants as On
-use Rattle.walk.specs.declared.kinds.Walked.{Walked}
-use Rattle.walk.specs.declared.kinds.Walked.TheVariants.{Refused, Skipped, Line}
+use Rattle.walk.specs.Stepped as On
+use Rattle.walk.specs.Walked.{Walked, Refused, Skipped, Line}
 use Rattle.walk.proofs.Boxes.{fits_boxed}
 use Rattle.walk.proofs.Tiles.{tile_in_lem, mark_in}
 use Rattle.walk.proofs.Walks.{line_told}
@@ -55,7 +53,7 @@ module _ (w : Walk) (b : Path) (k : Boxed b) where
   rows_own r h e (suc n) y p q =
       ((omega arith, row_below r (end_of b) y h p (omega arith)), rows_own r h e n (suc y) (omega arith) (omega arith))
 
-  hit_own : (i : ℕ) → i < most_steps → (s : S.Step) → step_of w.pace b i ≡ s → All (ActOwn w b) (step_acts (hit_of w.pace b i s) i)
+  hit_own : (i : ℕ) → i < most_steps → (s : On.Step) → step_of w.pace b i ≡ s → All (ActOwn w b) (step_acts (hit_of w.pace b i s) i)
   hit_own i h (On.Tile t x y z) e = go (cross_of w.pace.on_top b.x1 i (last_z_word w.pace i) x z) refl
     where
       here : Holds b t.0

@@ -20,16 +20,16 @@ use Rattle.panel.specs.Widths.{line_floats, segment_floats}
 use Rattle.panel.specs.Pieces.{Pieces, pieces}
 use Rattle.panel.specs.Kinds.{running_of}
 use Rattle.panel.specs.declared.kinds.Running.{Running}
-use Rattle.panel.specs.declared.kinds.Answer.TheVariants as Answer
+use Rattle.panel.specs.Answer as Answer
 use Rattle.walk.specs.Lent.{line_at, Reached}
 use Rattle.walk.specs.Page.{line_of}
 use Rattle.path_count.specs.Count.{Told, counted}
 use Rattle.hand_out.specs.HandOut as HandOut
 use Rattle.looks.specs.Look.{lent}
-use Rattle.path_tiling.specs.Tiling.{Write, slots_of, call_of, Tiled, tiled, tiled_of, TileMet}
+use Rattle.path_tiling.specs.Tiling.{slots_of, call_of, Tiled, tiled, tiled_of, TileMet}
 use Rattle.frame.specs.Frame.{out_of, frame_of}
 use Rattle.frame.specs.declared.kinds.Stage.TheVariants as Stage
-use Rattle.frame.specs.declared.kinds.Framed.TheVariants.{Refused}
+use Rattle.frame.specs.Framed.{Refused}
 use Rattle.theorems.specs.Drawn.{drawn, drawn_at}
 use Rattle.theorems.specs.Refs.{from_zero, AllCounted}
 use Rattle.theorems.specs.Batches.{Rising, last_of}

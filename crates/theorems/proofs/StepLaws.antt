@@ -24,7 +24,7 @@ use Rattle.walk.specs.Page.{line_of}
 use Rattle.walk.specs.Lent.{Reached}
 use Rattle.walk.specs.Step.{Boxed, z_at, tile_in, step_of}
 use Rattle.walk.specs.declared.kinds.Pace.{Pace}
-use Rattle.walk.specs.declared.step.Step.TheVariants.{Tile, Refused}
+use Rattle.walk.specs.Stepped.{Tile, Refused}
 use Rattle.walk.proofs.Walks.{line_starts, line_few}
 use Rattle.walk.proofs.StepTiles.{z_fits, z_whole, z_whole_lem, turned_whole}
 use Rattle.walk.proofs.Tiles.{step_told, step_exact}

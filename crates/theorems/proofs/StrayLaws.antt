@@ -19,30 +19,27 @@ use Rattle.panel.specs.Widths.{segment_floats}
 use Rattle.panel.specs.Kinds.{slot_no_of}
 use Rattle.panel.specs.Paths.{path_at, end_of, paths_answer}
 use Rattle.panel.specs.Slots.{not32, skips}
-use Rattle.panel.specs.declared.kinds.Answer.TheVariants.{Done, Refused}
+use Rattle.panel.specs.Answer.{Done, Refused}
 use Rattle.panel.specs.Checks.{first_no}
-use Rattle.panel.specs.declared.kinds.Verdict.{Verdict}
-use Rattle.panel.specs.declared.kinds.Verdict.TheVariants as Verdict
+use Rattle.panel.specs.Verdict.{Verdict}
 use Rattle.hand_out.specs.HandOut.{hand, hand_checks, on_fine, hand_out_of, out_of}
 use Rattle.hand_out.proofs.HandLaws.{length_hand, reads_back, skips_no_other, out_once}
 use Rattle.walk.specs.Step.{step_of}
 use Rattle.walk.specs.Lent.{walk_at}
 use Rattle.walk.specs.declared.kinds.Walk.{Walk}
-use Rattle.walk.specs.declared.step.Step.{Step}
-use Rattle.walk.specs.declared.step.Step.TheVariants as On
-use Rattle.walk.specs.declared.kinds.Walked.{Walked}
-use Rattle.walk.specs.declared.kinds.Walked.TheVariants as Found
+use Rattle.walk.specs.Stepped.{Step}
+use Rattle.walk.specs.Stepped as On
+use Rattle.walk.specs.Walked.{Walked}
+use Rattle.walk.specs.Walked as Found
 use Rattle.segment.specs.Clips.{piece_of}
-use Rattle.panel.specs.declared.segments.Segment.{Segment}
-use Rattle.segment.specs.declared.Piece.{Piece}
-use Rattle.segment.specs.declared.Piece.TheVariants.{Kept, Crooked}
+use Rattle.segment.specs.Piece.{Piece, Kept, Crooked}
 use Rattle.looks.specs.Look.{Lent, lent, line_at, packed_at, step_no, slice_no, piece_to, word_to, step_to, found_to, found_of, look_of}
 use Rattle.panel.specs.Segments.{floats_of, segment_at}
 use Rattle.panel.specs.Pieces.{Pieces, placed}
 use Rattle.panel.proofs.SegmentLaws.{reads_put, reads_other}
 use Rattle.path_tiling.specs.Tiling.{Write, Range, range, look_then_word, range_of, slots_of, applied, checks_of, checked_then, call_of, Made}
-use Rattle.looks.specs.declared.Look as L
-use Rattle.looks.specs.declared.Look.TheVariants.{Put, Empty, Against}
+use Rattle.looks.specs.Looked as L
+use Rattle.looks.specs.Looked.{Put, Empty, Against}
 use Rattle.looks.proofs.PutLaws.{Good}
 use Rattle.path_tiling.proofs.CallLaws as CallLaws
 use Rattle.path_tiling.proofs.WriteLaws.{range_made, range_good}

@@ -18,15 +18,14 @@ use Rattle.panel.specs.Widths.{ref_words}
 use Rattle.panel.specs.Kinds.{running_of}
 use Rattle.panel.specs.Checks.{first_no}
 use Rattle.panel.specs.Paths.{end_of, paths_answer}
-use Rattle.panel.specs.declared.kinds.Answer.{Answer}
-use Rattle.panel.specs.declared.kinds.Answer.TheVariants as Answer
+use Rattle.panel.specs.Answer.{Answer}
 use Rattle.panel.proofs.LimitLaws.{step_back, slice_back}
 use Rattle.panel.proofs.CheckLaws.{unless_done}
 use Rattle.panel.proofs.PathLaws.{checked}
 use Rattle.acts.specs.Acts.{St, st_of, packed}
 use Rattle.acts.specs.Line.{Refusal}
 use Rattle.path_count.specs.Count.{Told, told_of, paper_of, batch, batch_told, lent_checks, call_answer, call_told, counted}
-use Rattle.path_count.specs.declared.kinds.Counted.TheVariants.{Done}
+use Rattle.path_count.specs.Counted.{Done}
 use Rattle.path_count.proofs.Batches.{Ranged, ranged}
 use Rattle.looks.specs.Look.{line_at, packed_at, step_no, slice_no}
 use Rattle.theorems.specs.Events.{Event, EventOwn, events_of, tiles_ev, words_ev, counts_of, slice_of}

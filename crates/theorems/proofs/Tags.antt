@@ -2,7 +2,6 @@
 -- names. So every slot of a tile in a path's range carries that path's beam number, after the calls one by one and after a frame; and two frames over the
 -- same paths give a path's slots the same number, whatever the other paths' lines. Assumes nothing.
 use mathlib.Core.Path.{◌≡◌, refl, sym, ap, subst, ◌∙◌}
-use mathlib.Core.Logic.{◌≢◌}
 use mathlib.Core.List.{List, [], ◌∷◌}
 use Prim.Native.Nat.{ℕ, ◌+◌, ◌≤◌, ◌<◌}
 use native.Mathlib.Decide.{ℕ_discrete}
@@ -12,21 +11,20 @@ use lib.IntN.{ℤ}
 use lib.Ieee.{Float}
 use Rattle.lists.specs.Run.{All}
 use Rattle.lists.specs.Sums.{sum, first, first_within, placed_once}
-use Rattle.lists.specs.Occ.{is, occ, is_other}
-use Rattle.panel.specs.Paths.{path_at, path_count, end_of, beam_at, paths_answer}
+use Rattle.lists.specs.Occ.{occ, is_other}
+use Rattle.panel.specs.Paths.{path_at, end_of, beam_at, paths_answer}
 use Rattle.panel.specs.Pieces.{Pieces}
 use Rattle.panel.specs.declared.kinds.Running.{Running}
-use Rattle.panel.specs.declared.kinds.Answer.TheVariants.{Done}
+use Rattle.panel.specs.Answer.{Done}
 use Rattle.panel.proofs.PathLaws.{checked, one_path}
 use Rattle.hand_out.specs.HandOut.{hand_out_of, out_of}
-use Rattle.looks.specs.Look.{lent, line_at}
+use Rattle.looks.specs.Look.{lent}
 use Rattle.path_tiling.specs.Tiling.{Write, Range, applied, call_of}
 use Rattle.frame.specs.Frame as Frame
-use Rattle.frame.specs.declared.kinds.Framed.TheVariants as Framed
+use Rattle.frame.specs.Framed as Framed
 use Rattle.theorems.specs.Drawn.{InPath}
 use Rattle.theorems.specs.Refs.{ref_tile, AllCounted}
 use Rattle.theorems.specs.Stray.{tag_at, written_to, OwnWrite, NoStray, SlotTag, Carries}
-use Rattle.theorems.specs.Framing.{Framing}
 use Rattle.theorems.proofs.SumLaws.{sums, passed}
 use Rattle.theorems.proofs.StrayLaws.{no_stray}
 use Rattle.theorems.proofs.Framing.{frame_done}

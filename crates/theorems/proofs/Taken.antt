@@ -1,18 +1,16 @@
 -- What tiling leaves, a fill takes: where no reference that counting made was refused, each slot below their number holds a segment with both ends in
 -- its tile and a finite y_edge. So it is never refused with 20. Assumes nothing.
 use mathlib.Core.Path.{◌≡◌, sym, subst}
-use mathlib.Core.Logic.{◌≢◌}
 use mathlib.Core.List.{List, [], ◌∷◌}
-use Prim.Native.Nat.{ℕ, ◌+◌, ◌<◌}
+use Prim.Native.Nat.{ℕ, ◌<◌}
 use native.Mathlib.Decide.{ℕ_discrete}
 use native.Mathlib.Omega.{arith}
 use lib.Ieee.{Float}
 use Rattle.panel.specs.Pieces.{Pieces}
 use Rattle.lists.specs.Run.{All}
-use Rattle.lists.specs.Occ.{is, occ, is_other}
+use Rattle.lists.specs.Occ.{occ, is_other}
 use Rattle.panel.specs.Segments.{segment_at, Straight}
-use Rattle.panel.specs.declared.kinds.Answer.TheVariants.{Done}
-use Rattle.panel.specs.declared.segments.Segment.{Segment}
+use Rattle.panel.specs.Answer.{Done}
 use Rattle.path_tiling.specs.Tiling.{Write, Range, applied}
 use Rattle.theorems.specs.Stray.{written_to, OwnWrite, NoStray}
 

@@ -11,13 +11,13 @@ use Rattle.panel.specs.Widths.{line_floats, ref_words}
 use Rattle.panel.specs.Pieces.{Pieces}
 use Rattle.panel.specs.Kinds.{running_of}
 use Rattle.panel.specs.Paths.{boxed, path_at, path_count, tile_of}
-use Rattle.panel.specs.declared.kinds.Answer.TheVariants as Answer
+use Rattle.panel.specs.Answer as Answer
 use Rattle.panel.proofs.PathLaws.{InBox}
 use Rattle.backdrop.specs.Backdrop.{Out, backdrop_at, backdrop_of}
 use Rattle.hand_out.specs.HandOut as HandOut
 use Rattle.acts.specs.Acts.{st_of}
 use Rattle.path_count.specs.Count.{told_of, paper_of}
-use Rattle.path_count.specs.declared.kinds.Counted.TheVariants.{Done}
+use Rattle.path_count.specs.Counted.{Done}
 use Rattle.looks.specs.Look.{lent}
 use Rattle.path_tiling.specs.Tiling.{call_of, range_tiled}
 use Rattle.theorems.specs.Drawn.{drawn, of_path}

@@ -5,11 +5,11 @@ use Rattle.panel.specs.Pieces.{Pieces}
 use Rattle.panel.specs.declared.kinds.Running.{Running}
 use Rattle.acts.specs.Acts.{st_of}
 use Rattle.path_count.specs.Count.{Told, told_of, paper_of, counted}
-use Rattle.path_count.specs.declared.kinds.Counted.TheVariants.{Done}
+use Rattle.path_count.specs.Counted.{Done}
 use Rattle.looks.specs.Look.{Lent}
 use Rattle.path_tiling.specs.Tiling.{Tiled, tiled_of}
 use Rattle.fine.specs.Fine.{Shown, shown, fine_of}
-use Rattle.panel.specs.declared.kinds.Answer.TheVariants as Answer
+use Rattle.panel.specs.Answer as Answer
 
 -- the ends of batches, from a on: none lies before the one before it; a batch may be empty
 abbrev pub Rising : ℕ → List ℕ → Type 0

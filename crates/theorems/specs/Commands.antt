@@ -9,7 +9,7 @@ use Rattle.commands.specs.Moves.{op_of, count_of, move_of}
 use Rattle.commands.specs.declared.steps.Op.{Op}
 use Rattle.commands.specs.declared.steps.Op.TheVariants.{Fill, Solid, Color, Jump, Unknown}
 use Rattle.commands.specs.declared.steps.Act.{Act}
-use Rattle.commands.specs.declared.steps.Move.TheVariants.{Goes}
+use Rattle.commands.specs.Move.{Goes}
 
 -- one of the m segments from the first on is crooked: an end outside its tile, or a y_edge not finite
 abbrev pub Crooked : List Float → (first m : ℕ) → Type 0

@@ -6,8 +6,7 @@ use Rattle.panel.specs.Refusals.{coordinate, no_such}
 use Rattle.panel.specs.Paths.{path_at, path_count, end_of}
 use Rattle.walk.specs.Lent.{line_at, reached_of, walked_of}
 use Rattle.panel.specs.declared.lines.LineEnds.{LineEnds}
-use Rattle.walk.specs.declared.kinds.Walked.{Walked}
-use Rattle.walk.specs.declared.kinds.Walked.TheVariants.{Refused, Skipped, Line}
+use Rattle.walk.specs.Walked.{Walked, Refused, Skipped, Line}
 use Rattle.acts.specs.Acts.{Act, mark, visit, stop, delta_of}
 use Rattle.acts.specs.Line.{plan_acts}
 use Rattle.walked_lines.specs.Line.{plan_of}

@@ -9,8 +9,8 @@ use Rattle.panel.specs.declared.kinds.TileNo.{TileNo}
 use Rattle.walk.specs.Lent.{walk_at}
 use Rattle.walk.specs.Step.{step_of}
 use Rattle.walk.specs.declared.kinds.Walk.{Walk}
-use Rattle.walk.specs.declared.step.Step.TheVariants.{Tile}
-use Rattle.walk.specs.declared.kinds.Walked.TheVariants.{Line}
+use Rattle.walk.specs.Stepped.{Tile}
+use Rattle.walk.specs.Walked.{Line}
 use Rattle.acts.specs.Acts.{Act, mark, visit, stop, packed}
 use Rattle.theorems.specs.Drawn.{drawn_at, walk_of, acts_by}
 

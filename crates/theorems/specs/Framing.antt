@@ -6,8 +6,7 @@ use Rattle.panel.specs.Widths.{ref_words}
 use Rattle.panel.specs.Kinds.{running_of}
 use Rattle.panel.specs.Pieces.{Pieces}
 use Rattle.panel.specs.declared.kinds.Running.{Running}
-use Rattle.panel.specs.declared.kinds.Answer.{Answer}
-use Rattle.panel.specs.declared.kinds.Answer.TheVariants as Answer
+use Rattle.panel.specs.Answer.{Answer}
 use Rattle.acts.specs.Acts.{St, st_of}
 use Rattle.acts.specs.Line.{Refusal}
 use Rattle.backdrop.specs.Backdrop as Backdrop
@@ -16,8 +15,7 @@ use Rattle.looks.specs.Look.{lent}
 use Rattle.path_tiling.specs.Tiling.{Write, range, applied, call_of, slots_of, tiled, tiled_of}
 use Rattle.frame.specs.Frame.{Out, out_of, checks_of}
 use Rattle.frame.specs.declared.kinds.Stage.TheVariants as Stage
-use Rattle.frame.specs.declared.kinds.Framed.{Framed}
-use Rattle.frame.specs.declared.kinds.Framed.TheVariants.{Done, Refused}
+use Rattle.frame.specs.Framed.{Framed, Done, Refused}
 use Rattle.theorems.specs.Refs.{AllCounted, Sums}
 use Rattle.theorems.specs.Stray.{NoStray}
 use Rattle.theorems.specs.Refusing.{BatchWhy}

@@ -6,13 +6,12 @@ use Rattle.lists.specs.Tally.{zeros, of_tile}
 use Rattle.panel.specs.Kinds.{running_of}
 use Rattle.walk.specs.Step.{step_of}
 use Rattle.walk.specs.Lent.{walk_at}
-use Rattle.walk.specs.declared.step.Step.{Step}
-use Rattle.walk.specs.declared.step.Step.TheVariants as On
-use Rattle.walk.specs.declared.kinds.Walked.{Walked}
-use Rattle.walk.specs.declared.kinds.Walked.TheVariants.{Refused, Skipped, Line}
+use Rattle.walk.specs.Stepped.{Step}
+use Rattle.walk.specs.Stepped as On
+use Rattle.walk.specs.Walked.{Walked, Refused, Skipped, Line}
 use Rattle.acts.specs.Acts.{st_of}
 use Rattle.path_count.specs.Count.{Told, told_of, paper_of, counted}
-use Rattle.path_count.specs.declared.kinds.Counted.TheVariants.{Done}
+use Rattle.path_count.specs.Counted.{Done}
 use Rattle.looks.specs.Look.{line_at, packed_at, step_no, slice_no}
 
 -- the tile that a step falls on; a step that is refused has none, which no reference of counting's has

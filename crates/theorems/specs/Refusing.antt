@@ -12,11 +12,10 @@ use Rattle.panel.specs.Refusals.{done_no, not_whole, too_many, bad_box, bad_rang
 use Rattle.panel.specs.Widths.{path_words}
 use Rattle.panel.specs.Checks.{Check}
 use Rattle.panel.specs.Slots.{handed_from, slot_of}
-use Rattle.panel.specs.Paths.{path_at, path_count, end_of}
+use Rattle.panel.specs.Paths.{path_at, path_count, end_of, paths_answer}
 use Rattle.panel.specs.declared.kinds.Path.{Path}
-use Rattle.panel.specs.declared.kinds.Answer.TheVariants.{Done}
-use Rattle.panel.specs.declared.kinds.Verdict.TheVariants.{Against}
-use Rattle.panel.specs.Paths.{paths_answer}
+use Rattle.panel.specs.Answer.{Done}
+use Rattle.panel.specs.Verdict.{Against}
 use Rattle.backdrop.specs.Backdrop as Backdrop
 use Rattle.hand_out.specs.HandOut.{Out}
 use Rattle.walk.specs.Num.{float}
@@ -24,19 +23,18 @@ use Rattle.walk.specs.Lent.{line_at, walk_at}
 use Rattle.panel.specs.declared.lines.LineEnds.{LineEnds}
 use Rattle.walk.specs.declared.kinds.Pace.{Pace}
 use Rattle.walk.specs.declared.kinds.Walk.{Walk}
-use Rattle.walk.specs.declared.kinds.Walked.TheVariants.{Line, Skipped}
+use Rattle.walk.specs.Walked.{Line, Skipped}
 use Rattle.walk.specs.Step.{z_at, step_of}
-use Rattle.walk.specs.declared.step.Step.TheVariants as On
+use Rattle.walk.specs.Stepped as On
 use Rattle.panel.specs.declared.kinds.TileNo.{TileNo}
 use Rattle.panel.specs.Segments.{InTile}
 use Rattle.segment.specs.Clips.{segment_of}
 use Rattle.panel.specs.declared.segments.Segment.{Segment}
 use Rattle.looks.specs.Look as Look
-use Rattle.looks.specs.declared.Look.TheVariants as Looked
-use Rattle.looks.specs.Look.{look_of}
+use Rattle.looks.specs.Looked as Looked
+use Rattle.looks.specs.Look.{look_of, Lent, packed_at, step_no, slice_no}
 use Rattle.screen_tile.specs.Tile.{ends_at}
 use Rattle.fine.specs.Fine.{tiles_of}
-use Rattle.looks.specs.Look.{Lent, packed_at, step_no, slice_no}
 use Rattle.panel.specs.Signed.{in_i32}
 use Rattle.acts.specs.Acts.{St, Act, mark, visit, stop, steps_acts, run_acts, delta_of}
 use Rattle.acts.specs.Rows.{rows_acts}

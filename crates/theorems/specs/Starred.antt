@@ -10,7 +10,7 @@ use Rattle.panel.specs.Pieces.{pieces}
 use Rattle.panel.specs.Widths.{segment_floats}
 use Rattle.panel.specs.Refusals.{done_no, count_over}
 use Rattle.panel.specs.Kinds.{running_of}
-use Rattle.panel.specs.declared.kinds.Answer.TheVariants.{Done}
+use Rattle.panel.specs.Answer.{Done}
 use Rattle.walk.specs.Num.{float}
 use Rattle.path_count.specs.Count.{Told, counted}
 use Rattle.hand_out.specs.HandOut as HandOut

@@ -13,7 +13,7 @@ use Rattle.walk.specs.Num.{float}
 use Rattle.walk.specs.Step.{Boxed, z_at, step_of}
 use Rattle.walk.specs.declared.kinds.Pace.{Pace}
 use Rattle.walk.specs.declared.kinds.Walk.{Walk}
-use Rattle.walk.specs.declared.step.Step.TheVariants.{Tile, Refused}
+use Rattle.walk.specs.Stepped.{Tile, Refused}
 
 -- what the walk's numbers are below: far under 2 ^ 24, up to which an `f32` holds every whole number
 abbrev pub few : ℕ

@@ -6,7 +6,7 @@ use Rattle.lists.specs.Occ.{occ}
 use Rattle.lists.specs.Tally.{Distinct}
 use Rattle.panel.specs.Paths.{path_at, path_count, end_of, beam_at}
 use Rattle.panel.specs.Pieces.{Pieces}
-use Rattle.panel.specs.declared.kinds.Answer.TheVariants.{Done, Refused}
+use Rattle.panel.specs.Answer.{Done, Refused}
 use Rattle.looks.specs.Look.{line_at}
 use Rattle.panel.specs.Segments.{segment_at, Straight}
 use Rattle.path_tiling.specs.Tiling.{Write, Range, applied}

@@ -1,16 +1,16 @@
 -- A backdrop beside a word of ours.
 -- Assumes nothing.
-use mathlib.Core.Path.{◌≡◌, refl, sym, ap, ◌∙◌, subst}
-use mathlib.Core.Bool.{Bool, true, false, not, cond}
+use mathlib.Core.Path.{◌≡◌, sym, ap, ◌∙◌}
+use mathlib.Core.Bool.{Bool, true, false, not}
 use mathlib.Core.List.{List}
 use Prim.Native.Nat.{ℕ, suc, ◌+◌, ◌-◌, ◌≤◌, ◌<◌, ◌^◌, zero-le}
 use native.Mathlib.Omega.{arith}
-use lib.Dec.{T, ltb, eqb}
+use lib.Dec.{eqb}
 use lib.ListN.{length, get_or}
 use lib.IntN.{ℤ, pos, negsuc, nat_abs, ◌-ℤ◌}
-use lib.Signed.{mag, lt_z, non_neg}
+use lib.Signed.{mag, lt_z}
 use mir.Syntax.{w32}
-use mir.Val.{SFits, Fits, to_z, of_z}
+use mir.Val.{SFits, to_z, of_z}
 use mir.Facts.{to_z-of_z}
 use borrow.Author.Tests.{lt-ltb, le-ltb}
 use Rattle.own_count.specs.View.{zero_back, back_of, view_of}
@@ -49,10 +49,6 @@ pub neg-fits : (b : ℤ) → SFits w32 b → lt_z b (pos 0) ≡ true → SFits w
 neg-fits (pos n) f h = absurd (below_zero n h)
 neg-fits (negsuc n) f h = rw (minus_one n) (record { sfits = f.sfits })
 
-pub neg_cast : (b : ℤ) → SFits w32 b → lt_z b (pos 0) ≡ true → T (non_neg (negsuc 0 -ℤ b)) × Fits w32 (nat_abs (negsuc 0 -ℤ b))
-neg_cast (pos n) f h = absurd (below_zero n h)
-neg_cast (negsuc n) f h = rw (minus_one n) (tt, omega (arith, f.sfits))
-
 pub neg_high : (b : ℤ) (w : ℕ) → lt_z b (pos 0) ≡ true → zero_back ≤ w → false ≡ same_back b (back_of w)
 neg_high (pos n) w h l = absurd (below_zero n h)
 neg_high (negsuc n) w h l = rw (back_high w l)
@@ -62,10 +58,6 @@ neg_same (pos n) w h l = absurd (below_zero n h)
 neg_same (negsuc n) w h l =
     let q : 2147483647 - w ≡ zero_back - suc w = omega arith in
     rw (minus_one n, back_low w l) (ap (eqb n) q)
-
-pub pos_cast : (b : ℤ) → SFits w32 b → lt_z b (pos 0) ≡ false → T (non_neg b) × Fits w32 (nat_abs b)
-pos_cast (pos n) f h = (tt, omega (arith, f.sfits))
-pos_cast (negsuc n) f h = let z : ◌≡◌ {A = ℕ} 0 1 = cc in absurd (omega arith)
 
 pub pos_low : (b : ℤ) (w : ℕ) → lt_z b (pos 0) ≡ false → w < zero_back → false ≡ same_back b (back_of w)
 pos_low (pos n) w h l = rw (back_low w l)

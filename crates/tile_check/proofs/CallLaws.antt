@@ -1,49 +1,44 @@
 -- What is checked before anything is looked at, the tables in order, and the cleared room.
 -- Assumes nothing.
-use mathlib.Core.Path.{◌≡◌, refl, sym, ap, ap₂, ◌∙◌, subst}
-use mathlib.Core.Bool.{Bool, true, false, not, cond, false≢true}
+use mathlib.Core.Path.{◌≡◌, refl, sym, ap, ◌∙◌}
+use mathlib.Core.Bool.{Bool, true, false, not, cond}
 use mathlib.Core.Logic.{◌⊎◌, inl, inr}
-use mathlib.Core.List.{List, [], ◌∷◌, ◌++◌}
-use Prim.Native.Nat.{ℕ, zero, suc, ◌+◌, ◌-◌, ◌*◌, ◌/◌, ◌%◌, ◌≤◌, ◌<◌, ◌^◌, min}
-use native.Mathlib.Nat.{zero-add}
+use mathlib.Core.List.{List, ◌++◌}
+use Prim.Native.Nat.{ℕ, ◌+◌, ◌-◌, ◌*◌, ◌/◌, ◌≤◌, ◌<◌, min}
 use native.Mathlib.Omega.{arith}
-use lib.Dec.{leb, ltb, eqb}
+use lib.Dec.{leb, eqb}
 use lib.ListN.{length, get_or, take, drop, replicate, length-append, length-drop, length-replicate, get_or-replicate, get_or-append}
-use lib.Seq.{ext_get_or, get_or-take, get_or-drop, get_or-append-add}
-use lib.IntN.{ℤ, pos}
+use lib.Seq.{ext_get_or, get_or-take, get_or-append-add}
+use lib.IntN.{ℤ}
 use lib.Ieee.{Float}
 use borrow.Author.Tests.{leb-true, eqb-true, lt-ltb, le-ltb}
 use Rattle.float32.proofs.Tests.{below_or_not}
-use Rattle.lists.specs.Run.{Ran, done, refused}
+use Rattle.lists.specs.Run.{Ran, done}
 use Rattle.ranges.specs.Ranges.{cleared_of}
 use Rattle.ranges.proofs.RangeLaws.{length_cleared, cleared_in, cleared_out}
-use Rattle.panel.specs.Limits.{most_slots, most_tiles}
+use Rattle.panel.specs.Limits.{most_slots}
 use Rattle.panel.specs.Refusals.{no_room_word}
 use Rattle.panel.specs.Widths.{line_floats, ref_words}
 use Rattle.panel.specs.Checks.{first_no, unless}
 use Rattle.panel.specs.Paths.{paths_answer}
-use Rattle.panel.specs.declared.kinds.Answer.{Answer}
-use Rattle.panel.specs.declared.kinds.Answer.TheVariants as Answer
-use Rattle.panel.specs.declared.kinds.Verdict.{Verdict}
-use Rattle.panel.specs.declared.kinds.Verdict.TheVariants.{Fine, Against}
+use Rattle.panel.specs.Answer.{Answer}
+use Rattle.panel.specs.Verdict.{Verdict, Fine, Against}
 use Rattle.panel.proofs.CheckLaws.{all_ok, unless_no, unless_fine}
 use Rattle.acts.specs.Acts.{St}
 use Rattle.acts.specs.Line.{Refusal}
 use Rattle.meeting.specs.First.{first_of}
-use Rattle.meeting.proofs.FirstLaws.{first_most, first_hit, first_missed, first_is, first_same}
+use Rattle.meeting.proofs.FirstLaws.{first_hit, first_missed, first_is, first_same}
 use Rattle.entries.specs.Entries.{count_fault, first_count_fault, first_slot_fault}
 use Rattle.made.specs.Made.{made_of}
-use Rattle.made.specs.declared.Made.{Made}
+use Rattle.made.specs.MadeAt.{Made}
 use Rattle.own_count.specs.Own.{own_ran}
-use Rattle.own_count.specs.View.{view_of, OwnMet, StartsNoted}
-use Rattle.own_count.specs.declared.Own.{Own}
-use Rattle.own_count.specs.declared.Own.TheVariants as Own
+use Rattle.own_count.specs.View.{view_of, OwnMet}
+use Rattle.own_count.specs.Counted.{Own}
 use Rattle.own_count.proofs.LineLaws.{view_made}
 use Rattle.tile_check.specs.Faults.{ref_count, ref_fault, first_ref_fault, first_back_fault}
-use Rattle.tile_check.specs.Tables.{no_if, tables_of, ran_of, lent_checks, work_words, and_answer, asked_of, Out, out_of, cleared, asked_out, looked_of, checked_of}
+use Rattle.tile_check.specs.Tables.{no_if, tables_of, ran_of, lent_checks, work_words, and_answer, asked_of, out_of, cleared, looked_of, checked_of}
 use Rattle.tile_check.specs.Keys.{looked_at, rest_of}
-use Rattle.tile_check.specs.declared.kinds.Checked.{Checked}
-use Rattle.tile_check.specs.declared.kinds.Checked.TheVariants.{Yes, Reference, Count, Backdrop, Slots, Refused}
+use Rattle.tile_check.specs.Checked.{Checked, Yes, Reference, Count, Backdrop, Slots, Refused}
 use Rattle.tile_check.proofs.RefLaws.{few_clean}
 use Rattle.tile_check.proofs.RoomLaws.{view_counts}
 

@@ -1,14 +1,14 @@
 -- References by their keys: one key, one line and step; one key, one tile and slice. So the first reference at fault is found by looking for one reason
 -- after another. More references than ours hold a fault.
 -- Assumes nothing.
-use mathlib.Core.Path.{◌≡◌, refl, sym, ap, ap₂, ◌∙◌, subst}
-use mathlib.Core.Bool.{Bool, true, false, cond, ◌&&◌, ◌||◌}
-use mathlib.Core.Logic.{◌≢◌, ◌⊎◌, inl, inr}
+use mathlib.Core.Path.{◌≡◌, refl, sym, ap, ap₂, ◌∙◌}
+use mathlib.Core.Bool.{Bool, true, false, ◌&&◌, ◌||◌}
+use mathlib.Core.Logic.{◌≢◌}
 use mathlib.Core.List.{List, [], ◌∷◌}
 use Prim.Native.Nat.{ℕ, zero, suc, ◌+◌, ◌-◌, ◌≤◌, ◌<◌}
 use native.Mathlib.Omega.{arith}
 use native.Mathlib.Decide.{ℕ_discrete, dec_lt}
-use lib.Dec.{ltb, leb, eqb}
+use lib.Dec.{ltb, eqb}
 use lib.ListN.{length, get_or}
 use lib.Ieee.{Float}
 use borrow.Author.Tests.{leb-false, eq-eqb, ne_eqb}
@@ -19,13 +19,13 @@ use Rattle.acts.specs.Acts.{St}
 use Rattle.panel.specs.Refs.{line_at}
 use Rattle.meeting.specs.First.{first_of, some_below_word}
 use Rattle.meeting.specs.Meeting.{meets_earlier, first_meeting}
-use Rattle.meeting.proofs.FirstLaws.{first_most, first_hit, first_missed, first_is, first_or, first_same, none_below}
+use Rattle.meeting.proofs.FirstLaws.{first_most, first_missed, first_or, first_same, none_below}
 use Rattle.entries.proofs.KeyLaws.{key_once, first_repeat}
 use Rattle.entries.proofs.AllThere.{no_more}
 use Rattle.made.specs.Made.{made_of}
-use Rattle.made.specs.declared.Made.{Made}
-use Rattle.made.specs.declared.Made.TheVariants.{At, Not}
-use Rattle.own_count.specs.Own.{own_to, own_ran}
+use Rattle.made.specs.MadeAt.{Made}
+use Rattle.made.specs.MadeAt.{At, Not}
+use Rattle.own_count.specs.Own.{own_ran}
 use Rattle.own_count.specs.View.{start_of}
 use Rattle.tile_check.specs.Faults.{step_at, slice_at, made_ref, stray, stray_ref, same_step, same_tile, same_slice, step_twice, slice_twice, ref_fault}
 use Rattle.tile_check.specs.Keys.{before_in, tile_in, step_key, slice_key}
@@ -78,7 +78,7 @@ slice_same made ours refs i j p q = go (made_ref made refs i) (made_ref made ref
         (λ e f. ap₂ (λ (x y : ℕ). first ours x + y) e f)
       where
         told : (n t m u : ℕ) → At n t ≡ At m u → t ≡ u
-        told n t m u e = cc
+        told n t m u e = ap tile_in e
     go (At n t) Not a b = absurd (no_made b.before b.tile b.is_made)
     go Not s a b = absurd (no_made a.before a.tile a.is_made)
 

@@ -1,26 +1,24 @@
 -- The working room: what it holds of our own count stays where only words behind it change; the keys noted behind it.
 -- Assumes nothing.
-use mathlib.Core.Path.{◌≡◌, refl, sym, ap, ap₂, ◌∙◌, subst}
+use mathlib.Core.Path.{◌≡◌, refl, sym, ap, ap₂, ◌∙◌}
 use mathlib.Core.Bool.{Bool, true, false}
 use mathlib.Core.Logic.{◌⊎◌, inl, inr}
-use mathlib.Core.List.{List, [], ◌∷◌, map}
-use Prim.Native.Nat.{ℕ, zero, suc, ◌+◌, ◌-◌, ◌≤◌, ◌<◌, ◌^◌, min}
+use mathlib.Core.List.{List, [], map}
+use Prim.Native.Nat.{ℕ, ◌+◌, ◌-◌, ◌≤◌, ◌<◌, min}
 use native.Mathlib.Nat.{not-suc-le-zero}
 use native.Mathlib.Omega.{arith}
 use lib.ListN.{length, get_or, set, take, drop, length-take, length-drop, length-set}
 use lib.Seq.{ext_get_or, get_or-take, get_or-drop, take-take, get_or-set_same, get_or-set_other}
-use lib.IntN.{ℤ}
 use lib.Ieee.{Float}
 use Rattle.float32.proofs.Tests.{below_or_not}
 use Rattle.lists.specs.Run.{done}
-use Rattle.lists.specs.Sums.{sum, first, first_within}
-use Rattle.acts.specs.Acts.{St, st_of}
-use Rattle.meeting.specs.First.{first_of}
+use Rattle.lists.specs.Sums.{sum, first}
+use Rattle.acts.specs.Acts.{st_of}
 use Rattle.meeting.specs.Found.{KeptBelow}
 use Rattle.meeting.proofs.Stores.{kept_store}
 use Rattle.meeting.proofs.FirstLaws.{first_most, first_is}
 use Rattle.entries.specs.Noted.{SumsNoted}
-use Rattle.made.specs.declared.Made.{Made}
+use Rattle.made.specs.MadeAt.{Made}
 use Rattle.own_count.specs.Own.{own_ran}
 use Rattle.own_count.specs.View.{back_of, view_of, StartsNoted}
 use Rattle.own_count.proofs.LineLaws.{view_made}

@@ -3,9 +3,8 @@
 use mathlib.Core.Path.{◌≡◌, refl, sym, ap, ◌∙◌, subst}
 use mathlib.Core.Bool.{Bool, true, false, cond, ◌&&◌}
 use mathlib.Core.Logic.{◌⊎◌, inl, inr}
-use mathlib.Core.List.{List, [], ◌∷◌, ◌++◌}
+use mathlib.Core.List.{List, [], ◌++◌}
 use Prim.Native.Nat.{ℕ, zero, suc, ◌+◌, ◌-◌, ◌≤◌, ◌<◌}
-use native.Mathlib.Nat.{le_refl}
 use native.Mathlib.Omega.{arith}
 use lib.Dec.{ltb, leb}
 use lib.ListN.{length, get_or, set}
@@ -14,29 +13,29 @@ use lib.IntN.{ℤ, pos, ◌+ℤ◌}
 use lib.Ieee.{Float}
 use borrow.Author.Tests.{ltb-true, leb-true}
 use Rattle.float32.proofs.Tests.{below_or_not}
-use Rattle.lists.specs.Run.{Step, taken, halted, Ran, done, refused, and_then, left, run, run_keeps}
+use Rattle.lists.specs.Run.{Step, taken, halted, Ran, done, refused, and_then, left, run_keeps}
 use Rattle.lists.specs.Sums.{sum, sum_set, sum_replicate_zero, from}
 use Rattle.panel.specs.Limits.{most_count, most_slots, most_lines}
 use Rattle.panel.specs.Refusals.{count_over, sum_over, line_number, outside}
 use Rattle.panel.specs.Signed.{in_i32}
 use Rattle.panel.proofs.BoolLaws.{both}
 use Rattle.walk.specs.Lent.{walk_at}
-use Rattle.walk.specs.declared.kinds.Walked.{Walked}
-use Rattle.walk.specs.declared.kinds.Walked.TheVariants.{Refused, Skipped, Line}
-use Rattle.acts.specs.Acts.{St, st_of, Act, mark, visit, stop, Hit, on, off, row_acts, step_acts, steps_acts, marked, visited, take_if, act, run_acts, delta_of}
+use Rattle.walk.specs.Walked.{Walked}
+use Rattle.walk.specs.Walked.{Refused, Skipped, Line}
+use Rattle.acts.specs.Acts.{St, Act, mark, visit, stop, Hit, on, off, row_acts, step_acts, steps_acts, marked, visited, take_if, act, run_acts, delta_of}
 use Rattle.acts.specs.Rows.{rows_acts}
-use Rattle.acts.specs.Line.{Plan, plan_acts, plan_step, refs_of, halt_if, Refusal, at_line, batch_of}
+use Rattle.acts.specs.Line.{Plan, plan_acts, refs_of, halt_if, Refusal, at_line, batch_of}
 use Rattle.acts.proofs.Laws.{runs_append}
 use Rattle.acts.proofs.Whole.{run_made, no_stop, plan_taken, plan_made_lem}
 use Rattle.walked_lines.specs.Line.{plan_of, walked_step, line_step}
 use Rattle.path_count.specs.Count.{batch}
 use Rattle.path_count.proofs.Batches.{batches}
 use Rattle.made.specs.Made.{hit_made, plan_made, walk_made, made_of}
-use Rattle.made.specs.declared.Made.{Made}
-use Rattle.made.specs.declared.Made.TheVariants.{At, Not}
-use Rattle.own_count.specs.Own.{zeroed, own_to, own_ran}
+use Rattle.made.specs.MadeAt.{At, Not}
+use Rattle.own_count.specs.Own.{zeroed, own_to}
 use Rattle.own_count.specs.View.{start_of}
-use Rattle.own_count.proofs.LineLaws.{own_none, own_next, own_stops}
+use Rattle.own_count.proofs.LineLaws.{own_next, own_stops}
+use Rattle.tile_check.specs.Keys.{before_in}
 
 -- ---- how many references a line makes: its clipped walk's steps
 
@@ -214,7 +213,7 @@ pub record MadeTold (nos : List ℕ) (coords : List Float) (paths : List ℕ) (l
   pub step_is : k ≡ n + first_in (walk_at nos coords paths l)
 
 hit_told : (m : ℕ) (h : Hit) (n t : ℕ) → hit_made m h ≡ At n t → m ≡ n
-hit_told m (on u x) n t e = cc
+hit_told m (on u x) n t e = ap before_in e
 hit_told m off n t e = let z : ◌≡◌ {A = ℕ} 0 1 = cc in absurd (omega arith)
 
 plan_told : (p : Plan) (k n t : ℕ) → plan_made p k ≡ At n t → (n < p.imax - p.imin) × (k ≡ n + p.imin)

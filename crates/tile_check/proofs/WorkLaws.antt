@@ -2,7 +2,7 @@
 use mathlib.Core.Path.{◌≡◌, ap}
 use mathlib.Core.Bool.{false}
 use mathlib.Core.List.{List}
-use Prim.Native.Nat.{ℕ, ◌+◌, ◌≤◌, ◌<◌}
+use Prim.Native.Nat.{ℕ, ◌≤◌, ◌<◌}
 use native.Mathlib.Omega.{arith}
 use lib.ListN.{length, take}
 use lib.Ieee.{Float}
@@ -11,7 +11,7 @@ use Rattle.lists.specs.Sums.{first, first_within}
 use Rattle.panel.specs.Limits.{most_slots}
 use Rattle.panel.specs.Refs.{line_at}
 use Rattle.made.specs.Made.{made_of}
-use Rattle.made.specs.declared.Made.{Made}
+use Rattle.made.specs.MadeAt.{Made}
 use Rattle.own_count.specs.Own.{own_ran}
 use Rattle.own_count.specs.View.{view_of, start_of}
 use Rattle.own_count.proofs.LineLaws.{view_made}

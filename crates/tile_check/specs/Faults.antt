@@ -4,8 +4,7 @@ use Rattle.std.specs.Prelude.{Bool, false, true, not, ◌&&◌, ◌||◌, List, 
 use Rattle.panel.specs.Widths.{ref_words}
 use Rattle.panel.specs.Refs.{line_at, packed_at, step_no, slice_no}
 use Rattle.meeting.specs.First.{first_of, some_below_word}
-use Rattle.made.specs.declared.Made.{Made}
-use Rattle.made.specs.declared.Made.TheVariants.{At, Not}
+use Rattle.made.specs.MadeAt.{Made, At, Not}
 
 -- how many references are lent
 abbrev pub ref_count : List ℕ → ℕ

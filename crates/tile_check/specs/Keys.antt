@@ -9,16 +9,13 @@ use Rattle.acts.specs.Acts.{St}
 use Rattle.entries.specs.Entries.{first_count_fault, first_slot_fault}
 use Rattle.meeting.specs.First.{first_of}
 use Rattle.meeting.specs.Found.{KeptBelow}
-use Rattle.made.specs.declared.Made.{Made}
-use Rattle.made.specs.declared.Made.TheVariants.{At, Not}
+use Rattle.made.specs.MadeAt.{Made, At, Not}
 use Rattle.own_count.specs.Own.{own_ran}
 use Rattle.own_count.specs.View.{view_of, StartsNoted}
 use Rattle.tile_check.specs.Faults.{slice_at, made_ref, stray_ref, first_back_fault}
 use Rattle.tile_check.specs.Tables.{no_if}
-use Rattle.tile_check.specs.declared.kinds.Checked.{Checked}
-use Rattle.tile_check.specs.declared.kinds.Checked.TheVariants.{Yes, Reference, Count, Backdrop, Slots}
-use Rattle.tile_check.specs.declared.keys.Key.{Key}
-use Rattle.tile_check.specs.declared.keys.Key.TheVariants.{Places, Stray}
+use Rattle.tile_check.specs.Checked.{Checked, Yes, Reference, Count, Backdrop, Slots}
+use Rattle.tile_check.specs.Key.{Key, Places, Stray}
 
 -- how many steps of its line stand before a reference's; its tile
 abbrev pub before_in : Made → ℕ

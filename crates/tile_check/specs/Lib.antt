@@ -5,3 +5,5 @@
 pub mod Faults
 pub mod Tables
 pub mod Keys
+pub mod Key
+pub mod Checked

@@ -1,23 +1,21 @@
 -- The call: what is checked before our own count, the count, and the first entry at fault of another's tables. No key, no window and no word of the
 -- working room decides anything here: that room is only asked for and cleared. docs/RULES.md, "A check of another's tables". Definitions only.
-use Rattle.std.specs.Prelude.{◌≡◌, Bool, cond, List, [], ◌∷◌, ◌++◌, ℕ, ◌+◌, ◌*◌, ◌/◌, ◌%◌, min, leb, ltb, eqb, length, drop, replicate, ℤ, Float}
+use Rattle.std.specs.Prelude.{◌≡◌, cond, List, [], ◌∷◌, ◌++◌, ℕ, ◌+◌, ◌*◌, ◌/◌, ◌%◌, min, leb, ltb, eqb, length, drop, replicate, ℤ, Float}
 use Rattle.lists.specs.Run.{Ran, done, refused}
 use Rattle.panel.specs.Limits.{most_slots}
 use Rattle.panel.specs.Refusals.{not_whole, no_room_word}
 use Rattle.panel.specs.Widths.{line_floats, ref_words}
 use Rattle.panel.specs.Checks.{Check, check, first_no, unless}
 use Rattle.panel.specs.Paths.{paths_answer}
-use Rattle.panel.specs.declared.kinds.Answer.{Answer}
-use Rattle.panel.specs.declared.kinds.Answer.TheVariants as Answer
+use Rattle.panel.specs.Answer.{Answer}
 use Rattle.acts.specs.Acts.{St}
 use Rattle.acts.specs.Line.{Refusal}
 use Rattle.entries.specs.Entries.{first_count_fault, first_slot_fault}
 use Rattle.made.specs.Made.{made_of}
-use Rattle.made.specs.declared.Made.{Made}
+use Rattle.made.specs.MadeAt.{Made}
 use Rattle.own_count.specs.Own.{own_ran}
 use Rattle.tile_check.specs.Faults.{ref_count, first_ref_fault, first_back_fault}
-use Rattle.tile_check.specs.declared.kinds.Checked.{Checked}
-use Rattle.tile_check.specs.declared.kinds.Checked.TheVariants.{Yes, Reference, Count, Backdrop, Slots, Refused}
+use Rattle.tile_check.specs.Checked.{Checked, Yes, Reference, Count, Backdrop, Slots, Refused}
 
 -- ---- the tables
 

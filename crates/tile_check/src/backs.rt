@@ -27,12 +27,10 @@ pub fn first_back(backs: &[i32], work: &[u32]) -> usize
     ensures { result ≡ first_back_fault backs.now (view_of (length backs.now) work.now 0).backs }
 {
     let n = backs.len();
-    let mut t: usize = 0;
-    while t < n {
+    for t in 0..n {
         if !same_back(backs[t], work[n + t]) {
             return t;
         }
-        t += 1;
     }
-    t
+    n
 }

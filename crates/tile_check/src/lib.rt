@@ -10,4 +10,4 @@ mod refs;
 mod tables;
 
 pub use call::check_tiles;
-pub use kinds::Checked;
+pub use kinds::Fault;

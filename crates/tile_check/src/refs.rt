@@ -3,7 +3,7 @@
 ghost use Rattle.std.specs.Prelude.{◌≡◌, ℕ, ◌+◌, ◌-◌, ◌*◌, ◌/◌, ◌≤◌, ◌<◌, ◌^◌, length, take};
 ghost use Rattle.panel.specs.Widths.{line_floats, ref_words};
 ghost use Rattle.panel.specs.Paths.{paths_answer};
-ghost use Rattle.panel.specs.declared.kinds.Answer.TheVariants.{Done};
+ghost use Rattle.panel.specs.Answer.{Done};
 ghost use Rattle.meeting.specs.First.{first_of};
 ghost use Rattle.made.specs.Made.{made_of};
 ghost use Rattle.own_count.specs.View.{start_of};
@@ -11,7 +11,7 @@ ghost use Rattle.tile_check.specs.Faults.{ref_fault};
 ghost use Rattle.tile_check.specs.Keys.{NotedTo, RoomHas, own_end};
 ghost use Rattle.meeting.specs.Found.{KeptBelow};
 
-use super::keys::{Key, key_at};
+use super::keys::key_at;
 use meeting::meeting;
 
 // The first reference at fault; how many references were looked at in the search for one that has an
@@ -44,17 +44,15 @@ fn note_refs(
 {
     let a = tiles + tiles + path_nos.len() + tiles;
     let b = a + n;
-    let mut j: usize = 0;
-    while j < n {
+    for j in 0..n {
         let key = key_at(path_nos, coords, paths, refs, j as u32, work, tiles, made);
-        let Key::Places(step, slice) = key else {
+        let Some((step, slice)) = key else {
             return j;
         };
         work[a + j] = step;
         work[b + j] = slice;
-        j += 1;
     }
-    j
+    n
 }
 
 // The first of n at fault; n where none is. The places noted are below the references made, and each

@@ -1,18 +1,19 @@
 // The tables beside our own count, in the order references, counts, backdrops, slots.
-ghost use Rattle.std.specs.Prelude.{◌≡◌, ℕ, ◌+◌, ◌*◌, ◌/◌, ◌≤◌, ◌<◌, min, length};
+ghost use Rattle.std.specs.Prelude.{Ok, ◌≡◌, ℕ, ◌+◌, ◌*◌, ◌/◌, ◌≤◌, ◌<◌, min, length};
 ghost use Rattle.lists.specs.Run.{done};
 ghost use Rattle.panel.specs.Limits.{most_tiles, most_slots};
 ghost use Rattle.panel.specs.Widths.{line_floats, ref_words};
 ghost use Rattle.panel.specs.Paths.{paths_answer};
-ghost use Rattle.panel.specs.declared.kinds.Answer.TheVariants.{Done};
+ghost use Rattle.panel.specs.Answer.{Done};
 ghost use Rattle.made.specs.Made.{made_of};
 ghost use Rattle.own_count.specs.Own.{own_ran};
 ghost use Rattle.own_count.specs.View.{view_of, StartsNoted};
+ghost use Rattle.tile_check.specs.Checked.{checked_told};
 ghost use Rattle.tile_check.specs.Tables.{tables_of, work_words};
 ghost use Rattle.tile_check.specs.Keys.{rest_of, looked_at};
 
 use super::backs::first_back;
-use super::kinds::Checked;
+use super::kinds::Fault;
 use super::refs::first_ref;
 use entries::{first_count, first_slots, sum_up};
 use panel::limits::MOST_SLOTS;
@@ -22,18 +23,14 @@ use panel::widths::REF_WORDS;
 fn slots_in(room: u32) -> u32
     ensures { result ≡ min room most_slots }
 {
-    if room < MOST_SLOTS { room } else { MOST_SLOTS }
+    room.min(MOST_SLOTS)
 }
 
 // So many references are looked at, of those lent: one more than ours hold a fault.
 fn refs_in(lent: usize, made: u32) -> usize
     ensures { result ≡ looked_at lent made }
 {
-    if lent <= made as usize {
-        lent
-    } else {
-        made as usize + 1
-    }
+    lent.min(made as usize + 1)
 }
 
 // Counts, backdrops and slots; then whether a reference is missing of those lent.
@@ -45,29 +42,29 @@ fn look_past(
     lent: usize,
     made: u32,
     work: &mut [u32],
-) -> Checked
+) -> Option<Fault>
     requires { (length backs.now ≡ length counts.now) × (length stored.now ≡ length counts.now) × (length counts.now ≤ most_tiles)
         × (length counts.now + length counts.now ≤ length work.old) }
-    ensures { result ≡ rest_of (view_of (length counts.now) work.old made) lent counts.now backs.now stored.now room }
+    ensures { checked_told (Ok result) ≡ rest_of (view_of (length counts.now) work.old made) lent counts.now backs.now stored.now room }
 {
     let tiles = counts.len();
     let c = first_count(counts, work);
     if c < tiles {
-        return Checked::Count(c as u32);
+        return Some(Fault::Count(c as u32));
     }
     let b = first_back(backs, work);
     if b < tiles {
-        return Checked::Backdrop(b as u32);
+        return Some(Fault::Backdrop(b as u32));
     }
     let met = first_slots(counts, stored, slots_in(room), work, 0, tiles);
     let s = met.first;
     if s < tiles {
-        return Checked::Slots(s as u32);
+        return Some(Fault::Slots(s as u32));
     }
     if lent < made as usize {
-        return Checked::Reference(lent as u32);
+        return Some(Fault::Reference(lent as u32));
     }
-    Checked::Yes
+    None
 }
 
 // All of them, with our own count and the lines' starts in the room.
@@ -82,13 +79,13 @@ pub fn look(
     room: u32,
     work: &mut [u32],
     made: u32,
-) -> Checked
+) -> Option<Fault>
     requires { (own_ran path_nos.now coords.now paths.now (length counts.now) ≡ done (view_of (length counts.now) work.old made))
         × StartsNoted path_nos.now coords.now paths.now (length counts.now) work.old (length counts.now + length counts.now) (length path_nos.now)
         × (paths_answer paths.now (length counts.now) ≡ Done) × (length path_nos.now * line_floats ≤ length coords.now)
         × (length backs.now ≡ length counts.now) × (length stored.now ≡ length counts.now)
         × (length work.old ≡ work_words (length counts.now) (length path_nos.now) (length refs.now / ref_words)) }
-    ensures { result ≡ tables_of (made_of path_nos.now coords.now paths.now) (view_of (length counts.now) work.old made)
+    ensures { checked_told (Ok result) ≡ tables_of (made_of path_nos.now coords.now paths.now) (view_of (length counts.now) work.old made)
         refs.now counts.now backs.now stored.now room }
 {
     let tiles = counts.len();
@@ -99,7 +96,7 @@ pub fn look(
     let found = first_ref(path_nos, coords, paths, refs, n, work, tiles, made);
     let f = found.first;
     if f < n {
-        return Checked::Reference(f as u32);
+        return Some(Fault::Reference(f as u32));
     }
     look_past(counts, backs, stored, room, lent, made, work)
 }

@@ -13,7 +13,7 @@ use Rattle.lay_pairs.specs.Layout.{Chunk, pair_size, fits, turned, after, pair_c
 use Rattle.lay_pairs.specs.Slots.{slots_fit, all_fit}
 use Rattle.lay_pairs.specs.Room.{Room}
 use Rattle.lay_pairs.specs.declared.Pen.{Pen}
-use Rattle.lay_pairs.proofs.LayLaws.{written_append, length_written, turned_left, room_here}
+use Rattle.lay_pairs.proofs.LayLaws.{turned_left, room_here}
 
 -- ---- the pen
 
@@ -81,19 +81,3 @@ pub record Lays (qs : List Pair) (pen : Pen) (words : List ℕ) (ps : List Pair)
   pub slots : all_fit most_slots qs ≡ true
   pub fresh : pen.fresh + tile_words * jumps_of pen.left qs ≡ pen₀.fresh + tile_words * jumps_of pen₀.left ps
   pub memory : written (laid pen qs) words ≡ written (laid pen₀ ps) words₀
-
-pub lays_start : (ps : List Pair) (pen : Pen) (words : List ℕ) → Room pen ps (length words) → all_fit most_slots ps ≡ true → Lays ps pen words ps pen words
-lays_start ps pen words r s = record { same = refl; room = r; slots = s; fresh = refl; memory = refl }
-
-module _ (ps : List Pair) (pen₀ : Pen) (words₀ : List ℕ) where
-  pub lays_turn : (hs qs : List Pair) (pen pen' : Pen) (words words' : List ℕ) → Lays (hs ++ qs) pen words ps pen₀ words₀
-      → pen' ≡ pen_after pen hs → words' ≡ written (begun pen hs) words → Lays qs pen' words' ps pen₀ words₀
-  lays_turn hs qs pen pen' words words' l e f =
-      rw (e, f)
-      (record {
-        same = length_written (begun pen hs) words ∙ l.same;
-        room = room_after hs qs pen (length words₀) l.room;
-        slots = (all_fit_append most_slots hs qs l.slots).1;
-        fresh = fresh_sum hs qs pen ∙ l.fresh;
-        memory = sym (written_append (begun pen hs) (laid (pen_after pen hs) qs) words) ∙ ap (λ (cs : List Chunk). written cs words) (sym (laid_append hs qs pen)) ∙ l.memory;
-      })

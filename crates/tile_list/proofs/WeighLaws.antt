@@ -1,6 +1,6 @@
 -- A tile's weight, pair by pair, comes to its pairs, its JUMPs and whether its slots fit. Assumes nothing.
-use mathlib.Core.Path.{◌≡◌, refl, sym, ap, ◌∙◌}
-use mathlib.Core.Bool.{Bool, true, ◌&&◌, and-true, and_assoc}
+use mathlib.Core.Path.{◌≡◌, sym, ap, ◌∙◌}
+use mathlib.Core.Bool.{Bool, ◌&&◌, and-true, and_assoc}
 use mathlib.Core.List.{List, [], ◌∷◌, ◌++◌}
 use Prim.Native.Nat.{ℕ, ◌+◌, ◌-◌, ◌≤◌}
 use native.Mathlib.Omega.{arith}
@@ -12,8 +12,8 @@ use Rattle.lay_pairs.specs.Layout.{pair_size, fits, jump_count, left_at, jumps_o
 use Rattle.lay_pairs.specs.Slots.{slots_fit, all_fit}
 use Rattle.tile_list.specs.Weight.{weight_of, weigh_pair, weigh_all}
 use Rattle.pairs.specs.declared.Pair.{Pair}
-use Rattle.pairs.specs.declared.Put.{Put}
-use Rattle.pairs.specs.declared.Put.TheVariants.{Nothing, Puts}
+use Rattle.pairs.specs.Put.{Put}
+use Rattle.pairs.specs.Put.{Nothing, Puts}
 use Rattle.tile_list.specs.declared.weigh.Weight.{Weight}
 use Rattle.lay_pairs.proofs.SizeLaws.{jump_small, left_small}
 

@@ -1,8 +1,9 @@
 // How long a tile's list is, before a word of it is written.
-ghost use Rattle.std.specs.Prelude.{◌≡◌, ◌<◌, ◌≤◌, length, take};
+ghost use Rattle.std.specs.Prelude.{◌≡◌, ◌<◌, ◌≤◌, length};
 ghost use Rattle.panel.specs.Limits.{most_paths};
 ghost use Rattle.commands.specs.Numbers.{tile_words};
-ghost use Rattle.pairs.specs.Pairs.{tables, tile_pairs};
+ghost use Rattle.pairs.specs.Pairs.{tile_pairs};
+ghost use Rattle.pairs.specs.Lent.{tables_of};
 ghost use Rattle.pairs.specs.Ready.{Ready};
 ghost use Rattle.lay_pairs.specs.Slots.{slots_fit};
 ghost use Rattle.tile_list.specs.Near.{Near};
@@ -10,7 +11,7 @@ ghost use Rattle.tile_list.specs.Weight.{no_weight, weigh_pair, weigh_all};
 
 use commands::numbers::{LIST_START, TILE_WORDS};
 use lay_pairs::sizes::{fits, jump_count, left_at, pair_size};
-use pairs::{Pair, Put, on_path};
+use pairs::{Lent, Pair, on_path};
 use panel::limits::MOST_SLOTS;
 
 // A tile's pairs so far: how many, how many JUMPs between them, the words left in the region, and
@@ -28,13 +29,7 @@ fn slots_fit(room: u32, pair: Pair) -> bool
     ensures { result ≡ slots_fit room pair }
 {
     match pair {
-        Pair::Fill {
-            count,
-            rule: _,
-            first,
-            backdrop: _,
-            colour: _,
-        } => {
+        Pair::Fill { count, first, .. } => {
             let end = first as u64 + count as u64;
             (end <= room as u64) & (end <= MOST_SLOTS as u64)
         }
@@ -60,23 +55,11 @@ fn weigh_pair(w: Weight, room: u32, pair: Pair) -> Weight
     }
 }
 
-// All that the paths put on screen tile t: n paths are near. The weight so far is left alone where a
-// path puts nothing there: to give it back as it is, from a function, would copy it at each path.
-pub fn weigh(
-    paths: &[u32],
-    paints: &[u32],
-    backdrops: &[i32],
-    stored: &[u32],
-    tally: &[u32],
-    near: &[u32],
-    n: usize,
-    cols: u32,
-    t: u32,
-    room: u32,
-) -> Weight
-    requires { (Ready (tables paths.now paints.now backdrops.now stored.now tally.now)) × (0 < cols) × (n ≤ most_paths) × (length near.now ≡ most_paths)
-        × (Near (tables paths.now paints.now backdrops.now stored.now tally.now) cols t (take n near.now)) }
-    ensures { result ≡ weigh_all room (tile_pairs (tables paths.now paints.now backdrops.now stored.now tally.now) cols t) no_weight }
+// All that these paths put on screen tile t. The weight so far is left alone where a path puts nothing
+// there: to give it back as it is, from a function, would copy it at each path.
+pub fn weigh(lent: &Lent, near: &[u32], cols: u32, t: u32, room: u32) -> Weight
+    requires { (Ready (tables_of lent.now)) × (0 < cols) × (length near.now ≤ most_paths) × (Near (tables_of lent.now) cols t near.now) }
+    ensures { result ≡ weigh_all room (tile_pairs (tables_of lent.now) cols t) no_weight }
 {
     let x = t % cols;
     let y = t / cols;
@@ -86,13 +69,10 @@ pub fn weigh(
         left: TILE_WORDS - LIST_START,
         slots: true,
     };
-    let mut j = 0usize;
-    while j < n {
-        let put = on_path(paths, paints, backdrops, stored, tally, x, y, near[j]);
-        if let Put::Puts(pair) = put {
+    for &p in near {
+        if let Some(pair) = on_path(lent, x, y, p) {
             w = weigh_pair(w, room, pair);
         }
-        j += 1;
     }
     w
 }

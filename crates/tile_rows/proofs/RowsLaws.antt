@@ -73,10 +73,18 @@ module _ (w : Way) (ys y0s y1s dys edges : List Float) where
           (λ j. clear_at (yi + 2) q (omega (arith, j)) (second (clears yi && clears (yi + 1)) (clears (yi + 2)) three)
           (λ k. clear_at (yi + 3) q (omega (arith, k)) (second ((clears yi && clears (yi + 1)) && clears (yi + 2)) (clears (yi + 3)) c) (λ n. absurd (omega (arith, n, hi))))))
 
--- ---- the lists that `rows_of` leaves
+-- ---- the lists that `put` leaves
 room : length no_rows ≡ tile_height
 unfolding no_rows
 room = refl
+
+-- whatever stood there
+pub column_any : (f : Row → Float) (w : Way) (yt : Float) (l : List Float) → length l ≡ tile_height → column f w yt l ≡ column f w yt no_rows
+column_any f w yt l n =
+    let g = of_row f w yt in
+    within_all g tile_height nan l (omega (arith, n))
+    ∙ mapi_is g no_rows (mapi g l) nan nan (length_mapi g l ∙ n ∙ sym room) (λ k h. get_d_mapi g l k nan nan (omega (arith, n, room, h)))
+    ∙ sym (within_all g tile_height nan no_rows (omega (arith, room)))
 
 module _ (w : Way) (yt : Float) where
   column_at : (f : Row → Float) (l : List Float) (yi : ℕ) → yi < tile_height → l ≡ column f w yt no_rows → get_or l yi nan ≡ f (row_of w yt yi)

@@ -11,77 +11,75 @@ use sides::TILE_HEIGHT;
 // So many rows are looked at by one test.
 pub const ROWS_AT_ONCE: usize = 4;
 
-// Room for one number of each row.
-pub fn no_rows() -> [f32; TILE_HEIGHT]
-    ensures { result ≡ no_rows }
-{
-    [0.0; TILE_HEIGHT]
-}
-
 // The numbers of each row, those of one kind beside each other.
-pub fn rows_of(
-    w: Way,
-    yt: f32,
-    ys: &mut [f32; TILE_HEIGHT],
-    y0s: &mut [f32; TILE_HEIGHT],
-    y1s: &mut [f32; TILE_HEIGHT],
-    dys: &mut [f32; TILE_HEIGHT],
-    edges: &mut [f32; TILE_HEIGHT],
-)
-    ensures { (ys.new ≡ column (λ (r : Row). r.y) w yt ys.old)
-        × (y0s.new ≡ column (λ (r : Row). r.y0) w yt y0s.old)
-        × (y1s.new ≡ column (λ (r : Row). r.y1) w yt y1s.old)
-        × (dys.new ≡ column (λ (r : Row). r.dy) w yt dys.old)
-        × (edges.new ≡ column (λ (r : Row). r.edge) w yt edges.old) }
-{
-    let mut yi = 0usize;
-    while yi < TILE_HEIGHT {
-        let r = row_of(w, yt, yi);
-        ys[yi] = r.y;
-        y0s[yi] = r.y0;
-        y1s[yi] = r.y1;
-        dys[yi] = r.dy;
-        edges[yi] = r.edge;
-        yi += 1;
+#[derive(Drop)]
+pub struct Rows {
+    pub ys: [f32; TILE_HEIGHT],
+    pub y0s: [f32; TILE_HEIGHT],
+    pub y1s: [f32; TILE_HEIGHT],
+    pub dys: [f32; TILE_HEIGHT],
+    pub edges: [f32; TILE_HEIGHT],
+}
+
+impl Rows {
+    // Room for them.
+    pub fn new() -> Rows
+        ensures { (result.ys ≡ no_rows) × (result.y0s ≡ no_rows) × (result.y1s ≡ no_rows) × (result.dys ≡ no_rows) × (result.edges ≡ no_rows) }
+    {
+        Rows {
+            ys: [0.0; TILE_HEIGHT],
+            y0s: [0.0; TILE_HEIGHT],
+            y1s: [0.0; TILE_HEIGHT],
+            dys: [0.0; TILE_HEIGHT],
+            edges: [0.0; TILE_HEIGHT],
+        }
     }
-}
 
-// Row yi.
-pub fn row_at(
-    ys: &[f32; TILE_HEIGHT],
-    y0s: &[f32; TILE_HEIGHT],
-    y1s: &[f32; TILE_HEIGHT],
-    dys: &[f32; TILE_HEIGHT],
-    edges: &[f32; TILE_HEIGHT],
-    yi: usize,
-) -> Row
-    requires { yi < tile_height }
-    ensures { result ≡ row_in ys.now y0s.now y1s.now dys.now edges.now yi }
-{
-    Row {
-        y: ys[yi],
-        y0: y0s[yi],
-        y1: y1s[yi],
-        dy: dys[yi],
-        edge: edges[yi],
+    // Those of a segment that goes the way w, whatever stood there.
+    pub fn put(&mut self, w: Way, yt: f32)
+        ensures { (self.new.ys ≡ column (λ (r : Row). r.y) w yt no_rows)
+            × (self.new.y0s ≡ column (λ (r : Row). r.y0) w yt no_rows)
+            × (self.new.y1s ≡ column (λ (r : Row). r.y1) w yt no_rows)
+            × (self.new.dys ≡ column (λ (r : Row). r.dy) w yt no_rows)
+            × (self.new.edges ≡ column (λ (r : Row). r.edge) w yt no_rows) }
+    {
+        for yi in 0..TILE_HEIGHT {
+            let r = row_of(w, yt, yi);
+            self.ys[yi] = r.y;
+            self.y0s[yi] = r.y0;
+            self.y1s[yi] = r.y1;
+            self.dys[yi] = r.dy;
+            self.edges[yi] = r.edge;
+        }
     }
-}
 
-// Whether row yi gets nothing: no height in it, and no y_edge.
-fn clear(dys: &[f32; TILE_HEIGHT], edges: &[f32; TILE_HEIGHT], yi: usize) -> bool
-    requires { yi < tile_height }
-    ensures { result ≡ clear_at_word dys.now edges.now yi }
-{
-    (dys[yi] == 0.0) & (edges[yi] == 0.0)
-}
+    // Row yi.
+    pub fn row_at(&self, yi: usize) -> Row
+        requires { yi < tile_height }
+        ensures { result ≡ row_in self.now.ys self.now.y0s self.now.y1s self.now.dys self.now.edges yi }
+    {
+        Row {
+            y: self.ys[yi],
+            y0: self.y0s[yi],
+            y1: self.y1s[yi],
+            dy: self.dys[yi],
+            edge: self.edges[yi],
+        }
+    }
 
-// Whether the four rows from yi on get nothing: one test, and no branch in it.
-pub fn four_clear(dys: &[f32; TILE_HEIGHT], edges: &[f32; TILE_HEIGHT], yi: usize) -> bool
-    requires { yi + rows_at_once ≤ tile_height }
-    ensures { result ≡ four_clear dys.now edges.now yi }
-{
-    clear(dys, edges, yi)
-        & clear(dys, edges, yi + 1)
-        & clear(dys, edges, yi + 2)
-        & clear(dys, edges, yi + 3)
+    // Whether row yi gets nothing: no height in it, and no y_edge.
+    fn clear(&self, yi: usize) -> bool
+        requires { yi < tile_height }
+        ensures { result ≡ clear_at_word self.now.dys self.now.edges yi }
+    {
+        (self.dys[yi] == 0.0) & (self.edges[yi] == 0.0)
+    }
+
+    // Whether the four rows from yi on get nothing: one test, and no branch in it.
+    pub fn four_clear(&self, yi: usize) -> bool
+        requires { yi + rows_at_once ≤ tile_height }
+        ensures { result ≡ four_clear self.now.dys self.now.edges yi }
+    {
+        self.clear(yi) & self.clear(yi + 1) & self.clear(yi + 2) & self.clear(yi + 3)
+    }
 }

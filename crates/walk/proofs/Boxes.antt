@@ -2,25 +2,23 @@
 --     tile_below       a tile's number lies in its path's range
 --     inside_bounds    what the tests of a tile tell
 --     tile-within      so a tile that a step gives lies in the box
-use Prim.Native.Nat.{ℕ, ◌+◌, ◌-◌, ◌*◌, ◌≤◌, ◌<◌}
+use Prim.Native.Nat.{ℕ, ◌≤◌, ◌<◌}
 use native.Mathlib.Omega.{arith}
 use mathlib.Core.Path.{◌≡◌, refl, sym, subst}
-use mathlib.Core.Bool.{Bool, true, false, cond, ◌&&◌, false≢true}
+use mathlib.Core.Bool.{Bool, true, false, ◌&&◌, false≢true}
 use lib.Dec.{T, leb, ltb}
 use lib.IntN.{ℤ, pos, negsuc}
 use lib.Ieee.{Float}
 use lib.Ieee.Scale.{finite}
 use borrow.Author.Tests.{leb-true, ltb-true}
 use Rattle.panel.specs.Kinds.{tile_no_of}
-use Rattle.panel.specs.Paths.{width_of, height_of, end_of, tile_of}
+use Rattle.panel.specs.Paths.{end_of, tile_of}
 use Rattle.panel.specs.declared.kinds.Path.{Path}
-use Rattle.panel.specs.declared.kinds.TileNo.{TileNo}
 use Rattle.panel.specs.Limits.{most_tiles}
 use Rattle.panel.proofs.PathLaws.{Fits, InBox, own_tile}
 use Rattle.walk.specs.Num.{cut_of, inside_of}
 use Rattle.walk.specs.Step.{Boxed, Within, tile_in}
-use Rattle.walk.specs.declared.step.Step.{Step}
-use Rattle.walk.specs.declared.step.Step.TheVariants.{Tile, Refused}
+use Rattle.walk.specs.Stepped.{Tile, Refused}
 use Rattle.panel.proofs.BoolLaws.{both}
 
 -- ---- numbers of tiles

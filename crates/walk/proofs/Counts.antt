@@ -1,9 +1,9 @@
 -- A checked line's ends in tiles, and its count of steps: one at least, and few enough that no sum wraps and a float holds it. Assumes nothing.
 --     ends_scaled    the ends of a checked line
 --     counts_few     its count
-use Prim.Native.Nat.{ℕ, ◌+◌, ◌*◌, ◌≤◌, ◌<◌, ◌^◌}
+use Prim.Native.Nat.{ℕ, ◌*◌, ◌≤◌, ◌<◌, ◌^◌}
 use native.Mathlib.Omega.{arith}
-use mathlib.Core.Path.{◌≡◌, refl}
+use mathlib.Core.Path.{◌≡◌}
 use mathlib.Core.Bool.{Bool, true, false, cond, ◌&&◌}
 use lib.Dec.{T, le→leb}
 use lib.IntN.{pos}
@@ -16,7 +16,7 @@ use Rattle.exact.specs.Reach.{in_reach, coord_tiles}
 use Rattle.exact.proofs.Limits.{far}
 use Rattle.exact.proofs.Bounds.{near_of, span_least, span_most}
 use Rattle.walk.specs.Setup.{Scaled, ends_of, counts_of}
-use Rattle.walk.specs.Lent.{reached_of, Reached}
+use Rattle.walk.specs.Lent.{Reached}
 
 -- ---- the ends
 pub scaled_of : (p : Vec2) → (in_reach p.x && in_reach p.y) ≡ true → Scaled (scale_of p tile_scale)

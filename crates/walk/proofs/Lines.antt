@@ -1,9 +1,8 @@
 -- The cases of a line as it is lent, over plain values. Assumes nothing.
 use Prim.Native.Nat.{ℕ, ◌≤◌, ◌<◌}
-use mathlib.Core.Path.{◌≡◌, refl, sym, ◌∙◌}
-use mathlib.Core.Bool.{Bool, true, false, not, ◌||◌, false≢true}
+use mathlib.Core.Path.{◌≡◌, refl, sym}
+use mathlib.Core.Bool.{Bool, true, false, not, ◌||◌}
 use mathlib.Core.List.{List}
-use lib.Dec.{ltb}
 use lib.ListN.{get_or}
 use lib.Ieee.{Float}
 use borrow.Author.Tests.{lt-ltb, le-ltb}
@@ -17,8 +16,8 @@ use Rattle.walk.specs.Skip.{flat_of, past_of}
 use Rattle.walk.specs.Lent.{line_at, reached_of, Reached, walked_of, walk_at}
 use Rattle.walk.specs.declared.kinds.Walk.{Walk}
 use Rattle.panel.specs.declared.lines.LineEnds.{LineEnds}
-use Rattle.walk.specs.declared.kinds.Walked.{Walked}
-use Rattle.walk.specs.declared.kinds.Walked.TheVariants.{Refused, Skipped, Line}
+use Rattle.walk.specs.Walked.{Walked}
+use Rattle.walk.specs.Walked.{Refused, Skipped, Line}
 
 -- a test turned round
 pub turned_on : (t : Bool) → not t ≡ true → t ≡ false

@@ -4,24 +4,23 @@
 --     col_same, col_again_lem         counting's column is tiling's, where one of the two is below 2 ^ 24
 --     steps_apart                 two steps with one column and one row are one step
 --     last-z                      z of the step before, as the file computes it, is that step's z
-use mathlib.Core.Path.{◌≡◌, refl, sym, ap, ◌∙◌, subst}
+use mathlib.Core.Path.{◌≡◌, sym, ap, ◌∙◌, subst}
 use mathlib.Core.Logic.{◌⊎◌, inl, inr}
-use Prim.Native.Nat.{ℕ, suc, ◌+◌, ◌-◌, ◌^◌, ◌≤◌, ◌<◌}
+use Prim.Native.Nat.{ℕ, ◌^◌, ◌≤◌, ◌<◌}
 use native.Mathlib.Nat.{le_of_lt}
 use native.Mathlib.Omega.{arith}
-use mathlib.Core.Bool.{Bool, true, false}
+use mathlib.Core.Bool.{Bool, true}
 use lib.Dec.{T}
-use lib.IntN.{ℤ, pos, negsuc, ◌+ℤ◌, ◌-ℤ◌, neg_ℤ, nat_abs}
-use lib.Ieee.{Float, binary32, add, sub, mul, fits, of_int, of_bits, to_signed}
-use lib.Ieee.Fits.{add-fits, sub-fits, of_int-fits}
+use lib.IntN.{ℤ, pos, ◌+ℤ◌, ◌-ℤ◌, neg_ℤ, nat_abs}
+use lib.Ieee.{Float, binary32, add, sub, mul, fits, to_signed}
+use lib.Ieee.Fits.{add-fits}
 use lib.Ieee.Scale.{finite}
-use Rattle.float32.specs.Meaning.{floor_of}
 use Rattle.float32.proofs.Laws.{floor_fits}
 use Rattle.float32.proofs.Tests.{below_or_not}
 use Rattle.panel.specs.Limits.{edge_most}
 use Rattle.panel.specs.Widths.{step_range}
 use Rattle.exact.specs.Whole.{IsWhole, floor_z, turn}
-use Rattle.exact.specs.Reach.{coord_tiles, Starts}
+use Rattle.exact.specs.Reach.{Starts}
 use Rattle.exact.proofs.Signs.{plus_of, minus_of, sum_parts, abs_sum, abs_other, sum_cancel, turn_same}
 use Rattle.exact.proofs.Exact.{floor_whole, floor_finite, nat_whole, whole_cast, whole_cast_end, add_whole, add_cast, sub_cast, sign_whole}
 use Rattle.exact.proofs.Limits.{far}

@@ -6,13 +6,13 @@
 --     tile_once          and so are two with one tile number
 --     mark_right         a tile right of a step is in no row the first
 --     steps_agree        counting's step is tiling's
-use mathlib.Core.Path.{◌≡◌, refl, sym, ap, ◌∙◌, subst}
+use mathlib.Core.Path.{◌≡◌, refl, sym, ap, ap₂, ◌∙◌, subst}
 use mathlib.Core.Bool.{Bool, true, false, cond, ◌&&◌}
 use mathlib.Core.Logic.{◌⊎◌, inl, inr, ◌≢◌}
-use Prim.Native.Nat.{ℕ, ◌+◌, ◌-◌, ◌*◌, ◌^◌, ◌≤◌, ◌<◌}
+use Prim.Native.Nat.{ℕ, ◌+◌, ◌-◌, ◌*◌, ◌≤◌, ◌<◌}
 use native.Mathlib.Omega.{arith}
 use lib.Dec.{T}
-use lib.IntN.{ℤ, pos, ◌+ℤ◌, ◌-ℤ◌, nat_abs}
+use lib.IntN.{ℤ, pos, ◌+ℤ◌, ◌-ℤ◌}
 use lib.Ieee.{Float}
 use lib.Ieee.Scale.{finite}
 use Rattle.panel.specs.Widths.{step_range}
@@ -26,8 +26,8 @@ use Rattle.exact.specs.Reach.{Starts}
 use Rattle.walk.specs.Num.{float, cut_of, inside_of}
 use Rattle.walk.specs.Step.{Boxed, Within, z_at, tile_in, step_of, step_again_of}
 use Rattle.walk.specs.declared.kinds.Pace.{Pace}
-use Rattle.walk.specs.declared.step.Step.{Step}
-use Rattle.walk.specs.declared.step.Step.TheVariants.{Tile, Refused}
+use Rattle.walk.specs.Stepped.{Step}
+use Rattle.walk.specs.Stepped.{Tile, Refused}
 use Rattle.walk.proofs.Boxes.{Told, ok_of, ok_told, told_within, inside_bounds, in_box_lem, tile_below}
 use Rattle.walk.proofs.StepTiles.{col_of, col_again, row_at, inside_small, z_fits, z_whole, z_whole_lem, col_is, row_is, col_same, col_again_lem, steps_apart}
 
@@ -51,14 +51,15 @@ tile_told b u v f t x y z e = go (ok_of b u v f) refl e
     go false h e = absurd (no_tile t x y z e)
     go true h e =
         let d = ok_told b u v f h in
-        let c : cut_of u ≡ x = cc in
-        let r : cut_of v ≡ y = cc in
+        let p : ◌≡◌ {A = TileNo × ℕ × ℕ × Float} (tile_no_of (tile_of b (cut_of u) (cut_of v)), cut_of u, cut_of v, f) (t, x, y, z) = cc in
+        let c = ap (λ (q : TileNo × ℕ × ℕ × Float). q.1) p in
+        let r = ap (λ (q : TileNo × ℕ × ℕ × Float). q.2) p in
         record {
           told = d;
           is_col = (inside_bounds u b.x0 b.x1 d.col_in).0 ∙ ap pos c;
           is_row = (inside_bounds v b.y0 b.y1 d.row_in_lem).0 ∙ ap pos r;
-          is_z = cc;
-          is_tile = cc;
+          is_z = ap (λ (q : TileNo × ℕ × ℕ × Float). q.3) p;
+          is_tile = sym (ap (λ (q : TileNo × ℕ × ℕ × Float). q.0) p) ∙ ap₂ (λ (k l : ℕ). tile_no_of (tile_of b k l)) c r;
           within = rw (c, r) at (told_within b u v f d);
         }
 

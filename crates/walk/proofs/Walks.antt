@@ -3,7 +3,7 @@
 --     line_few       its count of steps: 1 at least, below 4 times the limit in tiles
 --     line_told      what `Line w b` tells, of a line as it is lent
 --     last_z         z of the step before, as the file computes it, is that step's z
-use Prim.Native.Nat.{ℕ, ◌+◌, ◌^◌, ◌≤◌, ◌<◌}
+use Prim.Native.Nat.{ℕ, ◌+◌, ◌<◌}
 use native.Mathlib.Omega.{arith}
 use mathlib.Core.Path.{◌≡◌, refl, sym, ap, ◌∙◌, subst}
 use mathlib.Core.Bool.{Bool, true, false, cond, ◌||◌, true≢false}
@@ -24,15 +24,15 @@ use Rattle.exact.proofs.Bounds.{line_at_lem}
 use Rattle.exact.proofs.Less.{one_less}
 use Rattle.exact.proofs.Limits.{far}
 use Rattle.walk.specs.Num.{float}
-use Rattle.walk.specs.Setup.{ends_of, counts_of, slope_of, a_of, b_of, walk_on}
+use Rattle.walk.specs.Setup.{ends_of, slope_of, walk_on}
 use Rattle.walk.specs.Page.{line_of, by_parts}
 use Rattle.walk.specs.Skip.{flat_of, past_of}
 use Rattle.walk.specs.Step.{z_at, last_z_word}
 use Rattle.walk.specs.Lent.{line_at, reached_of, Reached, walked_of, walk_at}
 use Rattle.walk.specs.declared.kinds.Pace.{Pace}
 use Rattle.walk.specs.declared.kinds.Walk.{Walk}
-use Rattle.walk.specs.declared.kinds.Walked.{Walked}
-use Rattle.walk.specs.declared.kinds.Walked.TheVariants.{Refused, Skipped, Line}
+use Rattle.walk.specs.Walked.{Walked}
+use Rattle.walk.specs.Walked.{Refused, Skipped, Line}
 use Rattle.walk.proofs.Counts.{Few, ends_scaled, counts_few}
 use Rattle.walk.proofs.Lines.{skipped}
 

@@ -9,8 +9,8 @@ use Rattle.panel.specs.declared.kinds.Path.{Path}
 use Rattle.walk.specs.Setup.{ends_of}
 use Rattle.walk.specs.Page.{line_of}
 use Rattle.walk.specs.Skip.{flat_of, past_of}
-use Rattle.walk.specs.declared.kinds.Walked.{Walked}
-use Rattle.walk.specs.declared.kinds.Walked.TheVariants.{Refused, Skipped, Line}
+use Rattle.walk.specs.Walked.{Walked}
+use Rattle.walk.specs.Walked.{Refused, Skipped, Line}
 
 -- check 6
 abbrev pub reached_of : Vec2 → Vec2 → Bool

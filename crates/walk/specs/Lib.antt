@@ -13,3 +13,5 @@ pub mod Skip
 pub mod Step
 pub mod Lent
 pub mod Around
+pub mod Stepped
+pub mod Walked

@@ -1,5 +1,5 @@
 -- The walk's numbers on one page, in the order of path_count.rs, lines 22 to 52. `by_parts` says that the stages of `Setup.antt` make the same.
-use Rattle.std.specs.Prelude.{ℕ, ◌+◌, ◌-◌, ◌≡◌, refl, Bool, cond, Float}
+use Rattle.std.specs.Prelude.{◌+◌, ◌-◌, ◌≡◌, refl, cond}
 use Rattle.std.specs.Float.{binary32}
 use Rattle.std.specs.Float.Ieee.{add, sub, mul, div, le, eq, ne}
 use Rattle.float32.specs.Meaning.{floor_of, ceil_of, min_of, abs_of, copysign_of}

@@ -1,7 +1,7 @@
 -- The walk's numbers, line by line as path_count.rs has them, a stage each, for the functions' own contracts. Only proofs lean on this, but for
 -- `ends_of`, which the skip rules cite: what is promised is `Page.antt`, in one piece and beside the Rust, and `by_parts` there says that the stages
 -- make the same. Definitions only.
-use Rattle.std.specs.Prelude.{ℕ, ◌+◌, ◌-◌, Bool, cond, Float}
+use Rattle.std.specs.Prelude.{◌+◌, ◌-◌, cond, Float}
 use Rattle.std.specs.Float.{binary32}
 use Rattle.std.specs.Float.Ieee.{add, sub, mul, div, le, eq, ne}
 use Rattle.float32.specs.Meaning.{floor_of, ceil_of, min_of, abs_of, copysign_of}
@@ -14,7 +14,6 @@ use Rattle.walk.specs.Num.{float}
 use Rattle.walk.specs.declared.kinds.Ends.{Ends}
 use Rattle.walk.specs.declared.kinds.Counts.{Counts}
 use Rattle.walk.specs.declared.kinds.Slope.{Slope}
-use Rattle.walk.specs.declared.kinds.Pace.{Pace}
 use Rattle.walk.specs.declared.kinds.Walk.{Walk}
 
 -- a point in tiles whose coordinates were checked

@@ -11,8 +11,8 @@ use Rattle.panel.specs.Paths.{end_of, tile_of}
 use Rattle.panel.specs.declared.kinds.Path.{Path}
 use Rattle.walk.specs.Num.{float, cut_of, inside_of}
 use Rattle.walk.specs.declared.kinds.Pace.{Pace}
-use Rattle.walk.specs.declared.step.Step.{Step}
-use Rattle.walk.specs.declared.step.Step.TheVariants.{Tile, Refused}
+use Rattle.walk.specs.Stepped.{Step}
+use Rattle.walk.specs.Stepped.{Tile, Refused}
 
 -- a path that passed its checks: its box's edges are within the limit and in order, and its tiles are among those that may be lent
 pub record Boxed (b : Path) : Type 0 where

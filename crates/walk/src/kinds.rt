@@ -1,6 +1,5 @@
 // What a line is on its way over the tiles: its numbers, a struct for each stage of
-// path_count.rs, lines 22 to 52, and what can become of it. `setup` makes them.
-use panel::kinds::Path;
+// path_count.rs, lines 22 to 52. `setup` makes them.
 use util::Vec2;
 
 // The ends in the order of y, as they are and in tiles.
@@ -51,12 +50,4 @@ pub struct Walk {
     pub k: Counts,
     pub is_positive_slope: bool,
     pub pace: Pace,
-}
-
-// What becomes of a line: refused with its number, skipped, or walked over its path's box.
-#[derive(Clone, Copy)]
-pub enum Walked {
-    Refused(u32),
-    Skipped,
-    Line(Walk, Path),
 }

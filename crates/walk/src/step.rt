@@ -6,16 +6,10 @@ ghost use Rattle.panel.specs.Kinds.{tile_no_of};
 ghost use Rattle.panel.specs.Paths.{tile_of};
 ghost use Rattle.walk.specs.Step.{z_at, Boxed, Within, tile_in, step_of, cross_of};
 
-use super::choose::{cut, inside, pick_bool};
+use super::choose::{cut, inside};
 use super::kinds::Pace;
+use float32::pick;
 use panel::kinds::{Path, TileNo};
-
-// A step's tile by its number, its column and its row, with its z; or a refusal (10).
-#[derive(Clone, Copy)]
-pub enum Step {
-    Tile(TileNo, u32, u32, f32),
-    Refused,
-}
 
 // z at a step number that is a float.
 pub fn z_at(a: f32, b: f32, f: f32) -> f32
@@ -32,8 +26,9 @@ pub fn tile_at(b: Path, x: u32, y: u32) -> TileNo
     TileNo(b.first + (y - b.y0) * (b.x1 - b.x0) + (x - b.x0))
 }
 
-// The tile in column x and row y, where z is a number and the tile is in the box.
-pub fn tile_in(b: Path, x: i32, y: i32, z: f32) -> Step
+// The tile in column x and row y by its number, its column and its row, with its z; none where z is no number or
+// the tile isn't in the box, which is refused (10).
+pub fn tile_in(b: Path, x: i32, y: i32, z: f32) -> Option<(TileNo, u32, u32, f32)>
     requires { Boxed b }
     ensures { result ≡ tile_in b x y z }
 {
@@ -41,13 +36,14 @@ pub fn tile_in(b: Path, x: i32, y: i32, z: f32) -> Step
     if ok {
         let col = cut(x);
         let row = cut(y);
-        Step::Tile(tile_at(b, col, row), col, row, z)
+        Some((tile_at(b, col, row), col, row, z))
     } else {
-        Step::Refused
+        None
     }
 }
 
-pub fn step_at(p: Pace, b: Path, i: u32) -> Step
+// Step i's tile, with its z.
+pub fn step_at(p: Pace, b: Path, i: u32) -> Option<(TileNo, u32, u32, f32)>
     requires { Boxed b × (i < step_range) }
     ensures { result ≡ step_of p b i }
 {
@@ -64,5 +60,5 @@ pub fn crosses(on_top: bool, x1: u32, i: u32, last_z: f32, x: u32, z: f32) -> bo
     requires { x < x1 }
     ensures { result ≡ cross_of on_top x1 i last_z x z }
 {
-    pick_bool(i == 0, on_top, last_z == z) & (x + 1 < x1)
+    pick(i == 0, on_top, last_z == z) & (x + 1 < x1)
 }

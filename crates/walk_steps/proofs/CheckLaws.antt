@@ -13,8 +13,8 @@ use lib.Ieee.{Float}
 use borrow.Author.Tests.{leb-true, leb-false}
 use Rattle.panel.specs.Refusals.{outside}
 use Rattle.panel.specs.declared.kinds.Path.{Path}
-use Rattle.panel.specs.declared.kinds.Verdict.{Verdict}
-use Rattle.panel.specs.declared.kinds.Verdict.TheVariants.{Fine, Against}
+use Rattle.panel.specs.Verdict.{Verdict}
+use Rattle.panel.specs.Verdict.{Fine, Against}
 use Rattle.walk.specs.Step.{last_z_word}
 use Rattle.walk.specs.declared.kinds.Pace.{Pace}
 use Rattle.acts.specs.Acts.{Hit, on, off, check_no, step_acts}
@@ -23,9 +23,9 @@ use Rattle.hits.specs.Steps.{hit_at}
 use Rattle.hits.specs.Notes.{Told, note_words, OnTiles}
 use Rattle.hits.proofs.StepLaws.{next_below, Hitting, hitting}
 use Rattle.hits.proofs.NoteLaws.{word_told}
-use Rattle.walk_steps.specs.Checks.{seen_of, word_by, noted_of, noted_by, noted_to}
-use Rattle.walk_steps.specs.declared.checks.Noted.TheVariants.{Passed as NotedPassed, Against as NotedAgainst}
-use Rattle.walk_steps.specs.declared.checks.Seen.TheVariants.{Passed, Against as SeenAgainst}
+use Rattle.walk_steps.specs.Checks.{seen_of, word_by, noted_of, noted_to}
+use Rattle.walk_steps.specs.Noted.{Passed as NotedPassed, Against as NotedAgainst}
+use Rattle.walk_steps.specs.Seen.{Passed, Against as SeenAgainst}
 
 -- what the check of a step says, taken apart
 pub seen_passed : (v : Verdict) (u z : Float) → seen_of v u ≡ Passed z → (v ≡ Fine) × (z ≡ u)
@@ -45,11 +45,6 @@ noted_passed (Against n) u z w k e = let q : ◌≡◌ {A = ℕ} 0 1 = cc in abs
 pub noted_against : (v : Verdict) (u : Float) (w n : ℕ) → noted_of v u w ≡ NotedAgainst n → v ≡ Against n
 noted_against Fine u w n e = let q : ◌≡◌ {A = ℕ} 0 1 = cc in absurd (omega arith)
 noted_against (Against m) u w n e = let q : m ≡ n = cc in ap Against q
-
--- what a step's check says, with its word
-pub noted_by_lem : (v : Verdict) (u : Float) (k : ℕ) → noted_by (seen_of v u) k ≡ noted_of v u k
-noted_by_lem Fine u k = refl
-noted_by_lem (Against n) u k = refl
 
 -- a step that passes its check is on a tile, and so its word tells
 pub step_noted : (w : Pace) (b : Path) (i : ℕ) (δ : ℤ) (bs : List ℤ) (cs : List ℕ) → OnTiles b (length bs) (length cs) → check_no δ (step_acts (hit_at w b i) i) bs cs ≡ Fine

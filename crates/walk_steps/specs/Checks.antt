@@ -1,17 +1,17 @@
 -- What the check of a step hands on, and what it notes. Only proofs lean on this: no promise of a public call does. Definitions only.
 use Rattle.std.specs.Prelude.{cond, ℕ, ◌+◌, ◌-◌, leb, Float}
-use Rattle.panel.specs.declared.kinds.Verdict.{Verdict}
-use Rattle.panel.specs.declared.kinds.Verdict.TheVariants.{Fine, Against}
+use Rattle.panel.specs.Verdict.{Verdict}
+use Rattle.panel.specs.Verdict.{Fine, Against}
 use Rattle.walk.specs.Num.{float}
 use Rattle.walk.specs.Step.{z_at}
 use Rattle.walk.specs.declared.kinds.Pace.{Pace}
 use Rattle.strides.specs.Words.{word_of}
 use Rattle.acts.specs.Acts.{Hit, on, off}
 use Rattle.hits.specs.Notes.{note_words}
-use Rattle.walk_steps.specs.declared.checks.Noted.{Noted}
-use Rattle.walk_steps.specs.declared.checks.Noted.TheVariants.{Passed as NotedPassed, Against as NotedAgainst}
-use Rattle.walk_steps.specs.declared.checks.Seen.{Seen}
-use Rattle.walk_steps.specs.declared.checks.Seen.TheVariants.{Passed, Against as SeenAgainst}
+use Rattle.walk_steps.specs.Noted.{Noted}
+use Rattle.walk_steps.specs.Noted.{Passed as NotedPassed, Against as NotedAgainst}
+use Rattle.walk_steps.specs.Seen.{Seen}
+use Rattle.walk_steps.specs.Seen.{Passed, Against as SeenAgainst}
 
 -- z of step i, which is the last z of the step after it
 abbrev pub z_of : Pace → ℕ → Float
@@ -30,10 +30,6 @@ word_by off = 0
 abbrev pub noted_of : Verdict → Float → ℕ → Noted
 noted_of Fine z k = NotedPassed z k
 noted_of (Against n) z k = NotedAgainst n
-
-abbrev pub noted_by : Seen → ℕ → Noted
-noted_by (Passed z) k = NotedPassed z k
-noted_by (SeenAgainst n) k = NotedAgainst n
 
 -- the end of the steps that are noted, of a walk from step a up to step b
 abbrev pub noted_to : ℕ → ℕ → ℕ

@@ -3,38 +3,26 @@
 ghost use Rattle.std.specs.Prelude.{◌≡◌, ◌-◌, ◌<◌, ◌≤◌, length};
 ghost use Rattle.exact.specs.Reach.{Starts};
 ghost use Rattle.panel.specs.Widths.{step_range};
-ghost use Rattle.panel.specs.declared.kinds.Verdict.TheVariants.{Fine};
+ghost use Rattle.panel.specs.Verdict.{verdict_told, Fine};
 ghost use Rattle.walk.specs.Step.{last_z_word};
 ghost use Rattle.box_edges.specs.Edges.{edges_of};
 ghost use Rattle.acts.specs.Acts.{check_no, step_acts, steps_acts, delta_of};
 ghost use Rattle.hits.specs.Steps.{hit_at};
 ghost use Rattle.hits.specs.Notes.{Notes, note_words, OnTiles};
-ghost use Rattle.walk_steps.specs.Checks.{z_of, seen_of, word_by, noted_of, noted_by};
+ghost use Rattle.walk_steps.specs.Checks.{z_of, seen_of, word_by, noted_of};
+ghost use Rattle.walk_steps.specs.Seen.{seen_told};
+ghost use Rattle.walk_steps.specs.Noted.{noted_told};
 
 use acts::{leaves, next_if};
 use box_edges::{Edges, edges_of, step_by};
-use panel::kinds::{Path, Verdict};
+use panel::kinds::Path;
 use panel::limits::MOST_COUNT;
-use panel::refusals::{COUNT_OVER, OUTSIDE, SUM_OVER};
+use panel::refusals::Refusal;
 use strides::word_of;
 use walk::kinds::Pace;
-use walk::step::{Step, crosses, step_at, z_at};
+use walk::step::{crosses, step_at, z_at};
 
-// A step that passes its check, with its z; or the number of its refusal.
-#[derive(Clone, Copy)]
-pub enum Seen {
-    Passed(f32),
-    Against(u32),
-}
-
-// The same, with the word that is noted of it.
-#[derive(Clone, Copy)]
-pub enum Noted {
-    Passed(f32, u32),
-    Against(u32),
-}
-
-// One step, given z of the step before.
+// One step, given z of the step before. One that passes hands its own z on.
 fn check_step(
     pace: Pace,
     path: Path,
@@ -43,24 +31,24 @@ fn check_step(
     last_z: f32,
     backs: &[i32],
     counts: &[u32],
-) -> Seen
+) -> Result<f32, Refusal>
     requires { OnTiles path (length backs.now) (length counts.now) × (i < step_range) × (last_z ≡ last_z_word pace i) }
-    ensures { result ≡ seen_of (check_no (delta_of up) (step_acts (hit_at pace path i) i) backs.now counts.now) (z_of pace i) }
+    ensures { seen_told result ≡ seen_of (check_no (delta_of up) (step_acts (hit_at pace path i) i) backs.now counts.now) (z_of pace i) }
 {
-    let Step::Tile(tile, x, _, z) = step_at(pace, path, i) else {
-        return Seen::Against(OUTSIDE);
+    let Some((tile, x, _, z)) = step_at(pace, path, i) else {
+        return Err(Refusal::Outside);
     };
     let own = tile.0 as usize;
     if counts[own] >= MOST_COUNT {
-        return Seen::Against(COUNT_OVER);
+        return Err(Refusal::CountOver);
     }
     // One test, since which steps mark can't be foretold.
     let marks = crosses(pace.on_top, path.x1, i, last_z, x, z);
     let q = next_if(own, marks);
     if marks & leaves(backs[q], up) {
-        return Seen::Against(SUM_OVER);
+        return Err(Refusal::SumOver);
     }
-    Seen::Passed(z)
+    Ok(z)
 }
 
 // The steps from .. to, in order.
@@ -72,41 +60,21 @@ pub fn check_steps(
     to: u32,
     backs: &[i32],
     counts: &[u32],
-) -> Verdict
+) -> Result<(), Refusal>
     requires { OnTiles path (length backs.now) (length counts.now) × («from» < to → to ≤ step_range) }
-    ensures { result ≡ check_no (delta_of up) (steps_acts (hit_at pace path) (to - «from») «from») backs.now counts.now }
+    ensures { verdict_told result ≡ check_no (delta_of up) (steps_acts (hit_at pace path) (to - «from») «from») backs.now counts.now }
 {
     if to <= from {
-        return Verdict::Fine;
+        return Ok(());
     }
     let mut last_z = z_at(pace.a, pace.b, from as f32 - 1.0);
-    let mut i = from;
-    while i < to {
-        let seen = check_step(pace, path, up, i, last_z, backs, counts);
-        match seen {
-            Seen::Against(why) => {
-                return Verdict::Against(why);
-            }
-            Seen::Passed(z) => {
-                last_z = z;
-            }
-        }
-        i += 1;
+    for i in from..to {
+        last_z = check_step(pace, path, up, i, last_z, backs, counts)?;
     }
-    Verdict::Fine
+    Ok(())
 }
 
-// What a step's check says, with its word.
-fn noted_of(seen: Seen, word: u32) -> Noted
-    ensures { result ≡ noted_by seen word }
-{
-    match seen {
-        Seen::Passed(z) => Noted::Passed(z, word),
-        Seen::Against(why) => Noted::Against(why),
-    }
-}
-
-// One step of a checked line, with the word to note of it.
+// One step of a checked line, with the word to note of it beside its z.
 fn note_step(
     pace: Pace,
     path: Path,
@@ -116,26 +84,27 @@ fn note_step(
     last_z: f32,
     backs: &[i32],
     counts: &[u32],
-) -> Noted
+) -> Result<(f32, u32), Refusal>
     requires { OnTiles path (length backs.now) (length counts.now) × (i < step_range) × (last_z ≡ last_z_word pace i)
         × Starts pace.sign pace.x0 pace.y0 × (edges ≡ edges_of path) }
-    ensures { result ≡ noted_of (check_no (delta_of up) (step_acts (hit_at pace path i) i) backs.now counts.now) (z_of pace i) (word_by (hit_at pace path i)) }
+    ensures { noted_told result ≡ noted_of (check_no (delta_of up) (step_acts (hit_at pace path i) i) backs.now counts.now) (z_of pace i) (word_by (hit_at pace path i)) }
 {
-    let Step::Tile(tile, x, _, z) = step_by(pace, path, edges, i) else {
-        return Noted::Against(OUTSIDE);
+    let Some((tile, x, _, z)) = step_by(pace, path, edges, i) else {
+        return Err(Refusal::Outside);
     };
     let t = tile.0 as usize;
     if counts[t] >= MOST_COUNT {
-        return Noted::Against(COUNT_OVER);
+        return Err(Refusal::CountOver);
     }
     let marks = crosses(pace.on_top, path.x1, i, last_z, x, z);
     let q = next_if(t, marks);
     let word = word_of(tile.0, marks);
     // Which steps mark can't be foretold, so nothing branches on it. A backdrop at the end of i32 is rare.
     if leaves(backs[q], up) {
-        return noted_of(check_step(pace, path, up, i, last_z, backs, counts), word);
+        let z = check_step(pace, path, up, i, last_z, backs, counts)?;
+        return Ok((z, word));
     }
-    Noted::Passed(z, word)
+    Ok((z, word))
 }
 
 // The steps from .. to, in order, each with its note.
@@ -148,30 +117,21 @@ pub fn note_each(
     backs: &[i32],
     counts: &[u32],
     notes: &mut [u32],
-) -> Verdict
+) -> Result<(), Refusal>
     requires { OnTiles path (length backs.now) (length counts.now) × («from» < to → to ≤ step_range)
         × Starts pace.sign pace.x0 pace.y0 × (to - «from» ≤ length notes.old) × (length notes.old ≡ note_words) }
-    ensures { (result ≡ check_no (delta_of up) (steps_acts (hit_at pace path) (to - «from») «from») backs.now counts.now)
-        × (result ≡ Fine → Notes (hit_at pace path) «from» (to - «from») notes.new (length backs.now)) }
+    ensures { (verdict_told result ≡ check_no (delta_of up) (steps_acts (hit_at pace path) (to - «from») «from») backs.now counts.now)
+        × (verdict_told result ≡ Fine → Notes (hit_at pace path) «from» (to - «from») notes.new (length backs.now)) }
 {
     if to <= from {
-        return Verdict::Fine;
+        return Ok(());
     }
     let edges = edges_of(path);
     let mut last_z = z_at(pace.a, pace.b, from as f32 - 1.0);
-    let mut i = from;
-    while i < to {
-        let noted = note_step(pace, path, edges, up, i, last_z, backs, counts);
-        match noted {
-            Noted::Against(why) => {
-                return Verdict::Against(why);
-            }
-            Noted::Passed(z, word) => {
-                last_z = z;
-                notes[(i - from) as usize] = word;
-            }
-        }
-        i += 1;
+    for i in from..to {
+        let (z, word) = note_step(pace, path, edges, up, i, last_z, backs, counts)?;
+        last_z = z;
+        notes[(i - from) as usize] = word;
     }
-    Verdict::Fine
+    Ok(())
 }

@@ -3,7 +3,7 @@ ghost use Rattle.std.specs.Prelude.{◌≡◌, true, ◌++◌, ◌+◌, ◌-◌,
 ghost use Rattle.lists.specs.Run.{done};
 ghost use Rattle.panel.specs.Limits.{most_slots};
 ghost use Rattle.panel.specs.Widths.{ref_words, step_range};
-ghost use Rattle.panel.specs.declared.kinds.Verdict.TheVariants.{Fine};
+ghost use Rattle.panel.specs.Verdict.{verdict_told, Fine};
 ghost use Rattle.exact.specs.Reach.{Starts};
 ghost use Rattle.acts.specs.Acts.{st_of, run_acts, check_no, steps_acts, is_done, delta_of};
 ghost use Rattle.acts.specs.Rows.{rows_acts, RowsIn};
@@ -16,7 +16,8 @@ use super::notes::note_steps;
 use super::writes::{write_notes, write_steps};
 use acts::{Rows, check_rows, write_rows};
 use hits::NOTE_WORDS;
-use panel::kinds::{LineNo, Path, Verdict};
+use panel::kinds::{LineNo, Path};
+use panel::refusals::Refusal;
 use walk::kinds::Pace;
 
 // The end of the steps that are noted: the first of a walk from imin to imax.
@@ -41,17 +42,14 @@ fn check_walk(
     backs: &[i32],
     counts: &[u32],
     notes: &mut [u32],
-) -> Verdict
+) -> Result<(), Refusal>
     requires { OnTiles path (length backs.now) (length counts.now) × (imin ≤ imax) × (imin < imax → imax ≤ step_range)
         × Starts pace.sign pace.x0 pace.y0 × (length notes.old ≡ note_words) }
-    ensures { (result ≡ check_no (delta_of up) (steps_acts (hit_at pace path) (imax - imin) imin) backs.now counts.now)
-        × (result ≡ Fine → Notes (hit_at pace path) imin (noted_to imin imax - imin) notes.new (length backs.now)) }
+    ensures { (verdict_told result ≡ check_no (delta_of up) (steps_acts (hit_at pace path) (imax - imin) imin) backs.now counts.now)
+        × (verdict_told result ≡ Fine → Notes (hit_at pace path) imin (noted_to imin imax - imin) notes.new (length backs.now)) }
 {
     let mid = noted_to(imin, imax);
-    let v = note_steps(pace, path, up, imin, mid, backs, counts, notes);
-    let Verdict::Fine = v else {
-        return v;
-    };
+    note_steps(pace, path, up, imin, mid, backs, counts, notes)?;
     check_steps(pace, path, up, mid, imax, backs, counts)
 }
 
@@ -93,16 +91,13 @@ pub fn check_line(
     backs: &[i32],
     counts: &[u32],
     notes: &mut [u32],
-) -> Verdict
+) -> Result<(), Refusal>
     requires { OnTiles path (length backs.now) (length counts.now) × RowsIn rows (length backs.now) × (imin ≤ imax) × (imin < imax → imax ≤ step_range)
         × Starts pace.sign pace.x0 pace.y0 × (length notes.old ≡ note_words) }
-    ensures { (result ≡ check_no (delta_of up) (rows_acts rows ++ steps_acts (hit_at pace path) (imax - imin) imin) backs.now counts.now)
-        × (result ≡ Fine → Notes (hit_at pace path) imin (noted_to imin imax - imin) notes.new (length backs.now)) }
+    ensures { (verdict_told result ≡ check_no (delta_of up) (rows_acts rows ++ steps_acts (hit_at pace path) (imax - imin) imin) backs.now counts.now)
+        × (verdict_told result ≡ Fine → Notes (hit_at pace path) imin (noted_to imin imax - imin) notes.new (length backs.now)) }
 {
-    let v = check_rows(rows, up, backs, counts);
-    let Verdict::Fine = v else {
-        return v;
-    };
+    check_rows(rows, up, backs, counts)?;
     check_walk(pace, path, up, imin, imax, backs, counts, notes)
 }
 

@@ -15,7 +15,7 @@ use acts::{mark_if, visit};
 use panel::kinds::{LineNo, Path, TileNo};
 use strides::{word_marks, word_tile};
 use walk::kinds::Pace;
-use walk::step::{Step, crosses, step_at, z_at};
+use walk::step::{crosses, step_at, z_at};
 
 // One step as reference number at, given z of the step before; its z is handed back.
 fn write_step(
@@ -37,7 +37,7 @@ fn write_step(
         ≡ run_acts (delta_of up) line.0 (step_acts (hit_at pace path i) i) (st_of backs.old counts.old refs.old at))
         × (result ≡ z_of pace i) }
 {
-    let Step::Tile(tile, x, _, z) = step_at(pace, path, i) else {
+    let Some((tile, x, _, z)) = step_at(pace, path, i) else {
         return last_z;
     };
     visit(tile, line, i, at, counts, refs);
@@ -69,12 +69,9 @@ pub fn write_steps(
         return;
     }
     let mut last_z = z_at(pace.a, pace.b, from as f32 - 1.0);
-    let mut at = made;
-    let mut i = from;
-    while i < to {
+    for i in from..to {
+        let at = made + (i - from);
         last_z = write_step(pace, path, up, line, i, last_z, at, backs, counts, refs);
-        at += 1;
-        i += 1;
     }
 }
 
@@ -120,12 +117,9 @@ pub fn write_notes(
     ensures { done (st_of backs.new counts.new refs.new (made + (to - «from»)))
         ≡ run_acts (delta_of up) line.0 (steps_acts (hits_by notes.now «from») (to - «from») «from») (st_of backs.old counts.old refs.old made) }
 {
-    let mut at = made;
-    let mut i = from;
-    while i < to {
-        let word = notes[(i - from) as usize];
-        write_noted(word, up, line, i, at, backs, counts, refs);
-        at += 1;
-        i += 1;
+    for i in from..to {
+        let k = i - from;
+        let word = notes[k as usize];
+        write_noted(word, up, line, i, made + k, backs, counts, refs);
     }
 }

@@ -3,29 +3,27 @@
 use mathlib.Core.Path.{◌≡◌, refl, sym, ap, ◌∙◌, subst}
 use mathlib.Core.Bool.{Bool, true, false, not, ◌&&◌, ◌||◌, false≢true}
 use mathlib.Core.List.{List}
-use Prim.Native.Nat.{ℕ, ◌+◌, ◌-◌, ◌*◌, ◌/◌, ◌<◌, ◌≤◌, ◌^◌, min}
+use Prim.Native.Nat.{ℕ, ◌+◌, ◌-◌, ◌<◌, ◌≤◌, ◌^◌, min}
 use native.Mathlib.Nat.{le_trans}
 use native.Mathlib.Omega.{arith}
 use lib.Dec.{leb, ltb}
 use lib.ListN.{get_or}
 use lib.Ieee.{Float}
 use borrow.Author.Tests.{ltb-true, ltb-false, le-leb, lt-leb}
-use Rattle.lists.specs.Run.{Step, taken, halted, Ran, done, refused, on_step}
+use Rattle.lists.specs.Run.{Step, taken, halted, done, refused}
 use Rattle.panel.proofs.BoolLaws.{both, second_false}
 use Rattle.panel.specs.Widths.{step_range}
 use Rattle.panel.proofs.LimitLaws.{packs}
 use Rattle.panel.specs.Limits.{most_lines, most_steps, most_slots}
 use Rattle.panel.specs.Refusals.{count_over, no_room_word, line_number}
-use Rattle.panel.specs.Paths.{width_of}
 use Rattle.panel.specs.declared.kinds.Path.{Path}
-use Rattle.panel.specs.declared.kinds.Verdict.{Verdict}
-use Rattle.panel.specs.declared.kinds.Verdict.TheVariants.{Fine, Against}
+use Rattle.panel.specs.Verdict.{Verdict}
+use Rattle.panel.specs.Verdict.{Fine, Against}
 use Rattle.panel.proofs.PathLaws.{Fits, checked}
 use Rattle.walk.specs.Lent.{walk_at}
-use Rattle.walk.specs.declared.kinds.Pace.{Pace}
 use Rattle.walk.specs.declared.kinds.Walk.{Walk}
-use Rattle.walk.specs.declared.kinds.Walked.{Walked}
-use Rattle.walk.specs.declared.kinds.Walked.TheVariants.{Refused as WalkRefused, Skipped, Line}
+use Rattle.walk.specs.Walked.{Walked}
+use Rattle.walk.specs.Walked.{Refused as WalkRefused, Skipped, Line}
 use Rattle.walk.proofs.Boxes.{fits_boxed}
 use Rattle.walk.proofs.Walks.{StartsAt, line_starts, line_told}
 use Rattle.clip.specs.Page.{clipped_of}

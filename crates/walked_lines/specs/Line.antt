@@ -2,17 +2,17 @@
 use Rattle.std.specs.Prelude.{◌≡◌, Bool, not, List, ℕ, ◌+◌, ◌*◌, ◌≤◌, ◌<◌, leb, Float}
 use Rattle.lists.specs.Run.{Step, taken, halted, Ran, done, refused, on_step}
 use Rattle.panel.specs.Limits.{most_lines}
-use Rattle.panel.specs.Refusals.{done_no, line_number}
+use Rattle.panel.specs.Refusals.{line_number}
 use Rattle.panel.specs.Widths.{line_floats, step_range}
 use Rattle.panel.specs.Paths.{width_of, paths_answer}
 use Rattle.panel.specs.declared.kinds.Path.{Path}
-use Rattle.panel.specs.declared.kinds.Answer.TheVariants.{Done as AnswerDone}
+use Rattle.panel.specs.Answer.{Done as AnswerDone}
 use Rattle.walk.specs.Page.{line_of}
 use Rattle.walk.specs.Lent.{Reached, walk_at}
 use Rattle.walk.specs.declared.kinds.Pace.{Pace}
 use Rattle.walk.specs.declared.kinds.Walk.{Walk}
-use Rattle.walk.specs.declared.kinds.Walked.{Walked}
-use Rattle.walk.specs.declared.kinds.Walked.TheVariants.{Refused as WalkRefused, Skipped, Line}
+use Rattle.walk.specs.Walked.{Walked}
+use Rattle.walk.specs.Walked.{Refused as WalkRefused, Skipped, Line}
 use Rattle.clip.specs.Page.{clipped_of}
 use Rattle.clip.specs.declared.Clip.{Clip}
 use Rattle.util.specs.declared.Vec2.{Vec2}
@@ -20,8 +20,8 @@ use Rattle.acts.specs.Acts.{St}
 use Rattle.acts.specs.declared.rows.Rows.{Rows}
 use Rattle.acts.specs.Line.{Plan, plan_step, halt_if}
 use Rattle.hits.specs.Steps.{hit_at}
-use Rattle.walked_lines.specs.declared.Tallied.{Tallied}
-use Rattle.walked_lines.specs.declared.Tallied.TheVariants.{On, Against}
+use Rattle.walked_lines.specs.Tallied.{Tallied}
+use Rattle.walked_lines.specs.Tallied.{On, Against}
 
 -- ---- a line
 
@@ -60,11 +60,6 @@ abbrev pub unwalked_of : Walked → Tallied
 unwalked_of (WalkRefused n) = Against n
 unwalked_of Skipped = On 0
 unwalked_of (Line w b) = On 0
-
--- the number of a refusal
-abbrev pub number_of : Tallied → ℕ
-number_of (On n) = done_no
-number_of (Against n) = n
 
 -- ---- what the checks of a call leave. Only proofs lean on it: no promise of a public call does
 

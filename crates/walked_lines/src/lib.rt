@@ -8,25 +8,19 @@ ghost use Rattle.acts.specs.Acts.{st_of};
 ghost use Rattle.acts.specs.Line.{plan_step};
 ghost use Rattle.hits.specs.Notes.{note_words, OnTiles};
 ghost use Rattle.walked_lines.specs.Line.{rows_by, plan_of, line_ran, tally_ran, Walkable};
+ghost use Rattle.walked_lines.specs.Tallied.{tallied_told};
 
 use acts::Rows;
 use clip::{Clip, clip_to};
-use panel::kinds::{LineNo, Path, Verdict};
+use panel::kinds::{LineNo, Path};
 use panel::limits::{MOST_SLOTS, MOST_STEPS};
-use panel::refusals::{COUNT_OVER, NO_ROOM};
+use panel::refusals::Refusal;
 use panel::widths::REF_WORDS;
 use walk::kinds::Walk;
 use walk_steps::{check_line, write_line};
 
-// A line counted, with the number of its references; or the number of its refusal.
-#[derive(Clone, Copy)]
-pub enum Tallied {
-    On(u32),
-    Against(u32),
-}
-
 // The rows that a line passes left of its path's box.
-fn rows_by(path: Path, clip: Clip) -> Rows
+pub fn rows_by(path: Path, clip: Clip) -> Rows
     requires { path.x0 ≤ path.x1 }
     ensures { result ≡ rows_by path clip }
 {
@@ -39,7 +33,7 @@ fn rows_by(path: Path, clip: Clip) -> Rows
     }
 }
 
-// A walk, as line number line, after made references. The notes are room to work in.
+// A walk, as line number line, after made references: how many references it makes. The notes are room to work in.
 pub fn count_walk(
     line: LineNo,
     made: u32,
@@ -49,9 +43,9 @@ pub fn count_walk(
     backs: &mut [i32],
     counts: &mut [u32],
     refs: &mut [u32],
-) -> Tallied
+) -> Result<u32, Refusal>
     requires { OnTiles path (length backs.old) (length counts.old) × Walkable walk path × (length notes.old ≡ note_words) }
-    ensures { tally_ran result (st_of backs.new counts.new refs.new) made
+    ensures { tally_ran (tallied_told result) (st_of backs.new counts.new refs.new) made
         ≡ line_ran (plan_step (length refs.old / ref_words) line.0 (plan_of walk path) (st_of backs.old counts.old refs.old made))
         (st_of backs.old counts.old refs.old made) }
 {
@@ -61,20 +55,18 @@ pub fn count_walk(
     let imin = clip.imin;
     let imax = clip.imax;
     if (imin < imax) & (imax > MOST_STEPS) {
-        return Tallied::Against(COUNT_OVER);
+        return Err(Refusal::CountOver);
     }
     let n = imax - imin;
     let after = (made as u64) + (n as u64);
     if (after > (refs.len() / REF_WORDS) as u64) | (after > MOST_SLOTS as u64) {
-        return Tallied::Against(NO_ROOM);
+        return Err(Refusal::NoRoom);
     }
     let rows = rows_by(path, clip);
     let v = check_line(rows, up, pace, path, imin, imax, backs, counts, notes);
-    if let Verdict::Against(why) = v {
-        return Tallied::Against(why);
-    }
+    v?;
     write_line(
         rows, up, pace, path, imin, imax, line, made, notes, backs, counts, refs,
     );
-    Tallied::On(n)
+    Ok(n)
 }

@@ -14,7 +14,7 @@ use Rattle.panel.specs.declared.lines.LineEnds.{LineEnds}
 use Rattle.walk.specs.Page.{line_of}
 use Rattle.walk.specs.Lent.{walked_of}
 use Rattle.walk.specs.declared.kinds.Pace.{Pace}
-use Rattle.walk.specs.declared.kinds.Walked.TheVariants.{Line}
+use Rattle.walk.specs.Walked.{Line}
 use Rattle.walk.proofs.Lines.{goes}
 use Rattle.inside.specs.Inside.{InBox}
 use Rattle.within.specs.Within.{Unclipped}

@@ -5,10 +5,9 @@ use Rattle.panel.specs.declared.kinds.Path.{Path}
 use Rattle.walk.specs.Lent.{walk_at}
 use Rattle.walk.specs.declared.kinds.Pace.{Pace}
 use Rattle.walk.specs.declared.kinds.Walk.{Walk}
-use Rattle.walk.specs.declared.kinds.Walked.TheVariants.{Line as WalkedLine}
+use Rattle.walk.specs.Walked.{Line as WalkedLine}
 use Rattle.clip.specs.Page.{clipped_of}
-use Rattle.within.specs.declared.Within.{Within}
-use Rattle.within.specs.declared.Within.TheVariants.{Line, Other}
+use Rattle.within.specs.Found.{Within, Line, Other}
 
 -- the line at place k is walked over the box b at this pace in n steps, of which none is clipped, and no row is marked; up says whether it goes upward
 pub record Unclipped (nos : List ℕ) (coords : List Float) (paths : List ℕ) (k : ℕ) (pace : Pace) (b : Path) (n : ℕ) (up : Bool) : Type 0 where

@@ -13,7 +13,7 @@ use Rattle.lay_pairs.specs.Layout.{pair_words, pair_size, jumps_of, own_words, p
 use Rattle.write_lists.specs.Lists.{left, call_answer, regions_of, answer_of, lists_of, write_lists_of}
 use Rattle.pairs.specs.declared.Pair.{Pair}
 use Rattle.pairs.specs.declared.Pair.TheVariants.{Fill, Solid}
-use Rattle.panel.specs.declared.kinds.Answer.TheVariants.{Done}
+use Rattle.panel.specs.Answer.{Done}
 
 -- so many words of a region, then 9 in all that are left of it
 abbrev filled : List ℕ → List ℕ

@@ -6,14 +6,14 @@ use Prim.Native.Nat.{ℕ, ◌+◌, ◌-◌, ◌/◌, ◌%◌, ◌≤◌, ◌<◌
 use native.Mathlib.Omega.{arith}
 use borrow.Author.Tests.{lt-ltb}
 use lib.Dec.{leb, ltb}
-use lib.ListN.{length, take}
+use lib.ListN.{length}
 use Rattle.lists.specs.Run.{All}
 use Rattle.lists.specs.Sums.{from}
 use Rattle.panel.specs.Paths.{path_at, path_count}
 use Rattle.panel.specs.declared.kinds.Path.{Path}
 use Rattle.panel.proofs.PathLaws.{checked}
-use Rattle.near.specs.Near.{kept, has_row, has_columns, block_start, row_paths, column_paths, block_paths, wide_columns, narrow_columns, Boxed, Listed}
-use Rattle.near.specs.declared.Held.{Held}
+use Rattle.near.specs.Near.{kept, has_row, has_columns, block_start, row_paths, column_paths, block_paths, wide_columns, narrow_columns, near_of, Boxed, Listed}
+use Rattle.near.specs.declared.Listings.{Listings}
 use Rattle.near.proofs.NearLaws.{kept_yes, kept_no, row_there, column_there}
 use Rattle.pairs.specs.Pairs.{Tables, in_box, on_path, pairs_of, tile_pairs}
 use Rattle.pairs.specs.Ready.{Ready}
@@ -66,9 +66,9 @@ module _ (s : Tables) (x y : ℕ) where
 
 -- ---- the three lists together
 
-pub listed_near : (s : Tables) (cols t : ℕ) (h : Held) (ns ms ks : List ℕ) → Listed s.paths (t % cols) (t / cols) h ns ms ks → Near s cols t (take h.narrow ks)
+pub listed_near : (s : Tables) (cols t : ℕ) (h : Listings) → Listed s.paths (t % cols) (t / cols) h → Near s cols t (near_of h)
 unfolding tile_pairs
-listed_near s cols t h ns ms ks l =
+listed_near s cols t h l =
     let x = t % cols in
     let y = t / cols in
     let rows = row_paths s.paths y in

@@ -14,7 +14,7 @@ use Rattle.panel.specs.Limits.{most_tiles}
 use Rattle.panel.specs.Paths.{path_at, path_count, width_of, height_of, end_of, tile_of}
 use Rattle.panel.specs.Slots.{not32}
 use Rattle.panel.specs.declared.kinds.Path.{Path}
-use Rattle.panel.specs.declared.kinds.Answer.TheVariants.{Done}
+use Rattle.panel.specs.Answer.{Done}
 use Rattle.panel.proofs.LimitLaws.{small}
 use Rattle.panel.proofs.PathLaws.{Checked, checked}
 use Rattle.commands.specs.Numbers.{tile_words}

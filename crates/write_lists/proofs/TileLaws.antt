@@ -14,8 +14,8 @@ use Rattle.panel.specs.Refusals.{too_long_word}
 use Rattle.panel.specs.Widths.{path_words, paint_words}
 use Rattle.panel.specs.Checks.{first_no, unless}
 use Rattle.panel.specs.Paths.{paths_answer}
-use Rattle.panel.specs.declared.kinds.Answer.{Answer}
-use Rattle.panel.specs.declared.kinds.Answer.TheVariants.{Done, Refused}
+use Rattle.panel.specs.Answer.{Answer}
+use Rattle.panel.specs.Answer.{Done, Refused}
 use Rattle.panel.proofs.CheckLaws.{all_ok, unless_done}
 use Rattle.panel.proofs.BoolLaws.{both}
 use Rattle.commands.specs.Numbers.{tile_words}

@@ -8,8 +8,8 @@ use Rattle.panel.specs.Widths.{path_words, paint_words}
 use Rattle.panel.specs.Kinds.{paper_of}
 use Rattle.panel.specs.Checks.{Check, check, first_no, unless}
 use Rattle.panel.specs.Paths.{paths_answer}
-use Rattle.panel.specs.declared.kinds.Answer.{Answer}
-use Rattle.panel.specs.declared.kinds.Answer.TheVariants.{Done, Refused}
+use Rattle.panel.specs.Answer.{Answer}
+use Rattle.panel.specs.Answer.{Done, Refused}
 use Rattle.commands.specs.Numbers.{tile_words}
 use Rattle.pairs.specs.Pairs.{Tables, tile_pairs}
 use Rattle.lay_pairs.specs.Layout.{Chunk, laid, jumps_of, own_words, pen_of, commands_of, written}

@@ -2,8 +2,8 @@
 -- does. Definitions only.
 use Rattle.std.specs.Prelude.{Bool, ◌&&◌, List, ℕ, ◌+◌}
 use Rattle.panel.specs.Checks.{first_no, unless}
-use Rattle.panel.specs.declared.kinds.Answer.{Answer}
-use Rattle.panel.specs.declared.kinds.Answer.TheVariants.{Done}
+use Rattle.panel.specs.Answer.{Answer}
+use Rattle.panel.specs.Answer.{Done}
 use Rattle.pairs.specs.Pairs.{Tables}
 use Rattle.write_lists.specs.Lists.{then_check, long_from, fresh_of, fills_fit, room_checks}
 

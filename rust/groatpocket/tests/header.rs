@@ -35,12 +35,16 @@ fn shouted(name: &str) -> String {
 
 #[test]
 fn refusals() {
-    let (header, code) = (header(), numbers(&text("crates/panel/src/refusals.rt"), "pub const ", ": u32 = "));
-    assert_eq!(code.len(), Refusal::ALL.len() + 1);
-    assert_eq!((header["DONE"], code["DONE"]), (0, 0));
+    let (header, code) = (header(), text("crates/panel/src/refusals.rt"));
+    let done = numbers(&code, "pub const ", ": u32 = ");
+    assert_eq!((done.len(), header["DONE"], done["DONE"]), (1, 0, 0));
+    // each variant of the proved enum is a line such as `    BadBox = 3,`
+    let variants: BTreeMap<String, u32> =
+        numbers(&code, "    ", " = ").into_iter().filter(|(name, _)| name.starts_with(|c: char| c.is_uppercase())).collect();
+    assert_eq!(variants.len(), Refusal::ALL.len());
     for refusal in Refusal::ALL {
-        let name = shouted(&format!("{refusal:?}"));
-        assert_eq!((header[&name], code[&name]), (refusal.number(), refusal.number()), "{name}");
+        let name = format!("{refusal:?}");
+        assert_eq!((header[&shouted(&name)], variants[&name]), (refusal.number(), refusal.number()), "{name}");
     }
 }
 
@@ -80,7 +84,8 @@ fn the_tile() {
     let code = numbers(&text("crates/sides/src/lib.rt"), "pub const ", ": usize = ");
     let side = TILE_SIDE as u32;
     assert_eq!((header()["TILE"], code["TILE_WIDTH"], code["TILE_HEIGHT"]), (side, side, side));
-    assert_eq!(code["TILE_SIZE"] as usize, TILE_PIXELS);
+    assert!(text("crates/sides/src/lib.rt").contains("pub const TILE_SIZE: usize = TILE_WIDTH * TILE_HEIGHT;"));
+    assert_eq!((code["TILE_WIDTH"] * code["TILE_HEIGHT"]) as usize, TILE_PIXELS);
 }
 
 /// One version: the header's text and number, the archive's own, this crate's, and the newest of CHANGELOG.md.
@@ -191,8 +196,10 @@ fn found() {
     for found in each {
         let name = format!("{found:?}").replace("(7)", "");
         assert_eq!(header[&format!("FOUND_{}", shouted(&name))], found.numbers().0, "{name}");
-        let arms = ["", "(_)"].map(|of| format!("Checked::{name}{of} => {},", found.numbers().0));
-        assert!(arms.iter().any(|arm| code.contains(arm)), "{name}");
+        let fault = |of: &str| format!("Ok(Some(Fault::{name}({of}))) => (DONE, {}, {of}),", found.numbers().0);
+        let arms = [format!("Ok(None) => (DONE, {}, 0),", found.numbers().0), fault("j"), fault("t")];
+        let own = if found == Found::Yes { &arms[..1] } else { &arms[1..] };
+        assert!(own.iter().any(|arm| code.contains(arm)), "{name}");
     }
     assert_eq!(header["FOUND_NOTHING"], 0);
 }

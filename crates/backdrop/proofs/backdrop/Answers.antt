@@ -1,16 +1,9 @@
 -- `backdrop::backdrop` meets its contract: by what the checks of the paths answer.
 -- Assumes nothing.
-use mathlib.Core.Path.{sym, ◌∙◌}
-use Rattle.backdrop.proofs.PathSums.{call_no}
+use borrow.Author.Rules.{rules}
+use Rattle.backdrop.specs.Backdrop.{backdrop_of}
 use Rattle.backdrop.proofs.backdrop.Goals as goal
 
-pub returns-in_default : goal.returns-in_default
-returns-in_default c =
-    let a = c.args in
-    call_no a.paths.now a.backdrops.now c.check_paths-a.result c.in_default.is c.check_paths-a.ensures
-
-pub backdrop_checked-requires : goal.backdrop_checked-requires
-backdrop_checked-requires c = sym c.check_paths-a.ensures ∙ c.in-Done.is
-
-pub returns : goal.returns
-returns c = c.backdrop_checked.ensures
+pub returns-in_err-check_paths : goal.returns-in_err-check_paths
+unfolding backdrop_of
+returns-in_err-check_paths c = search rules

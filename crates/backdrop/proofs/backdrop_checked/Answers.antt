@@ -1,5 +1,5 @@
 -- `backdrop::backdrop_checked` meets its contract: the checks of the paths have passed. Assumes nothing.
-use mathlib.Core.Path.{refl, sym, ◌∙◌}
+use mathlib.Core.Path.{sym, ◌∙◌}
 use native.Mathlib.Omega.{arith}
 use lib.ListN.{length}
 use Rattle.panel.proofs.PathLaws.{checked}
@@ -9,9 +9,6 @@ use Rattle.backdrop.proofs.backdrop_checked.Goals as goal
 pub overflow_cast-paths : goal.overflow_cast-paths
 overflow_cast-paths c =
     record { fits = omega (arith, (checked c.args.paths.now (length c.args.backdrops.now) c.requires).few) }
-
-pub sum_paths-requires : goal.sum_paths-requires
-sum_paths-requires c = (refl, c.requires)
 
 pub returns : goal.returns
 returns c =

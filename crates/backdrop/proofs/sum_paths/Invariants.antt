@@ -1,12 +1,9 @@
 use mathlib.Core.Path.{◌≡◌}
-use Prim.Native.Nat.{◌≤◌, ◌-◌}
+use Prim.Native.Nat.{◌-◌}
 use lib.ListN.{length}
 use Rattle.backdrop.specs.Backdrop.{sum_paths}
 use Rattle.backdrop.proofs.sum_paths.Given as goal
 
 abbrev pub invariant-loop-k : goal.invariant-loop-k
 invariant-loop-k l =
-    (l.k ≤ l.n) × (length l.backdrops ≡ length l.initial.backdrops) × (sum_paths l.paths (l.n - l.k) l.k l.backdrops ≡ sum_paths l.paths l.n 0 l.initial.backdrops)
-
-abbrev pub decreases-loop-k : goal.decreases-loop-k
-decreases-loop-k l = l.n - l.k
+    (length l.backdrops ≡ length l.initial.backdrops) × (sum_paths l.paths (l.n - l.k) l.k l.backdrops ≡ sum_paths l.paths l.n 0 l.initial.backdrops)

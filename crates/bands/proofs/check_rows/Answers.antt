@@ -2,7 +2,7 @@
 use Prim.Native.Nat.{ℕ, ◌-◌, ◌*◌, ◌/◌, ◌^◌, ◌≤◌, ◌<◌}
 use native.Mathlib.Nat.{mul-le-mul, mul_left_comm}
 use native.Mathlib.Omega.{arith}
-use borrow.Author.Tests.{eq-eqb, ne_eqb, le-leb, lt-leb}
+use borrow.Author.Tests.{eq-eqb, le-leb, lt-leb}
 use Rattle.sides.specs.Tile.{tile_height}
 use borrow.Author.Rules.{rules}
 use Rattle.bands.proofs.check_rows.Goals as goal
@@ -17,30 +17,8 @@ enough w r p h = omega (arith, mul_left_comm w tile_height r)
 few : (w r p : ℕ) → p / tile_height < w * r → p < w * (tile_height * r)
 few w r p h = omega (arith, mul_left_comm w tile_height r)
 
-pub returns-then-segments-ne0 : goal.returns-then-segments-ne0
-returns-then-segments-ne0 c = rw (ne_eqb _ _ c.if-segments-ne0.true)
-
-pub returns-then-first-end : goal.returns-then-first-end
-returns-then-first-end c = rw (eq-eqb _ _ c.if-segments-ne0.false, lt-leb _ _ c.if-first-end.true)
-
-pub returns-then-end-rows : goal.returns-then-end-rows
-returns-then-end-rows c = rw (eq-eqb _ _ c.if-segments-ne0.false, le-leb _ _ c.if-first-end.false, lt-leb _ _ c.if-end-rows.true)
-
 pub overflow_mul-n : goal.overflow_mul-n
 overflow_mul-n c = record { fits = product _ _ (search rules) (search rules) }
-
-pub returns-then-n : goal.returns-then-n
-returns-then-n c = rw (eq-eqb _ _ c.if-segments-ne0.false, le-leb _ _ c.if-first-end.false, le-leb _ _ c.if-end-rows.false, lt-leb _ _ c.if-n.true)
-
-pub returns-then-cols-width : goal.returns-then-cols-width
-returns-then-cols-width c = rw (
-  eq-eqb _ _ c.if-segments-ne0.false,
-  le-leb _ _ c.if-first-end.false,
-  le-leb _ _
-      c.if-end-rows.false,
-  le-leb _ _ c.if-n.false,
-  lt-leb _ _ c.if-cols-width.true,
-)
 
 pub overflow_mul-width : goal.overflow_mul-width
 overflow_mul-width c = record { fits = product _ _ (search rules) (search rules) }

@@ -1,5 +1,5 @@
 -- `bands::fine_rows` meets its contract. Assumes nothing.
-use mathlib.Core.Path.{◌≡◌, sym, ◌∙◌}
+use mathlib.Core.Path.{◌≡◌, sym, ap, ◌∙◌}
 use mathlib.Core.List.{List}
 use Prim.Native.Nat.{ℕ, ◌+◌, ◌-◌, ◌*◌, ◌^◌, ◌≤◌, ◌<◌}
 use native.Mathlib.Nat.{mul-le-mul}
@@ -10,10 +10,10 @@ use borrow.Author.Tests.{leb-true}
 use Rattle.panel.specs.Checks.{first_no}
 use Rattle.panel.specs.Limits.{most_tiles}
 use Rattle.panel.proofs.CheckLaws.{all_ok}
-use Rattle.panel.specs.declared.kinds.Answer.{Answer}
-use Rattle.panel.specs.declared.kinds.Answer.TheVariants.{Refused}
-use Rattle.panel.specs.declared.kinds.Verdict.{Verdict}
-use Rattle.panel.specs.declared.kinds.Verdict.TheVariants.{Fine, Against}
+use Rattle.panel.specs.Answer.{Answer}
+use Rattle.panel.specs.Answer.{Refused}
+use Rattle.panel.specs.Verdict.{Verdict, Fine, Against, verdict_told}
+use Rattle.panel.proofs.ToldLaws.{handed_on}
 use Rattle.sides.specs.Tile.{tile_width, tile_height}
 use Rattle.fine.specs.Fine.{shown, shown_of}
 use Rattle.bands.specs.Bands.{band_checks, band_tiles, band_of}
@@ -43,16 +43,17 @@ module _ (ws : List ℕ) (segs : List Float) (w c r first end : ℕ) (pixels : L
   unfolding band_of
   yes a after f g = rw (sym e ∙ f) g
 
-pub returns-in-Against : goal.returns-in-Against
-returns-in-Against c =
+pub returns-in_err-check_rows : goal.returns-in_err-check_rows
+returns-in_err-check_rows c =
     let a = c.args in
-    no a.words.now a.segments.now a.width a.cols a.rows a.first a.end a.pixels.now _ c.check_rows-v.ensures _ c.in-Against.is
+    rw (handed_on _ _ c.from_residual.ensures.1)
+    (no a.words.now a.segments.now a.width a.cols a.rows a.first a.end a.pixels.now _ c.check_rows.ensures _ (ap verdict_told c.in_err-check_rows.was))
 
 pub overflow_sub-own : goal.overflow_sub-own
 overflow_sub-own c =
     let a = c.args in
     ordered (length a.segments.now) a.width a.cols a.rows a.first a.end (length a.pixels.now)
-    (sym c.check_rows-v.ensures ∙ c.in_default.is)
+    (sym c.check_rows.ensures ∙ ap verdict_told c.in_ok-check_rows.was)
 
 pub overflow_mul-base : goal.overflow_mul-base
 overflow_mul-base c = record { fits = product _ _ (search rules) (search rules) }
@@ -61,11 +62,10 @@ pub tiles-requires : goal.tiles-requires
 tiles-requires c =
     let a = c.args in
     checked (length a.segments.now) a.width a.cols a.rows a.first a.end (length a.pixels.now)
-    (sym c.check_rows-v.ensures ∙ c.in_default.is)
+    (sym c.check_rows.ensures ∙ ap verdict_told c.in_ok-check_rows.was)
 
 pub returns : goal.returns
 returns c =
     let a = c.args in
     yes a.words.now a.segments.now a.width a.cols a.rows a.first a.end a.pixels.now _
-    c.check_rows-v.ensures c.tiles.result _
-    c.in_default.is c.tiles.ensures
+    c.check_rows.ensures _ _ (ap verdict_told c.in_ok-check_rows.was) c.tiles.ensures

@@ -2,13 +2,12 @@
 -- Assumes nothing.
 use mathlib.Core.Path.{◌≡◌, refl, sym, ap, subst, ◌∙◌}
 use mathlib.Core.List.{List}
-use Prim.Native.Nat.{ℕ, ◌+◌, ◌-◌, ◌*◌, ◌/◌, ◌%◌, ◌≤◌, ◌<◌}
+use Prim.Native.Nat.{ℕ, ◌+◌, ◌*◌, ◌/◌, ◌%◌, ◌≤◌, ◌<◌}
 use lib.ListN.{length}
 use lib.Ieee.{Float}
 use Rattle.panel.specs.Limits.{most_tiles}
-use Rattle.panel.specs.declared.kinds.Answer.TheVariants.{Done, Refused}
-use Rattle.panel.specs.declared.kinds.Verdict.{Verdict}
-use Rattle.panel.specs.declared.kinds.Verdict.TheVariants.{Fine, Against}
+use Rattle.panel.specs.Answer.{Done, Refused}
+use Rattle.panel.specs.Verdict.{Verdict, Fine, Against, verdict_told}
 use Rattle.sides.specs.Tile.{tile_width, tile_height}
 use Rattle.screen_rows.specs.Rows.{put_tile, packed}
 use Rattle.screen_tile.specs.Tile.{ends_at, if_fine, colour_at, tile_pixels}
@@ -18,7 +17,6 @@ use Rattle.fine.proofs.Ranges.{some, on_screen_lem}
 use Rattle.bands.specs.Bands.{band_tiles}
 use Rattle.bands.proofs.BandLaws.{no_tiles, tile_stops, tile_goes}
 use native.Mathlib.Omega.{arith}
-use borrow.Author.Rules.{rules}
 use Rattle.bands.proofs.tiles.Goals as goal
 
 -- a tile of the band lies on its rows
@@ -42,50 +40,50 @@ module _ (ws : List ℕ) (segs : List Float) (w cols base to k : ℕ) (pixels₀
     go d = ap (band_tiles ws segs w cols base (k + 1) to) f ∙ sym (tile_goes ws segs w cols base k to pixels h (sym d ∙ e)) ∙ inv
 
 pub loop-k-init : goal.loop-k-init
-loop-k-init c = (search rules, refl, refl, ap length c.no_colour-rgba.ensures ∙ no_colour_length)
+loop-k-init c = (refl, refl, ap length c.no_colour-rgba.ensures ∙ no_colour_length)
 
 pub nonzero_rem-tx : goal.nonzero_rem-tx
-nonzero_rem-tx c = some c.args.cols c.args.rows c.loop-k.k c.loop-k-test.true
+nonzero_rem-tx c = some c.args.cols c.args.rows c.loop-k.k (omega arith)
 
 pub nonzero_div-ty : goal.nonzero_div-ty
-nonzero_div-ty c = some c.args.cols c.args.rows c.loop-k.k c.loop-k-test.true
+nonzero_div-ty c = some c.args.cols c.args.rows c.loop-k.k (omega arith)
 
-pub tile-v-requires : goal.tile-v-requires
-tile-v-requires c =
+pub tile-requires : goal.tile-requires
+tile-requires c =
     let a = c.args in
     let l = c.loop-k in
-    let h = on_band a.width a.cols a.rows a.base l.k _ c.loop-k-test.true c.requires.0 c.requires.1
-    (subst (λ (n : ℕ). a.width * (tile_height * a.rows) ≤ n) (sym l.invariant.1) c.requires.2) in
-    (h.0, h.1, h.2, h.3, h.4, l.invariant.3)
+    let h = on_band a.width a.cols a.rows a.base l.k _ (omega arith) c.requires.0 c.requires.1
+    (subst (λ (n : ℕ). a.width * (tile_height * a.rows) ≤ n) (sym l.invariant.0) c.requires.2) in
+    (h.0, h.1, h.2, h.3, h.4, l.invariant.2)
 
-pub shape_of-pixels-in-Against : goal.shape_of-pixels-in-Against
-shape_of-pixels-in-Against c = c.tile-v.auto.pixels ∙ c.loop-k.invariant.1
+pub shape_of-pixels-in-Err : goal.shape_of-pixels-in-Err
+shape_of-pixels-in-Err c = c.tile.auto.pixels ∙ c.loop-k.invariant.0
 
-pub returns-in-Against : goal.returns-in-Against
-returns-in-Against c =
+pub returns-in-Err : goal.returns-in-Err
+returns-in-Err c =
     let a = c.args in
     let l = c.loop-k in
-    let t = c.tile-v in
-    stop a.words.now a.segments.now a.width a.cols a.base (a.cols * a.rows) l.k _ l.pixels l.invariant.2
-    c.loop-k-test.true _ _ t.ensures.0 t.ensures.1 _ c.in-Against.is
+    let t = c.tile in
+    rw c.at.ensures
+    (stop a.words.now a.segments.now a.width a.cols a.base (a.cols * a.rows) l.k _ l.pixels l.invariant.1
+    (omega arith) _ _ t.ensures.0 t.ensures.1 _ (ap verdict_told c.in-Err.is))
 
 pub loop-k-preserved : goal.loop-k-preserved
 loop-k-preserved c =
     let a = c.args in
     let l = c.loop-k in
-    let t = c.tile-v in (
-      search rules,
-      t.auto.pixels ∙ l.invariant.1,
-      go a.words.now a.segments.now a.width a.cols a.base (a.cols * a.rows) l.k _ l.pixels l.invariant.2
-          c.loop-k-test.true _ _ t.ensures.0 t.ensures.1 c.in_default.is,
+    let t = c.tile in (
+      t.auto.pixels ∙ l.invariant.0,
+      go a.words.now a.segments.now a.width a.cols a.base (a.cols * a.rows) l.k _ l.pixels l.invariant.1
+          (omega arith) _ _ t.ensures.0 t.ensures.1 (ap verdict_told c.in_default.is),
       t.ensures.2,
     )
 
 pub shape_of-pixels : goal.shape_of-pixels
-shape_of-pixels c = c.loop-k.invariant.1
+shape_of-pixels c = c.loop-k.invariant.0
 
 pub returns : goal.returns
 returns c =
     let a = c.args in
     let l = c.loop-k in
-    over a.words.now a.segments.now a.width a.cols a.base (a.cols * a.rows) l.k _ l.pixels l.invariant.2 c.loop-k-test.false
+    over a.words.now a.segments.now a.width a.cols a.base (a.cols * a.rows) l.k _ l.pixels l.invariant.1 (omega arith)

@@ -4,8 +4,8 @@ use Rattle.clip.proofs.leave.Goals as goal
 
 pub returns-then-w : goal.returns-then-w
 unfolding leave_of
-returns-then-w c = rw (c.if-w.true, c.min_u32-imax.ensures, c.to_u32-i.ensures)
+returns-then-w c = rw (c.if-w.true, c.min-imax.ensures, c.to_u32-i.ensures)
 
 pub returns : goal.returns
 unfolding leave_of
-returns c = rw (c.if-w.false, c.max_u32-imin.ensures, c.to_u32-i.ensures)
+returns c = rw (c.if-w.false, c.max-imin.ensures, c.to_u32-i.ensures)

@@ -20,5 +20,5 @@ returns-else-depth-eq0 t c =
     let next = c.halve-next.ensures in
     let last = c.halve.ensures in (
       next_is _ _ _ _ c.if-depth-eq0.false next.0 last.0,
-      done_is _ _ _ _ _ _ _ _ _ c.if-depth-eq0.false c.left-l.ensures c.right-r.ensures next.0 next.1 last.1,
+      done_is _ _ _ _ _ _ _ _ _ c.if-depth-eq0.false c.halves.ensures.left c.halves.ensures.right next.0 next.1 last.1,
     )

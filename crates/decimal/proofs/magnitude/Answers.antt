@@ -49,10 +49,10 @@ pub returns-then-n-le16777216 : goal.returns-then-n-le16777216
 returns-then-n-le16777216 c = small _ c.if-n-le16777216.true
 
 pub int_to_float-result-2 : goal.int_to_float-result-2
-int_to_float-result-2 c = fits_float _ (large _ _ _ c.scale-w.ensures c.nearest-q.ensures).0
+int_to_float-result-2 c = fits_float _ (large _ _ _ c.scale-w.ensures (rw (c.from.ensures, c.from-2.ensures) at c.nearest-q.ensures)).0
 
 pub int_to_float-result-3 : goal.int_to_float-result-3
 int_to_float-result-3 c = fits_float _ (w_most _ _ c.scale-w.ensures)
 
 pub returns : goal.returns
-returns c = (large _ _ _ c.scale-w.ensures c.nearest-q.ensures).1
+returns c = (large _ _ _ c.scale-w.ensures (rw (c.from.ensures, c.from-2.ensures) at c.nearest-q.ensures)).1

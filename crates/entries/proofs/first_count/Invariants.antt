@@ -1,13 +1,8 @@
 use mathlib.Core.Path.{◌≡◌}
 use mathlib.Core.Bool.{false}
-use Prim.Native.Nat.{ℕ, ◌≤◌, ◌<◌, ◌-◌}
-use lib.ListN.{length}
+use Prim.Native.Nat.{ℕ, ◌<◌}
 use Rattle.entries.specs.Entries.{count_fault}
 use Rattle.entries.proofs.first_count.Given as goal
 
 abbrev pub invariant-loop-t : goal.invariant-loop-t
-invariant-loop-t l =
-    (l.t ≤ length l.counts) × ((i : ℕ) → i < l.t → count_fault l.counts l.work i ≡ false)
-
-abbrev pub decreases-loop-t : goal.decreases-loop-t
-decreases-loop-t l = length l.counts - l.t
+invariant-loop-t l = (i : ℕ) → i < l.t → count_fault l.counts l.work i ≡ false

@@ -1,5 +1,4 @@
 use mathlib.Core.Path.{◌≡◌}
-use Prim.Native.Nat.{◌≤◌, ◌-◌}
 use Rattle.lists.specs.Sums.{first}
 use Rattle.meeting.specs.Found.{KeptBelow}
 use Rattle.entries.specs.Noted.{SumsNoted}
@@ -7,7 +6,4 @@ use Rattle.entries.proofs.sum_up.Given as goal
 
 abbrev pub invariant-loop-t : goal.invariant-loop-t
 invariant-loop-t l =
-    (l.t ≤ l.n) × KeptBelow l.at l.initial.work l.work × SumsNoted l.initial.work l.work l.at l.t × (l.sum ≡ first l.initial.work l.t)
-
-abbrev pub decreases-loop-t : goal.decreases-loop-t
-decreases-loop-t l = l.n - l.t
+    KeptBelow l.at l.initial.work l.work × SumsNoted l.initial.work l.work l.at l.t × (l.sum ≡ first l.initial.work l.t)

@@ -1,14 +1,8 @@
-use mathlib.Core.Path.{◌≡◌}
-use Prim.Native.Nat.{◌≤◌, ◌+◌, ◌-◌}
-use lib.ListN.{length}
+use Prim.Native.Nat.{◌+◌}
 use Rattle.acts.specs.Acts.{St, st_of}
 use Rattle.few_steps.specs.Few.{Came}
 use Rattle.few_steps.proofs.undo.Given as goal
 
 abbrev pub invariant-loop-i : goal.invariant-loop-i
 invariant-loop-i l =
-    (l.i ≤ l.n) × (length l.backs ≡ length l.initial.backs) × (length l.counts ≡ length l.initial.counts) × (length l.refs ≡ length l.initial.refs)
-    × ((s : St) → Came l.up l.notes l.n s (st_of l.initial.backs l.initial.counts l.initial.refs (l.made + l.n)) → Came l.up l.notes l.i s (st_of l.backs l.counts l.refs (l.made + l.i)))
-
-abbrev pub decreases-loop-i : goal.decreases-loop-i
-decreases-loop-i l = l.i
+    (s : St) → Came l.up l.notes l.n s (st_of l.initial.backs l.initial.counts l.initial.refs (l.made + l.n)) → Came l.up l.notes l.i s (st_of l.backs l.counts l.refs (l.made + l.i))

@@ -1,5 +1,5 @@
 -- `fine::fine` meets its contract. Assumes nothing.
-use mathlib.Core.Path.{◌≡◌, sym, ◌∙◌}
+use mathlib.Core.Path.{◌≡◌, sym, ap, ◌∙◌}
 use mathlib.Core.List.{List}
 use Prim.Native.Nat.{ℕ, ◌*◌, ◌≤◌}
 use lib.ListN.{length}
@@ -8,10 +8,10 @@ use borrow.Author.Tests.{leb-true}
 use Rattle.panel.specs.Checks.{first_no}
 use Rattle.panel.specs.Limits.{most_tiles}
 use Rattle.panel.proofs.CheckLaws.{all_ok}
-use Rattle.panel.specs.declared.kinds.Answer.{Answer}
-use Rattle.panel.specs.declared.kinds.Answer.TheVariants.{Refused}
-use Rattle.panel.specs.declared.kinds.Verdict.{Verdict}
-use Rattle.panel.specs.declared.kinds.Verdict.TheVariants.{Fine, Against}
+use Rattle.panel.specs.Answer.{Answer}
+use Rattle.panel.specs.Answer.{Refused}
+use Rattle.panel.specs.Verdict.{Verdict, Fine, Against, verdict_told}
+use Rattle.panel.proofs.ToldLaws.{handed_on}
 use Rattle.sides.specs.Tile.{tile_width, tile_height}
 use Rattle.fine.specs.Fine.{fine_checks, shown, shown_of, tiles_of, fine_of}
 use Rattle.fine.proofs.fine.Goals as goal
@@ -32,20 +32,20 @@ module _ (ws : List ℕ) (segs : List Float) (w c r from to : ℕ) (pixels : Lis
   unfolding fine_of
   yes a after f g = rw (sym e ∙ f) g
 
-pub returns-in-Against : goal.returns-in-Against
-returns-in-Against c =
+pub returns-in_err-check_screen : goal.returns-in_err-check_screen
+returns-in_err-check_screen c =
     let a = c.args in
-    no a.words.now a.segments.now a.width a.cols a.rows a.from a.to a.pixels.now _ c.check_screen-v.ensures _ c.in-Against.is
+    rw (handed_on _ _ c.from_residual.ensures.1)
+    (no a.words.now a.segments.now a.width a.cols a.rows a.from a.to a.pixels.now _ c.check_screen.ensures _ (ap verdict_told c.in_err-check_screen.was))
 
 pub tiles-requires : goal.tiles-requires
 tiles-requires c =
     let a = c.args in
     checked (length a.segments.now) a.width a.cols a.rows a.from a.to (length a.pixels.now)
-    (sym c.check_screen-v.ensures ∙ c.in_default.is)
+    (sym c.check_screen.ensures ∙ ap verdict_told c.in_ok-check_screen.was)
 
 pub returns : goal.returns
 returns c =
     let a = c.args in
     yes a.words.now a.segments.now a.width a.cols a.rows a.from a.to a.pixels.now _
-    c.check_screen-v.ensures c.tiles.result _
-    c.in_default.is c.tiles.ensures
+    c.check_screen.ensures _ _ (ap verdict_told c.in_ok-check_screen.was) c.tiles.ensures

@@ -1,12 +1,11 @@
 -- `fine::tiles` meets its contract. The invariant: what is left, from tile t with the present pixels, gives what the whole gives. Assumes nothing.
 use mathlib.Core.Path.{◌≡◌, refl, sym, ap, subst, ◌∙◌}
 use mathlib.Core.List.{List}
-use Prim.Native.Nat.{ℕ, ◌+◌, ◌-◌, ◌*◌, ◌/◌, ◌%◌, ◌≤◌, ◌<◌}
+use Prim.Native.Nat.{ℕ, ◌+◌, ◌*◌, ◌/◌, ◌%◌, ◌≤◌, ◌<◌}
 use lib.ListN.{length}
 use lib.Ieee.{Float}
-use Rattle.panel.specs.declared.kinds.Answer.TheVariants.{Done, Refused}
-use Rattle.panel.specs.declared.kinds.Verdict.{Verdict}
-use Rattle.panel.specs.declared.kinds.Verdict.TheVariants.{Fine, Against}
+use Rattle.panel.specs.Answer.{Done, Refused}
+use Rattle.panel.specs.Verdict.{Verdict, Fine, Against, verdict_told}
 use Rattle.sides.specs.Tile.{tile_height}
 use Rattle.screen_rows.specs.Rows.{put_tile, packed}
 use Rattle.screen_tile.specs.Tile.{ends_at, if_fine, colour_at, tile_pixels}
@@ -14,7 +13,6 @@ use Rattle.fine.specs.Fine.{shown, shown_of, tiles_of}
 use Rattle.screen_tile.proofs.Room.{no_colour_length}
 use Rattle.fine.proofs.Ranges.{some, on_screen_lem, no_tiles, tile_stops, tile_goes}
 use native.Mathlib.Omega.{arith}
-use borrow.Author.Rules.{rules}
 use Rattle.fine.proofs.tiles.Goals as goal
 
 module _ (ws : List ℕ) (segs : List Float) (w cols from to t : ℕ) (pixels₀ pixels : List ℕ) (inv : tiles_of ws segs w cols t to pixels ≡ tiles_of ws segs w cols from to pixels₀) where
@@ -33,7 +31,7 @@ module _ (ws : List ℕ) (segs : List Float) (w cols from to t : ℕ) (pixels₀
     go d = ap (tiles_of ws segs w cols (t + 1) to) f ∙ sym (tile_goes ws segs w cols t to pixels h (sym d ∙ e)) ∙ inv
 
 pub loop-t-init : goal.loop-t-init
-loop-t-init c = (search rules, search rules, refl, refl, ap length c.no_colour-rgba.ensures ∙ no_colour_length)
+loop-t-init c = (refl, refl, ap length c.no_colour-rgba.ensures ∙ no_colour_length)
 
 pub nonzero_rem-tx : goal.nonzero_rem-tx
 nonzero_rem-tx c = some c.args.cols c.args.rows c.loop-t.t (omega arith)
@@ -41,42 +39,41 @@ nonzero_rem-tx c = some c.args.cols c.args.rows c.loop-t.t (omega arith)
 pub nonzero_div-ty : goal.nonzero_div-ty
 nonzero_div-ty c = some c.args.cols c.args.rows c.loop-t.t (omega arith)
 
-pub tile-v-requires : goal.tile-v-requires
-tile-v-requires c =
+pub tile-requires : goal.tile-requires
+tile-requires c =
     let a = c.args in
     let l = c.loop-t in
     let h = on_screen_lem a.width a.cols a.rows l.t _ (omega arith) c.requires.2 c.requires.3
-    (subst (λ (n : ℕ). a.width * (tile_height * a.rows) ≤ n) (sym l.invariant.2) c.requires.4) in
-    (h.0, h.1, h.2, h.3, h.4, l.invariant.4)
+    (subst (λ (n : ℕ). a.width * (tile_height * a.rows) ≤ n) (sym l.invariant.0) c.requires.4) in
+    (h.0, h.1, h.2, h.3, h.4, l.invariant.2)
 
-pub shape_of-pixels-in-Against : goal.shape_of-pixels-in-Against
-shape_of-pixels-in-Against c = c.tile-v.auto.pixels ∙ c.loop-t.invariant.2
+pub shape_of-pixels-in-Err : goal.shape_of-pixels-in-Err
+shape_of-pixels-in-Err c = c.tile.auto.pixels ∙ c.loop-t.invariant.0
 
-pub returns-in-Against : goal.returns-in-Against
-returns-in-Against c =
+pub returns-in-Err : goal.returns-in-Err
+returns-in-Err c =
     let a = c.args in
     let l = c.loop-t in
-    let e = c.tile-v.ensures in
-    stop a.words.now a.segments.now a.width a.cols a.from a.to l.t _ l.pixels l.invariant.3
-    c.loop-t-test.true _ _ e.0 e.1 _ c.in-Against.is
+    let e = c.tile.ensures in
+    rw c.at.ensures
+    (stop a.words.now a.segments.now a.width a.cols a.from a.to l.t _ l.pixels l.invariant.1
+    (omega arith) _ _ e.0 e.1 _ (ap verdict_told c.in-Err.is))
 
 pub loop-t-preserved : goal.loop-t-preserved
 loop-t-preserved c =
     let a = c.args in
     let l = c.loop-t in
-    let e = c.tile-v.ensures in (
-      search rules,
-      search rules,
-      c.tile-v.auto.pixels ∙ l.invariant.2,
-      go a.words.now a.segments.now a.width a.cols a.from a.to l.t _ l.pixels l.invariant.3
-          c.loop-t-test.true _ _ e.0 e.1 c.in_default.is,
+    let e = c.tile.ensures in (
+      c.tile.auto.pixels ∙ l.invariant.0,
+      go a.words.now a.segments.now a.width a.cols a.from a.to l.t _ l.pixels l.invariant.1
+          (omega arith) _ _ e.0 e.1 (ap verdict_told c.in_default.is),
       e.2,
     )
 
 pub shape_of-pixels : goal.shape_of-pixels
-shape_of-pixels c = c.loop-t.invariant.2
+shape_of-pixels c = c.loop-t.invariant.0
 
 pub returns : goal.returns
 returns c =
     let a = c.args in
-    over a.words.now a.segments.now a.width a.cols a.from a.to c.loop-t.t _ c.loop-t.pixels c.loop-t.invariant.3 c.loop-t-test.false
+    over a.words.now a.segments.now a.width a.cols a.from a.to c.loop-t.t _ c.loop-t.pixels c.loop-t.invariant.1 (omega arith)

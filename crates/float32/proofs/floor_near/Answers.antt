@@ -1,6 +1,5 @@
 -- `float32::floor_near` meets its contract: a shift up to where the floats are whole and back (`Magic.antt`). Assumes nothing.
-use mathlib.Core.Bool.{true, false}
-use mathlib.Core.Logic.{◌⊎◌, inl, inr, ⊎_elim}
+use mathlib.Core.Logic.{inl, inr}
 use lib.Ieee.{binary32, sub, neg, of_bits}
 use Rattle.float32.proofs.Tests.{yes}
 use Rattle.float32.proofs.Magic.{near, Least, floor_least}

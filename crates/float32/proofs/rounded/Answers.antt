@@ -1,6 +1,5 @@
 -- `float32::rounded` meets its contract: the units kept are those of `closest`, and `nearest_is` says the rest. Assumes nothing.
 use mathlib.Core.Path.{◌≡◌, ◌∙◌}
-use mathlib.Core.Logic.{⊎_elim}
 use Prim.Native.Nat.{ℕ, ◌*◌, ◌/◌, ◌%◌, ◌^◌, ◌≤◌, ◌<◌, compare}
 use native.Mathlib.Nat.{mod-lt, le_trans, lt_of_lt_of_le}
 use native.Mathlib.Omega.{arith}

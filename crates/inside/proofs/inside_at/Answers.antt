@@ -28,7 +28,7 @@ unfolding line_at
 checked c =
     let at = c.args.place * line_floats in
     let l = line_at c.args.coords.now c.args.place in
-    let known = c.shared_slice_known-1.given in
+    let known = c.type_inv.coords in
     ends_reach l.p0 l.p1 c.args.b c.requires.0 (known at) (known (at + 1)) (known (at + 2)) (known (at + 3))
     (edges_told (ends_of l.p0 l.p1).s0 (ends_of l.p0 l.p1).s1 c.args.b (within c))
 

@@ -1,11 +1,7 @@
 -- `looks::found_at` meets its contract: the test picks the case. Assumes nothing.
 use borrow.Author.Tests.{lt-ltb, le-ltb}
-use native.Mathlib.Omega.{arith}
 use Rattle.looks.specs.Look.{found_of}
 use Rattle.looks.proofs.found_at.Goals as goal
-
-pub walk_at-requires : goal.walk_at-requires
-walk_at-requires c = (c.if-line-path_nos.true, omega arith)
 
 pub returns-then-line-path_nos : goal.returns-then-line-path_nos
 unfolding found_of

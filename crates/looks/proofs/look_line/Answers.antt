@@ -1,11 +1,7 @@
 -- `looks::look_line` meets its contract: a step by its z's, and by its corner from the walk's floats, is the step. Assumes nothing.
 use Rattle.looks.proofs.LookLaws.{step_fits}
-use Rattle.looks.proofs.CarryLaws.{z_is, step_by}
+use Rattle.looks.proofs.CarryLaws.{step_by}
 use Rattle.looks.proofs.look_line.Goals as goal
-
-pub step_with-step-requires : goal.step_with-step-requires
-step_with-step-requires c =
-    (c.requires.2, c.requires.0, c.requires.4, c.edges_of.ensures, z_is c.args.w.pace c.args.s.at c.args.s c.requires.5)
 
 pub look_step-requires : goal.look_step-requires
 look_step-requires c =

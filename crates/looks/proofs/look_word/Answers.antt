@@ -2,10 +2,10 @@
 use Prim.Native.Nat.{◌+◌, ◌≤◌, ◌<◌}
 use mathlib.Core.Path.{◌≡◌, sym, ◌∙◌}
 use mathlib.Core.Bool.{true, false}
-use borrow.Author.Tests.{lt-ltb, le-ltb, ltb-false}
+use borrow.Author.Tests.{lt-ltb, le-ltb}
 use native.Mathlib.Omega.{arith}
-use Rattle.panel.specs.Slots.{skips, slot_of, handed_from}
-use Rattle.looks.specs.Look.{word_to}
+use Rattle.panel.specs.Slots.{skips, slot_of}
+use Rattle.looks.specs.Look.{piece_to, word_to}
 use Rattle.looks.proofs.look_word.Goals as goal
 
 pub returns-then-skips : goal.returns-then-skips
@@ -14,9 +14,6 @@ returns-then-skips c =
     let empty : skips c.args.word ≡ true = sym c.skips.ensures ∙ c.if-skips.true in
     rw empty
 
-pub overflow_add-slot : goal.overflow_add-slot
-overflow_add-slot c = omega (arith, c.flipped.ensures, ltb-false c.args.word handed_from (sym c.skips.ensures ∙ c.if-skips.false))
-
 pub returns-then-slot-slots : goal.returns-then-slot-slots
 unfolding word_to
 returns-then-slot-slots c =
@@ -24,15 +21,16 @@ returns-then-slot-slots c =
     let full : skips c.args.word ≡ false = sym c.skips.ensures ∙ c.if-skips.false in
     rw (full, lt-ltb _ _ over)
 
+pub returns-in_default : goal.returns-in_default
+unfolding word_to piece_to
+returns-in_default c =
+    let room : slot_of c.args.word c.args.slice + 1 ≤ c.args.slots = omega (arith, c.flipped.ensures) in
+    let full : skips c.args.word ≡ false = sym c.skips.ensures ∙ c.if-skips.false in
+    rw (full, le-ltb _ _ room, ← c.piece_of-piece.ensures, c.in_default.is)
+
 pub returns : goal.returns
-unfolding word_to
+unfolding word_to piece_to
 returns c =
     let room : slot_of c.args.word c.args.slice + 1 ≤ c.args.slots = omega (arith, c.flipped.ensures) in
     let full : skips c.args.word ≡ false = sym c.skips.ensures ∙ c.if-skips.false in
-    rw (
-      full,
-      le-ltb _ _ room,
-      c.look_piece.ensures,
-      c.piece_of.ensures,
-      c.flipped.ensures,
-    )
+    rw (full, le-ltb _ _ room, ← c.piece_of-piece.ensures, c.in-Some.is, c.flipped.ensures)

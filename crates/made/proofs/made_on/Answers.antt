@@ -1,5 +1,6 @@
 -- `made::made_on` meets its contract. By its tests: below the first step, past the last, or between.
 -- Assumes nothing.
+use mathlib.Core.Path.{refl}
 use Rattle.made.proofs.Laws.{made_low, made_high, made_in}
 use Rattle.made.proofs.made_on.Goals as goal
 
@@ -15,10 +16,14 @@ returns-then-imax-i c =
     let k = c.clip_to-clip in
     made_high a.walk a.path k.result k.ensures a.i c.if-i-imin.false c.if-imax-i.true
 
-pub returns : goal.returns
-returns c =
+pub returns-in-Some : goal.returns-in-Some
+returns-in-Some c =
     let a = c.args in
     let k = c.clip_to-clip in
-    let s = c.step_by in
-    made_in a.walk a.path k.result k.ensures a.i c.if-i-imin.false c.if-imax-i.false
-    s.result s.ensures c.made_step.result c.made_step.ensures
+    made_in a.walk a.path k.result k.ensures a.i c.if-i-imin.false c.if-imax-i.false _ c.in-Some.ensures _ refl
+
+pub returns-in-None : goal.returns-in-None
+returns-in-None c =
+    let a = c.args in
+    let k = c.clip_to-clip in
+    made_in a.walk a.path k.result k.ensures a.i c.if-i-imin.false c.if-imax-i.false _ c.in-None.ensures _ refl

@@ -1,11 +1,8 @@
 use mathlib.Core.Path.{◌≡◌}
-use Prim.Native.Nat.{◌≤◌, ◌-◌, ◌+◌}
+use Prim.Native.Nat.{◌-◌, ◌+◌}
 use Rattle.lists.specs.Sums.{sum}
 use Rattle.meeting.specs.Found.{KeptBelow, FlagsNew}
 use Rattle.meeting.proofs.flag.Given as goal
 
 abbrev pub invariant-loop-k : goal.invariant-loop-k
-invariant-loop-k l = (l.a ≤ l.k) × (l.k ≤ l.b) × KeptBelow l.a l.initial.work l.work × FlagsNew l.initial.work l.work l.a l.k × (sum l.work ≡ sum l.initial.work + (l.k - l.a))
-
-abbrev pub decreases-loop-k : goal.decreases-loop-k
-decreases-loop-k l = l.b - l.k
+invariant-loop-k l = KeptBelow l.a l.initial.work l.work × FlagsNew l.initial.work l.work l.a l.k × (sum l.work ≡ sum l.initial.work + (l.k - l.a))

@@ -5,15 +5,13 @@ use mathlib.Core.Path.{◌≡◌, refl, ap, ◌∙◌}
 use mathlib.Core.Logic.{inl}
 use Prim.Native.Nat.{ℕ, ◌≤◌, ◌<◌, ◌-◌, ◌+◌}
 use native.Mathlib.Nat.{le_refl}
-use borrow.Author.Count.{falls}
 use lib.ListN.{length, get_or}
-use Rattle.meeting.specs.Found.{place_of}
-use Rattle.meeting.proofs.Stores.{kept_all}
+use Rattle.lists.specs.Sums.{sum}
+use Rattle.meeting.specs.Found.{KeptBelow, place_of}
+use Rattle.meeting.proofs.Stores.{kept_all, OnesFrom}
 use Rattle.meeting.proofs.Windows.{place_fits, places_fit, pass_kept, pass_goes, pass_stops, pass_words}
 use Rattle.meeting.proofs.pass.Goals as goal
-
-here_more : (i n : ℕ) → i < n → i + 1 ≤ n
-here_more i n h = omega arith
+use Rattle.meeting.proofs.pass.Goals.{After-flag-stop}
 
 lt_irrefl : (n : ℕ) → n < n → ⊥
 lt_irrefl n h = omega arith
@@ -23,7 +21,6 @@ overflow_sub-width c = omega arith
 
 pub loop-i-init : goal.loop-i-init
 loop-i-init c = (
-  omega arith,
   kept_all _ _,
   (λ p h. inl (c.requires.2 (c.args.free + p) (omega arith), λ j l. absurd (omega arith))),
   (λ i j k h. absurd (omega arith)),
@@ -36,16 +33,16 @@ pub overflow_add-start : goal.overflow_add-start
 overflow_add-start c = omega arith
 
 pub bounds-work-at : goal.bounds-work-at
-bounds-work-at c = omega (arith, c.loop-i.invariant.1.same_length)
+bounds-work-at c = omega (arith, c.loop-i.invariant.0.same_length)
 
 pub overflow_cast-start : goal.overflow_cast-start
-overflow_cast-start c = omega (arith, c.slice_known-in-loop-i-1.given (c.args.at + c.loop-i.i))
+overflow_cast-start c = omega (arith, c.type_inv.work (c.args.at + c.loop-i.i))
 
 pub overflow_cast-end : goal.overflow_cast-end
 overflow_cast-end c = omega arith
 
 pub overflow_add-end : goal.overflow_add-end
-overflow_add-end c = omega (arith, c.slice_known-in-loop-i-1.given (c.args.at + c.loop-i.i))
+overflow_add-end c = omega (arith, c.type_inv.work (c.args.at + c.loop-i.i))
 
 pub overflow_add-from : goal.overflow_add-from
 overflow_add-from c =
@@ -74,55 +71,39 @@ flag-stop-requires c =
     let h =
     places_fit s c.len_at.result a.low (length a.work.now - a.free) a.free (length a.work.now) _ _ c.place_of.ensures
     c.place_of-in-loop-i.ensures refl c.requires.1 in
-    (h.0, rw l.invariant.1.same_length h.1)
+    (h.0, rw l.invariant.0.same_length h.1)
+
+-- the room and the number of words looked at, after a range
+looked : (c : After-flag-stop) → KeptBelow c.args.free c.args.work.now c.flag-stop.new.work × OnesFrom c.args.free c.flag-stop.new.work
+    × (sum c.flag-stop.new.work ≡ sum c.args.work.now + (c.loop-i.words + (c.flag-stop.result - (c.args.free + c.place_of.result))))
+    × (c.loop-i.words + (c.flag-stop.result - (c.args.free + c.place_of.result)) ≤ length c.args.work.now - c.args.free)
+looked c =
+    let a = c.args in
+    let p = c.requires in
+    let l = c.loop-i in
+    let v = l.invariant in
+    let wide = length a.work.now - a.free in
+    let s = get_or l.work (a.at + l.i) 0 in
+    let from = c.place_of in
+    let to = c.place_of-in-loop-i in
+    let f = c.flag-stop in
+    let end = to.ensures ∙ ap (λ (k : ℕ). place_of (s + k) a.low wide) c.len_at.ensures in
+    let kept =
+    pass_kept a.work.now l.work a.lens.now a.at a.n a.free a.low wide l.i from.result to.result p.0 c.loop-i-test.true v.0 from.ensures end v.1
+    f.new.work f.result v.2 f.ensures.0 f.ensures.1 in
+    let words =
+    pass_words a.free (a.free + from.result) (a.free + to.result) f.result wide l.words a.work.now l.work f.new.work p.1 refl kept f.ensures.1
+    v.3 v.4 in
+    (kept, words.0, words.1, words.2)
 
 pub overflow_sub-words : goal.overflow_sub-words
 overflow_sub-words c = omega (arith, c.flag-stop.ensures.1.from)
 
 pub overflow_add-words : goal.overflow_add-words
-overflow_add-words c =
-    let a = c.args in
-    let p = c.requires in
-    let l = c.loop-i in
-    let v = l.invariant in
-    let wide = length a.work.now - a.free in
-    let s = get_or l.work (a.at + l.i) 0 in
-    let here : l.i < a.n = c.loop-i-test.true in
-    let from = c.place_of in
-    let to = c.place_of-in-loop-i in
-    let f = c.flag-stop in
-    let end = to.ensures ∙ ap (λ (k : ℕ). place_of (s + k) a.low wide) c.len_at.ensures in
-    let kept =
-    pass_kept a.work.now l.work a.lens.now a.at a.n a.free a.low wide l.i from.result to.result p.0 here v.1 from.ensures end v.2
-    f.new.work f.result v.3 f.ensures.0 f.ensures.1 in
-    let words =
-    pass_words a.free (a.free + from.result) (a.free + to.result) f.result wide l.words a.work.now l.work f.new.work p.1 refl kept f.ensures.1
-    v.4 v.5 in
-    omega (arith, words.2)
+overflow_add-words c = omega (arith, looked (goal.at.overflow_add-words c).After-flag-stop)
 
-pub overflow_add-looked : goal.overflow_add-looked
-overflow_add-looked c = omega arith
-
-pub overflow_add-last : goal.overflow_add-last
-overflow_add-last c =
-    let a = c.args in
-    let p = c.requires in
-    let l = c.loop-i in
-    let v = l.invariant in
-    let wide = length a.work.now - a.free in
-    let s = get_or l.work (a.at + l.i) 0 in
-    let here : l.i < a.n = c.loop-i-test.true in
-    let from = c.place_of in
-    let to = c.place_of-in-loop-i in
-    let f = c.flag-stop in
-    let end = to.ensures ∙ ap (λ (k : ℕ). place_of (s + k) a.low wide) c.len_at.ensures in
-    let kept =
-    pass_kept a.work.now l.work a.lens.now a.at a.n a.free a.low wide l.i from.result to.result p.0 here v.1 from.ensures end v.2
-    f.new.work f.result v.3 f.ensures.0 f.ensures.1 in
-    let words =
-    pass_words a.free (a.free + from.result) (a.free + to.result) f.result wide l.words a.work.now l.work f.new.work p.1 refl kept f.ensures.1
-    v.4 v.5 in
-    omega (arith, words.2)
+pub overflow_add-result-then-stop-to : goal.overflow_add-result-then-stop-to
+overflow_add-result-then-stop-to c = omega (arith, looked (goal.at.overflow_add-result-then-stop-to c).After-flag-stop)
 
 pub returns-then-stop-to : goal.returns-then-stop-to
 returns-then-stop-to c =
@@ -132,27 +113,15 @@ returns-then-stop-to c =
     let v = l.invariant in
     let wide = length a.work.now - a.free in
     let s = get_or l.work (a.at + l.i) 0 in
-    let here : l.i < a.n = c.loop-i-test.true in
     let from = c.place_of in
     let to = c.place_of-in-loop-i in
     let f = c.flag-stop in
     let end = to.ensures ∙ ap (λ (k : ℕ). place_of (s + k) a.low wide) c.len_at.ensures in
-    let kept =
-    pass_kept a.work.now l.work a.lens.now a.at a.n a.free a.low wide l.i from.result to.result p.0 here v.1 from.ensures end v.2
-    f.new.work f.result v.3 f.ensures.0 f.ensures.1 in
-    let words =
-    pass_words a.free (a.free + from.result) (a.free + to.result) f.result wide l.words a.work.now l.work f.new.work p.1 refl kept f.ensures.1
-    v.4 v.5 in
+    let turn = looked (goal.at.returns-then-stop-to c).After-flag-stop in
     let t =
-    pass_stops a.work.now l.work a.lens.now a.at a.n a.free a.low wide l.i from.result to.result p.0 here v.1 from.ensures end v.2
-    f.new.work f.result v.3 f.ensures.0 f.ensures.1 c.if-stop-to.true in
-    (kept, t, omega (arith, words.2), here_more l.i a.n here)
-
-pub overflow_add-i : goal.overflow_add-i
-overflow_add-i c = omega arith
-
-pub loop-i-smaller : goal.loop-i-smaller
-loop-i-smaller c = falls _ _ c.loop-i-test.true
+    pass_stops a.work.now l.work a.lens.now a.at a.n a.free a.low wide l.i from.result to.result p.0 c.loop-i-test.true v.0 from.ensures end v.1
+    f.new.work f.result v.2 f.ensures.0 f.ensures.1 c.if-stop-to.true in
+    (turn.0, t, omega (arith, turn.3), omega arith)
 
 pub loop-i-preserved : goal.loop-i-preserved
 loop-i-preserved c =
@@ -162,21 +131,15 @@ loop-i-preserved c =
     let v = l.invariant in
     let wide = length a.work.now - a.free in
     let s = get_or l.work (a.at + l.i) 0 in
-    let here : l.i < a.n = c.loop-i-test.true in
     let from = c.place_of in
     let to = c.place_of-in-loop-i in
     let f = c.flag-stop in
     let end = to.ensures ∙ ap (λ (k : ℕ). place_of (s + k) a.low wide) c.len_at.ensures in
-    let kept =
-    pass_kept a.work.now l.work a.lens.now a.at a.n a.free a.low wide l.i from.result to.result p.0 here v.1 from.ensures end v.2
-    f.new.work f.result v.3 f.ensures.0 f.ensures.1 in
-    let words =
-    pass_words a.free (a.free + from.result) (a.free + to.result) f.result wide l.words a.work.now l.work f.new.work p.1 refl kept f.ensures.1
-    v.4 v.5 in
+    let turn = looked (goal.at.loop-i-preserved c).After-flag-stop in
     let t =
-    pass_goes a.work.now l.work a.lens.now a.at a.n a.free a.low wide l.i from.result to.result p.0 here v.1 from.ensures end v.2
-    f.new.work f.result v.3 f.ensures.0 f.ensures.1 c.if-stop-to.false in
-    (here_more l.i a.n here, kept, t.0, t.1, words.0, words.1, words.2)
+    pass_goes a.work.now l.work a.lens.now a.at a.n a.free a.low wide l.i from.result to.result p.0 c.loop-i-test.true v.0 from.ensures end v.1
+    f.new.work f.result v.2 f.ensures.0 f.ensures.1 c.if-stop-to.false in
+    (turn.0, t.0, t.1, turn.1, turn.2, turn.3)
 
 pub returns : goal.returns
 returns c =
@@ -184,4 +147,4 @@ returns c =
     let l = c.loop-i in
     let v = l.invariant in
     let all : l.i ≡ a.n = omega arith in
-    (v.1, record { within = le_refl a.n; met = λ h. absurd (lt_irrefl a.n h); apart = rw (← all) v.3 }, omega (arith, v.6), le_refl a.n)
+    (v.0, record { within = le_refl a.n; met = λ h. absurd (lt_irrefl a.n h); apart = rw (← all) v.2 }, omega (arith, v.5), le_refl a.n)

@@ -10,8 +10,5 @@ use Rattle.meeting.proofs.pass.Given as goal
 
 abbrev pub invariant-loop-i : goal.invariant-loop-i
 invariant-loop-i l =
-    (l.i ≤ l.n) × KeptBelow l.free l.initial.work l.work × Flags (starts_at l.initial.work l.at) (lens_in l.lens) l.i l.low l.free l.width l.work
+    KeptBelow l.free l.initial.work l.work × Flags (starts_at l.initial.work l.at) (lens_in l.lens) l.i l.low l.free l.width l.work
     × ApartIn (starts_at l.initial.work l.at) (lens_in l.lens) l.low (l.low + l.width) l.i × OnesFrom l.free l.work × (sum l.work ≡ sum l.initial.work + l.words) × (l.words ≤ length l.initial.work - l.free)
-
-abbrev pub decreases-loop-i : goal.decreases-loop-i
-decreases-loop-i l = l.n - l.i

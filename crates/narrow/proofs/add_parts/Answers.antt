@@ -21,16 +21,16 @@ turn edge dy t g yi i l₀ l h done =
     (ap (λ (n : ℕ). add binary32 (get_or l (row_start yi + i) nan) (add binary32 edge (mul binary32 (get_or t (last_span - g + n) nan) dy))) col)
 
 pub loop-i-init : goal.loop-i-init
-loop-i-init c = (search rules, begun_at (parted _ _ _ _) nan _ _)
+loop-i-init c = begun_at (parted _ _ _ _) nan _ _
 
 pub loop-i-preserved : goal.loop-i-preserved
 loop-i-preserved c =
     let a = c.args in
     let l = c.loop-i in
-    (search rules, turn a.edge a.dy a.parts.now a.g a.yi l.i _ l.area (search rules) l.invariant.1)
+    turn a.edge a.dy a.parts.now a.g a.yi l.i _ l.area (search rules) l.invariant
 
 pub shape_of-area : goal.shape_of-area
-shape_of-area c = c.loop-i.invariant.1.0
+shape_of-area c = c.loop-i.invariant.0
 
 pub returns : goal.returns
-returns c = ended_at (parted _ _ _ _) nan _ tile_width c.loop-i.i _ _ c.loop-i.invariant.1 (omega arith)
+returns c = ended_at (parted _ _ _ _) nan _ tile_width c.loop-i.i _ _ c.loop-i.invariant (omega arith)

@@ -1,11 +1,7 @@
-use Prim.Native.Nat.{◌+◌, ◌-◌, ◌≤◌}
-use Rattle.sides.specs.Tile.{tile_width}
+use Prim.Native.Nat.{◌+◌}
 use Rattle.narrow.specs.Narrow.{parted}
 use Rattle.ranges.proofs.Turn.{Done}
 use Rattle.narrow.proofs.add_parts.Given as goal
 
 abbrev pub invariant-loop-i : goal.invariant-loop-i
-invariant-loop-i l = (l.i ≤ tile_width) × Done (parted l.edge l.dy l.parts l.g) l.base (l.base + l.i) l.initial.area l.area
-
-abbrev pub decreases-loop-i : goal.decreases-loop-i
-decreases-loop-i l = tile_width - l.i
+invariant-loop-i l = Done (parted l.edge l.dy l.parts l.g) l.base (l.base + l.i) l.initial.area l.area

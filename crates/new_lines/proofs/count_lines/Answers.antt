@@ -14,7 +14,9 @@ use Rattle.acts.proofs.Lines.{batch_stops, batch_ends}
 use Rattle.walked_lines.specs.Line.{Lent}
 use Rattle.path_count.specs.Count.{paper_of, made_of, told_of}
 use Rattle.path_count.specs.Runs.{batch_from, from_told}
-use Rattle.path_count.specs.declared.kinds.Counted.{Counted}
+use Rattle.path_count.specs.Counted.{Counted, counted_told}
+use Rattle.std.proofs.lemmas.Result.{err_from_is_err_and}
+use Rattle.panel.specs.Refusals.{no_of}
 use Rattle.new_lines.specs.Own.{own_step, lines_told}
 use Rattle.new_lines.proofs.OwnLaws.{own_other, other_part}
 use Rattle.new_lines.proofs.StretchLaws.{told_done, told_refused, stretch_first}
@@ -27,10 +29,7 @@ loop-k-init c =
     let none : length a.path_nos.now - 0 ≡ length a.path_nos.now = omega arith in (
       omega arith,
       refl,
-      refl,
-      refl,
       ap (λ (n : ℕ). lines_told a.line_nos.now (batch_of (λ j. own_step a.path a.path_nos.now a.coords.now a.paths.now (length a.refs.now / ref_words) (get_or a.line_nos.now j 0) j) 0 n (st_of a.backs.now a.counts.now a.refs.now 0))) none,
-      refl,
     )
 
 pub bounds-line_nos-k : goal.bounds-line_nos-k
@@ -49,15 +48,6 @@ other_no-requires c =
     let fs = ap length (part_to_end a.coords.now (s.k * line_floats)) ∙ length-drop (s.k * line_floats) a.coords.now in
     omega (arith, fs, c.loop-k-test.true, c.requires.3)
 
-pub shape_of-backs-then-n-eq0 : goal.shape_of-backs-then-n-eq0
-shape_of-backs-then-n-eq0 c = c.loop-k.invariant.1
-
-pub shape_of-counts-then-n-eq0 : goal.shape_of-counts-then-n-eq0
-shape_of-counts-then-n-eq0 c = c.loop-k.invariant.2
-
-pub shape_of-refs-then-n-eq0 : goal.shape_of-refs-then-n-eq0
-shape_of-refs-then-n-eq0 c = c.loop-k.invariant.3
-
 pub returns-then-n-eq0 : goal.returns-then-n-eq0
 returns-then-n-eq0 c =
     let a = c.args in
@@ -68,10 +58,10 @@ returns-then-n-eq0 c =
     (batch_stops (λ j. own_step a.path a.path_nos.now a.coords.now a.paths.now (length a.refs.now / ref_words) (get_or a.line_nos.now j 0) j) s.k (length a.path_nos.now) (st_of s.backs s.counts s.refs s.made) c.loop-k-test.true _ refl _
     (own_other a.path a.path_nos.now a.coords.now a.paths.now (length a.refs.now / ref_words) (get_or a.line_nos.now s.k 0) s.k (st_of s.backs s.counts s.refs s.made)
     (c.stretch-n.ensures.other c.if-n-eq0.true)))
-    ∙ s.invariant.4
+    ∙ s.invariant.2
 
 pub slice_bounds-count_batch-end-in-loop-k-2 : goal.slice_bounds-count_batch-end-in-loop-k-2
-slice_bounds-count_batch-end-in-loop-k-2 c = sym c.loop-k.invariant.5
+slice_bounds-count_batch-end-in-loop-k-2 c = sym c.loop-k.invariant.1
 
 pub count_batch-t-requires : goal.count_batch-t-requires
 count_batch-t-requires c =
@@ -81,11 +71,11 @@ count_batch-t-requires c =
     let h = c.stretch-n.ensures in
     let nos = ap length (part_to_end a.path_nos.now s.k) ∙ length-drop s.k a.path_nos.now in
     let fs = ap length (part_to_end a.coords.now (s.k * line_floats)) ∙ length-drop (s.k * line_floats) a.coords.now in (
-      subst₂ (Lent a.paths.now) (sym s.invariant.1) (sym s.invariant.2) p.0,
+      subst₂ (Lent a.paths.now) (sym s.auto.backs) (sym s.auto.counts) p.0,
       omega arith,
       omega (arith, nos, h.lent),
       omega (arith, fs, h.lent, p.3),
-      s.invariant.5,
+      s.invariant.1,
       h.fits,
     )
 
@@ -94,7 +84,7 @@ said : (c : After-count_batch-t) →
     let a = c.args in
     let s = c.loop-k in
     let t = c.count_batch-t in
-    told_of (paper_of t.result) (st_of t.new.backs t.new.counts t.new.refs (made_of t.result))
+    told_of (paper_of (counted_told t.result)) (st_of t.new.backs t.new.counts t.new.refs (made_of (counted_told t.result)))
     ≡ from_told (get_or a.line_nos.now s.k 0) c.stretch-n.result
     (batch_from (get_or a.line_nos.now s.k 0) (drop s.k a.path_nos.now) (drop (s.k * line_floats) a.coords.now) a.paths.now (length a.refs.now / ref_words) 0 c.stretch-n.result (st_of s.backs s.counts s.refs s.made))
 said c =
@@ -103,26 +93,20 @@ said c =
     c.count_batch-t.ensures
     ∙ (λ i. from_told (get_or a.line_nos.now s.k 0) c.stretch-n.result
     (batch_from (get_or a.line_nos.now s.k 0) (part_to_end a.path_nos.now s.k i) (part_to_end a.coords.now (s.k * line_floats) i) a.paths.now
-    (s.invariant.3 i / ref_words) 0 c.stretch-n.result (st_of s.backs s.counts s.refs s.made)))
+    (s.auto.refs i / ref_words) 0 c.stretch-n.result (st_of s.backs s.counts s.refs s.made)))
 
-pub shape_of-backs-in-Refused : goal.shape_of-backs-in-Refused
-shape_of-backs-in-Refused c = c.count_batch-t.auto.backs ∙ c.loop-k.invariant.1
-
-pub shape_of-counts-in-Refused : goal.shape_of-counts-in-Refused
-shape_of-counts-in-Refused c = c.count_batch-t.auto.counts ∙ c.loop-k.invariant.2
-
-pub shape_of-refs-in-Refused : goal.shape_of-refs-in-Refused
-shape_of-refs-in-Refused c = c.count_batch-t.auto.refs ∙ c.loop-k.invariant.3
-
-pub returns-in-Refused : goal.returns-in-Refused
-returns-in-Refused c =
+pub returns-in_err-s : goal.returns-in_err-s
+returns-in_err-s c =
     let a = c.args in
     let s = c.loop-k in
     let t = c.count_batch-t in
-    told_refused a.line_nos.now (get_or a.line_nos.now s.k 0) c.stretch-n.result t.new.backs t.new.counts t.new.refs c.in-Refused.s.refs (batch_of (λ j. own_step a.path a.path_nos.now a.coords.now a.paths.now (length a.refs.now / ref_words) (get_or a.line_nos.now j 0) j) (s.k + c.stretch-n.result) (length a.path_nos.now - (s.k + c.stretch-n.result))) c.in-Refused.why c.in-Refused.item c.in-Refused.s.lines (batch_from (get_or a.line_nos.now s.k 0) (drop s.k a.path_nos.now) (drop (s.k * line_floats) a.coords.now) a.paths.now (length a.refs.now / ref_words) 0 c.stretch-n.result (st_of s.backs s.counts s.refs s.made))
-    (sym (ap (λ (x : Counted). told_of (paper_of x) (st_of t.new.backs t.new.counts t.new.refs (made_of x))) c.in-Refused.is) ∙ said (goal.at.returns-in-Refused c).After-count_batch-t)
+    let e = c.in_err-s.field-0.0 in
+    let p = err_from_is_err_and c.from_residual.result c.from_residual.ensures.1 in
+    rw (p.1, p.2)
+    (told_refused a.line_nos.now (get_or a.line_nos.now s.k 0) c.stretch-n.result t.new.backs t.new.counts t.new.refs e.running.refs (batch_of (λ j. own_step a.path a.path_nos.now a.coords.now a.paths.now (length a.refs.now / ref_words) (get_or a.line_nos.now j 0) j) (s.k + c.stretch-n.result) (length a.path_nos.now - (s.k + c.stretch-n.result))) (no_of e.why) e.item e.running.lines (batch_from (get_or a.line_nos.now s.k 0) (drop s.k a.path_nos.now) (drop (s.k * line_floats) a.coords.now) a.paths.now (length a.refs.now / ref_words) 0 c.stretch-n.result (st_of s.backs s.counts s.refs s.made))
+    (sym (ap (λ (x : Counted). told_of (paper_of x) (st_of t.new.backs t.new.counts t.new.refs (made_of x))) (ap counted_told c.in_err-s.was)) ∙ said (goal.at.returns-in_err-s c).After-count_batch-t)
     ∙ sym (stretch_first a.path a.line_nos.now a.path_nos.now a.coords.now a.paths.now (length a.refs.now / ref_words) s.k c.stretch-n.result c.requires.1 c.stretch-n.ensures.order _ _ refl refl (st_of s.backs s.counts s.refs s.made) c.stretch-n.ensures.lent)
-    ∙ s.invariant.4
+    ∙ s.invariant.2)
 
 pub overflow_add-k : goal.overflow_add-k
 overflow_add-k c = omega (arith, c.well_formed, c.stretch-n.ensures.lent)
@@ -136,28 +120,16 @@ loop-k-preserved c =
     let s = c.loop-k in
     let t = c.count_batch-t in (
       c.stretch-n.ensures.lent,
-      t.auto.backs ∙ s.invariant.1,
-      t.auto.counts ∙ s.invariant.2,
-      t.auto.refs ∙ s.invariant.3,
-      told_done a.line_nos.now (get_or a.line_nos.now s.k 0) c.stretch-n.result t.new.backs t.new.counts t.new.refs c.in-Done.s.refs (batch_of (λ j. own_step a.path a.path_nos.now a.coords.now a.paths.now (length a.refs.now / ref_words) (get_or a.line_nos.now j 0) j) (s.k + c.stretch-n.result) (length a.path_nos.now - (s.k + c.stretch-n.result))) c.in-Done.s.lines (batch_from (get_or a.line_nos.now s.k 0) (drop s.k a.path_nos.now) (drop (s.k * line_floats) a.coords.now) a.paths.now (length a.refs.now / ref_words) 0 c.stretch-n.result (st_of s.backs s.counts s.refs s.made))
-          (sym (ap (λ (x : Counted). told_of (paper_of x) (st_of t.new.backs t.new.counts t.new.refs (made_of x))) c.in-Done.is) ∙ said (goal.at.loop-k-preserved c).After-count_batch-t)
+      t.auto.notes ∙ s.invariant.1,
+      told_done a.line_nos.now (get_or a.line_nos.now s.k 0) c.stretch-n.result t.new.backs t.new.counts t.new.refs c.in_ok-s.s.refs (batch_of (λ j. own_step a.path a.path_nos.now a.coords.now a.paths.now (length a.refs.now / ref_words) (get_or a.line_nos.now j 0) j) (s.k + c.stretch-n.result) (length a.path_nos.now - (s.k + c.stretch-n.result))) c.in_ok-s.s.lines (batch_from (get_or a.line_nos.now s.k 0) (drop s.k a.path_nos.now) (drop (s.k * line_floats) a.coords.now) a.paths.now (length a.refs.now / ref_words) 0 c.stretch-n.result (st_of s.backs s.counts s.refs s.made))
+          (sym (ap (λ (x : Counted). told_of (paper_of x) (st_of t.new.backs t.new.counts t.new.refs (made_of x))) (ap counted_told c.in_ok-s.was)) ∙ said (goal.at.loop-k-preserved c).After-count_batch-t)
           ∙ sym (stretch_first a.path a.line_nos.now a.path_nos.now a.coords.now a.paths.now (length a.refs.now / ref_words) s.k c.stretch-n.result c.requires.1 c.stretch-n.ensures.order _ _ refl refl (st_of s.backs s.counts s.refs s.made) c.stretch-n.ensures.lent)
-          ∙ s.invariant.4,
-      t.auto.notes ∙ s.invariant.5,
+          ∙ s.invariant.2,
     )
-
-pub shape_of-backs : goal.shape_of-backs
-shape_of-backs c = c.loop-k.invariant.1
-
-pub shape_of-counts : goal.shape_of-counts
-shape_of-counts c = c.loop-k.invariant.2
-
-pub shape_of-refs : goal.shape_of-refs
-shape_of-refs c = c.loop-k.invariant.3
 
 pub returns : goal.returns
 returns c =
     let a = c.args in
     let s = c.loop-k in
     ap (lines_told a.line_nos.now) (batch_ends (λ j. own_step a.path a.path_nos.now a.coords.now a.paths.now (length a.refs.now / ref_words) (get_or a.line_nos.now j 0) j) s.k (length a.path_nos.now) (st_of s.backs s.counts s.refs s.made) _ c.loop-k-test.false refl)
-    ∙ s.invariant.4
+    ∙ s.invariant.2

@@ -13,28 +13,28 @@ use Rattle.on_pixels.proofs.Signs.{zero_plus, one_covered}
 use Rattle.on_pixels.proofs.begin.Goals as goal
 
 pub loop-count-init : goal.loop-count-init
-loop-count-init c = (omega arith, refl, zero_plus)
+loop-count-init c = (refl, zero_plus)
 
 pub returns-in_default : goal.returns-in_default
-returns-in_default c = (c.loop-count.invariant.0, c.loop-count.invariant.1, c.loop-count.invariant.2)
+returns-in_default c = (omega arith, c.loop-count.invariant.0, c.loop-count.invariant.1)
 
 pub returns-then-tag : goal.returns-then-tag
 returns-then-tag c =
     let l = c.loop-count in
-    (l.invariant.0, l.invariant.1, l.invariant.2)
+    (omega arith, l.invariant.0, l.invariant.1)
 
 pub move_at-requires : goal.move_at-requires
 move_at-requires c = found c.args.words.now
     c.loop-count.at _
-    (sym c.peek_from.ensures ∙ c.in-Word.is)
+    (sym c.in-Some.ensures)
 
 pub returns-in_default-move_at : goal.returns-in_default-move_at
 returns-in_default-move_at c =
-    (c.loop-count.invariant.0, c.loop-count.invariant.1, c.loop-count.invariant.2)
+    (omega arith, c.loop-count.invariant.0, c.loop-count.invariant.1)
 
 pub returns-then-not-alike : goal.returns-then-not-alike
 returns-then-not-alike c =
-    (c.loop-count.invariant.0, c.loop-count.invariant.1, c.loop-count.invariant.2)
+    (omega arith, c.loop-count.invariant.0, c.loop-count.invariant.1)
 
 -- a word that is neither END nor FILL isn't END
 not_end : (tag : ℕ) → (eqb tag end_no || eqb tag fill_no) ≡ false → tag ≡ end_no → ⊥
@@ -46,20 +46,18 @@ loop-count-preserved c =
     let l = c.loop-count in
     let ws = a.words.now in
     let segs = a.segments.now in
-    let goes = trace_goes ws segs l.at _ (sym c.peek_from.ensures ∙ c.in-Word.is)
+    let goes = trace_goes ws segs l.at _ (sym c.in-Some.ensures)
     (not_end _ c.if-tag.false) _
     c.op_of.ensures _
-    c.move_at.ensures (most_commands - (l.count + 1)) _ _
-    c.in-Goes.is in (
-      omega (
-        arith,
-        c.loop-count-test.true,
-      ),
+    c.in-Ok.ensures (most_commands - (l.count + 1)) _ _
+    refl in (
       alike_turn segs ws l.at l.count _ _ l.area _ l.px _ _
-          c.loop-count-test.true
-          l.invariant.1 goes (sym c.alike.ensures ∙ c.if-not-alike.false) c.cover_one-area.ensures c.paint_one.ensures,
-      one_covered _ _ _ l.area _ goes c.cover_one-area.ensures l.invariant.2,
+          (omega arith)
+          l.invariant.0 goes (sym c.alike.ensures ∙ c.if-not-alike.false) c.cover_one-area.ensures c.paint_one.ensures,
+      one_covered _ _ _ l.area _ goes c.cover_one-area.ensures l.invariant.1,
     )
 
 pub returns : goal.returns
-returns c = (c.loop-count.invariant.0, c.loop-count.invariant.1, c.loop-count.invariant.2)
+returns c =
+    let all : c.loop-count.count ≡ most_commands = omega arith in
+    (omega arith, rw all at c.loop-count.invariant.0, c.loop-count.invariant.1)

@@ -1,6 +1,6 @@
 -- `one_segment::add_few` meets its contract. The invariant: the rows from .. yi are done. Assumes nothing.
 use mathlib.Core.Path.{◌≡◌, refl, sym, ap, ◌∙◌}
-use Prim.Native.Nat.{ℕ, ◌-◌}
+use Prim.Native.Nat.{ℕ}
 use lib.Ieee.{nan}
 use Rattle.lists.specs.Grid.{mapi, within}
 use Rattle.lists.specs.GridLaws.{within_none}
@@ -12,24 +12,23 @@ use borrow.Author.Rules.{rules}
 use Rattle.one_segment.proofs.add_few.Goals as goal
 
 pub loop-yi-init : goal.loop-yi-init
-loop-yi-init c = (search rules, search rules, (refl, sym (within_none (step_way _ _) _ nan _)))
+loop-yi-init c = (search rules, (refl, sym (within_none (step_way _ _) _ nan _)))
 
 pub loop-yi-preserved : goal.loop-yi-preserved
 loop-yi-preserved c =
     let a = c.args in
     let l = c.loop-yi in (
       omega arith,
-      omega arith,
       row_more a.w a.yt l.yi c.row_of.result c.row_of.ensures (row_start a.from) _ l.area _ (omega arith)
-          l.invariant.2 c.add_own_row.ensures,
+          l.invariant.1 c.add_own_row.ensures,
     )
 
 pub shape_of-area : goal.shape_of-area
-shape_of-area c = c.loop-yi.invariant.2.0
+shape_of-area c = c.loop-yi.invariant.1.0
 
 pub returns : goal.returns
 returns c =
     let a = c.args in
     let l = c.loop-yi in
     let n : l.yi ≡ a.to = omega arith in
-    l.invariant.2.1 ∙ ap (λ (b : ℕ). mapi (within (row_start a.from) (row_start b) (step_way a.w a.yt)) a.area.now) n
+    l.invariant.1.1 ∙ ap (λ (b : ℕ). mapi (within (row_start a.from) (row_start b) (step_way a.w a.yt)) a.area.now) n

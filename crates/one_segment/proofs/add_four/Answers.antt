@@ -1,7 +1,7 @@
 -- `one_segment::add_four` meets its contract. The invariant: of the four rows those above k are done. Assumes nothing.
 use mathlib.Core.Path.{◌≡◌, sym, ap, subst, ◌∙◌}
 use mathlib.Core.List.{List}
-use Prim.Native.Nat.{ℕ, ◌+◌, ◌-◌}
+use Prim.Native.Nat.{ℕ, ◌+◌}
 use lib.Ieee.{Float, nan}
 use Rattle.lists.specs.Grid.{mapi, within}
 use Rattle.sides.specs.Tile.{row_start}
@@ -9,7 +9,6 @@ use Rattle.tile_rows.specs.Rows.{step_in}
 use Rattle.tile_rows.proofs.RowsLaws.{one_row, passed_over}
 use Rattle.ranges.proofs.Turn.{Done, begun_at}
 use native.Mathlib.Omega.{arith}
-use borrow.Author.Rules.{rules}
 use Rattle.one_segment.proofs.add_four.Goals as goal
 
 -- no row yet
@@ -21,27 +20,28 @@ none f yi l =
 pub returns-then-nothing : goal.returns-then-nothing
 returns-then-nothing c =
     let a = c.args in
-    passed_over a.w a.ys.now a.y0s.now a.y1s.now a.dys.now a.edges.now a.yi _ (sym c.four_clear-nothing.ensures ∙ c.if-nothing.true)
+    let r = a.rows.now in
+    passed_over a.w r.ys r.y0s r.y1s r.dys r.edges a.yi _ (sym c.four_clear-nothing.ensures ∙ c.if-nothing.true)
 
 pub loop-k-init : goal.loop-k-init
-loop-k-init c = (search rules, none (step_in _ _ _ _ _ _) _ _)
+loop-k-init c = none (step_in _ _ _ _ _ _) _ _
 
 pub loop-k-preserved : goal.loop-k-preserved
 loop-k-preserved c =
     let a = c.args in
-    let l = c.loop-k in (
-      search rules,
-      one_row a.w a.ys.now a.y0s.now a.y1s.now a.dys.now a.edges.now (a.yi + l.k) _ c.row_at.ensures (row_start a.yi)
-          (row_start (a.yi + (l.k + 1))) _ l.area _ (omega arith) (omega arith) l.invariant.1 c.add_row.ensures,
-    )
+    let r = a.rows.now in
+    let l = c.loop-k in
+    one_row a.w r.ys r.y0s r.y1s r.dys r.edges (a.yi + l.k) _ c.row_at.ensures (row_start a.yi)
+    (row_start (a.yi + (l.k + 1))) _ l.area _ (omega arith) (omega arith) l.invariant c.add_row.ensures
 
 pub shape_of-area : goal.shape_of-area
-shape_of-area c = c.loop-k.invariant.1.0
+shape_of-area c = c.loop-k.invariant.0
 
 pub returns : goal.returns
 returns c =
     let a = c.args in
+    let r = a.rows.now in
     let l = c.loop-k in
-    let f = step_in a.w a.ys.now a.y0s.now a.y1s.now a.dys.now a.edges.now in
+    let f = step_in a.w r.ys r.y0s r.y1s r.dys r.edges in
     let n : l.k ≡ 4 = omega arith in
-    l.invariant.1.1 ∙ ap (λ (b : ℕ). mapi (within (row_start a.yi) (row_start (a.yi + b)) f) a.area.now) n
+    l.invariant.1 ∙ ap (λ (b : ℕ). mapi (within (row_start a.yi) (row_start (a.yi + b)) f) a.area.now) n

@@ -13,8 +13,6 @@ add_part-requires c = (
   c.requires.0,
   c.requires.1,
   search rules,
-  c.requires.3,
-  c.requires.4,
   subst (λ (p : Reach). lt p.right p.left ≡ false) (sym c.reach_of.ensures) (ends_in_order c.args.w c.args.r),
 )
 

@@ -5,4 +5,5 @@ use Rattle.one_segment.proofs.add_part.Goals as goal
 
 pub add_narrow-requires : goal.add_narrow-requires
 add_narrow-requires c =
-    (c.requires.0, c.requires.1, search rules, c.requires.3, c.requires.4, narrow_by c.args.p c.args.g c.args.cols.now c.requires.3 c.requires.1 c.requires.5 c.if-narrow.true)
+    let t = c.args.tables.now in
+    (c.requires.0, c.requires.1, search rules, narrow_by c.args.p c.args.g t.cols t.lefts c.requires.1 c.requires.3 c.if-narrow.true)

@@ -1,12 +1,8 @@
-use mathlib.Core.Path.{◌≡◌}
-use Prim.Native.Nat.{◌-◌, ◌%◌, ◌≤◌}
-use Rattle.sides.specs.Tile.{tile_height, row_start}
-use Rattle.tile_rows.specs.Rows.{step_in}
+use Prim.Native.Nat.{◌*◌}
+use Rattle.sides.specs.Tile.{row_start}
+use Rattle.tile_rows.specs.Rows.{rows_at_once, step_in}
 use Rattle.ranges.proofs.Turn.{Done}
 use Rattle.one_segment.proofs.add_rows.Given as goal
 
-abbrev pub invariant-loop-yi : goal.invariant-loop-yi
-invariant-loop-yi l = (l.yi ≤ tile_height) × (l.yi % 4 ≡ 0) × Done (step_in l.w l.ys l.y0s l.y1s l.dys l.edges) 0 (row_start l.yi) l.initial.area l.area
-
-abbrev pub decreases-loop-yi : goal.decreases-loop-yi
-decreases-loop-yi l = tile_height - l.yi
+abbrev pub invariant-loop-four : goal.invariant-loop-four
+invariant-loop-four l = Done (step_in l.w l.rows.ys l.rows.y0s l.rows.y1s l.rows.dys l.rows.edges) 0 (row_start (rows_at_once * l.four)) l.initial.area l.area

@@ -17,13 +17,10 @@ guess-to-requires c =
 pub add_few-requires : goal.add_few-requires
 add_few-requires c =
     let a = c.args in
-    let a_pre = c.requires in
     let o = sym c.only-right.ensures ∙ c.if-right.true in (
       tried_order a.w a.yt _ _ _ c.pick-low.ensures c.pick-high.ensures c.edgeless.ensures c.if-plain.true _ _ o,
       tried_tile a.w a.yt _ _ _ c.pick-low.ensures c.pick-high.ensures c.edgeless.ensures c.if-plain.true _ _ o,
       search rules,
-      a_pre.1,
-      a_pre.2,
     )
 
 pub returns-then-right : goal.returns-then-right
@@ -31,4 +28,4 @@ returns-then-right c =
     let a = c.args in
     let o = sym c.only-right.ensures ∙ c.if-right.true in
     tried_few a.w a.yt _ _ _ c.pick-low.ensures c.pick-high.ensures c.edgeless.ensures c.if-plain.true _ _ o _ _
-    c.requires.0 c.add_few.ensures
+    c.requires c.add_few.ensures

@@ -1,7 +1,7 @@
 -- `one_segment::add_slant` meets its contract. The invariant: the row's pixels left of i are done. Assumes nothing.
 use mathlib.Core.Path.{◌≡◌, ap, ◌∙◌}
 use mathlib.Core.List.{List}
-use Prim.Native.Nat.{ℕ, ◌+◌, ◌-◌, ◌*◌, ◌%◌, ◌<◌}
+use Prim.Native.Nat.{ℕ, ◌+◌, ◌*◌, ◌%◌, ◌<◌}
 use lib.ListN.{get_or, set}
 use lib.Ieee.{Float, nan, binary32, add}
 use Rattle.sides.specs.Tile.{tile_width, row_start}
@@ -20,15 +20,15 @@ turn p edge dy yi i l₀ l v h done e =
     turned_at (slanted p edge dy) nan (row_start yi) i l₀ l _ done (ap (add binary32 (get_or l (row_start yi + i) nan)) (e ∙ ap (added_of p edge dy) col))
 
 pub loop-i-init : goal.loop-i-init
-loop-i-init c = (search rules, begun_at (slanted _ _ _) nan _ _)
+loop-i-init c = begun_at (slanted _ _ _) nan _ _
 
 pub loop-i-preserved : goal.loop-i-preserved
 loop-i-preserved c =
     let l = c.loop-i in
-    (search rules, turn c.args.p c.args.edge c.args.dy c.args.yi l.i _ l.area _ (search rules) l.invariant.1 c.added.ensures)
+    turn c.args.p c.args.edge c.args.dy c.args.yi l.i _ l.area _ (search rules) l.invariant c.added.ensures
 
 pub shape_of-area : goal.shape_of-area
-shape_of-area c = c.loop-i.invariant.1.0
+shape_of-area c = c.loop-i.invariant.0
 
 pub returns : goal.returns
-returns c = ended_at (slanted _ _ _) nan _ tile_width c.loop-i.i _ _ c.loop-i.invariant.1 (omega arith)
+returns c = ended_at (slanted _ _ _) nan _ tile_width c.loop-i.i _ _ c.loop-i.invariant (omega arith)

@@ -1,11 +1,7 @@
-use Prim.Native.Nat.{◌+◌, ◌-◌, ◌≤◌}
-use Rattle.sides.specs.Tile.{tile_width}
+use Prim.Native.Nat.{◌+◌}
 use Rattle.ranges.proofs.Turn.{Done}
 use Rattle.one_row.specs.Row.{slanted}
 use Rattle.one_segment.proofs.add_slant.Given as goal
 
 abbrev pub invariant-loop-i : goal.invariant-loop-i
-invariant-loop-i l = (l.i ≤ tile_width) × Done (slanted l.p l.edge l.dy) l.base (l.base + l.i) l.initial.area l.area
-
-abbrev pub decreases-loop-i : goal.decreases-loop-i
-decreases-loop-i l = tile_width - l.i
+invariant-loop-i l = Done (slanted l.p l.edge l.dy) l.base (l.base + l.i) l.initial.area l.area

@@ -7,17 +7,7 @@ use Rattle.outlines.proofs.first_open.Goals as goal
 
 pub pass-best-requires : goal.pass-best-requires
 pass-best-requires c =
-    let d = c.clear_words in (
-      ready_same c.args.path_nos.now c.args.coords.now c.args.work.now d.new.words (ap length d.ensures ∙ length_cleared 0 0 _ c.args.work.now) c.requires,
+    let d = c.clear in (
+      ready_same c.args.path_nos.now c.args.coords.now c.args.work.now d.new.xs (ap length d.ensures ∙ length_cleared 0 0 _ c.args.work.now) c.requires,
       rw d.ensures (all_clear c.args.work.now),
-    )
-
-pub settle-requires : goal.settle-requires
-settle-requires c =
-    let d = c.clear_words in
-    let t = c.pass-best in (
-      ready_same c.args.path_nos.now c.args.coords.now c.args.work.now t.new.work
-          (t.ensures.same_length ∙ ap length d.ensures ∙ length_cleared 0 0 _ c.args.work.now) c.requires,
-      t.ensures.noted,
-      t.ensures.least,
     )

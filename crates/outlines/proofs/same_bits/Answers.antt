@@ -3,7 +3,6 @@ use mathlib.Core.Path.{◌≡◌}
 use mathlib.Core.Bool.{true, not, false≢true}
 use lib.Dec.{T}
 use lib.Ieee.{Float, nan, inf, fin, eq, is_nan}
-use Rattle.float32.proofs.MinMax.{eq_left}
 use Rattle.outlines.specs.Outlines.{same_bits}
 use Rattle.outlines.proofs.same_bits.Goals as goal
 
@@ -16,9 +15,6 @@ eq_right (inf s) (fin t n d) h = tt
 eq_right (fin s m e) nan h = absurd (false≢true h)
 eq_right (fin s m e) (inf t) h = tt
 eq_right (fin s m e) (fin t n d) h = tt
-
-pub float_to_bits-result : goal.float_to_bits-result
-float_to_bits-result c = let s = c.args in eq_left s.x s.y c.if-x-y.true
 
 pub float_to_bits-result-then-x-y : goal.float_to_bits-result-then-x-y
 float_to_bits-result-then-x-y c = let s = c.args in eq_right s.x s.y c.if-x-y.true

@@ -3,31 +3,25 @@ use mathlib.Core.Path.{◌≡◌, sym, ap, ◌∙◌}
 use mathlib.Core.Bool.{true}
 use Prim.Native.Nat.{ℕ, ◌<◌}
 use native.Mathlib.Omega.{arith}
-use borrow.Author.Tests.{not-true, not-false}
 use lib.ListN.{length}
 use Rattle.panel.specs.Paths.{path_at, tile_of}
 use Rattle.panel.specs.declared.kinds.Path.{Path}
-use Rattle.panel.proofs.PathLaws.{path_there}
-use Rattle.pairs.specs.Pairs.{tables, in_box, by_path}
+use Rattle.pairs.specs.Pairs.{in_box, by_path}
+use Rattle.pairs.specs.Lent.{tables_of}
 use Rattle.pairs.proofs.PairLaws.{path_outside, path_inside, paint_there, tiles_few, tile_there}
 use Rattle.pairs.proofs.on_path.Goals as goal
-
-pub path_at-b-requires : goal.path_at-b-requires
-path_at-b-requires c =
-    let a = c.args in
-    path_there a.paths.now a.p c.requires.1
 
 pub returns-then-not-in_box : goal.returns-then-not-in_box
 returns-then-not-in_box c =
     let a = c.args in
-    let s = tables a.paths.now a.paints.now a.backdrops.now a.stored.now a.tally.now in
+    let s = tables_of a.lent.now in
     let at : c.path_at-b.result ≡ path_at s.paths a.p = c.path_at-b.ensures in
     path_outside s a.x a.y a.p (ap (λ (b : Path). in_box b a.x a.y) (sym at) ∙ sym c.in_box.ensures ∙ c.if-not-in_box.true)
 
 pub tile_in-t-requires : goal.tile_in-t-requires
 tile_in-t-requires c =
     let a = c.args in
-    let s = tables a.paths.now a.paints.now a.backdrops.now a.stored.now a.tally.now in
+    let s = tables_of a.lent.now in
     let at : c.path_at-b.result ≡ path_at s.paths a.p = c.path_at-b.ensures in (
       sym c.in_box.ensures ∙ c.if-not-in_box.false,
       rw at
@@ -38,7 +32,7 @@ tile_in-t-requires c =
 pub by_path-requires : goal.by_path-requires
 by_path-requires c =
     let a = c.args in
-    let s = tables a.paths.now a.paints.now a.backdrops.now a.stored.now a.tally.now in
+    let s = tables_of a.lent.now in
     let at : c.path_at-b.result ≡ path_at s.paths a.p = c.path_at-b.ensures in
     let inside : in_box (path_at s.paths a.p) a.x a.y ≡ true = ap (λ (b : Path). in_box b a.x a.y) (sym at) ∙ sym
     c.in_box.ensures ∙ c.if-not-in_box.false in
@@ -52,7 +46,7 @@ by_path-requires c =
 pub returns : goal.returns
 returns c =
     let a = c.args in
-    let s = tables a.paths.now a.paints.now a.backdrops.now a.stored.now a.tally.now in
+    let s = tables_of a.lent.now in
     let at : c.path_at-b.result ≡ path_at s.paths a.p = c.path_at-b.ensures in
     let inside : in_box (path_at s.paths a.p) a.x a.y ≡ true = ap (λ (b : Path). in_box b a.x a.y) (sym at) ∙ sym
     c.in_box.ensures ∙ c.if-not-in_box.false in

@@ -1,7 +1,6 @@
 -- `path_reach::gather` meets its contract. The loop's invariant: what is left to gather, from what the room holds, makes what all lines make.
 -- Assumes nothing.
-use mathlib.Core.Path.{◌≡◌, refl, sym, ◌∙◌}
-use Prim.Native.Nat.{◌-◌}
+use mathlib.Core.Path.{sym, ◌∙◌}
 use native.Mathlib.Omega.{arith}
 use lib.ListN.{length}
 use Rattle.panel.proofs.LimitLaws.{small}
@@ -9,23 +8,18 @@ use Rattle.end_tiles.proofs.LineLaws.{each_line}
 use Rattle.path_reach.proofs.WordLaws.{gather_turn, gather_end}
 use Rattle.path_reach.proofs.gather.Goals as goal
 
-pub loop-l-init : goal.loop-l-init
-loop-l-init c =
-    let all : length c.args.path_nos.now - 0 ≡ length c.args.path_nos.now = omega arith in
-    (omega arith, omega arith, refl, rw all)
-
 pub reach_line-requires : goal.reach_line-requires
 reach_line-requires c =
     let s = c.args in
     let l = c.loop-l in (
       omega arith,
       omega (arith, c.requires.0),
-      omega (arith, c.requires.1, l.invariant.2),
+      omega (arith, c.requires.1, l.invariant.0),
       each_line s.path_nos.now s.coords.now s.n (length s.path_nos.now) 0 c.requires.2 l.l (omega arith) (omega arith),
     )
 
-pub overflow_add-l : goal.overflow_add-l
-overflow_add-l c =
+pub overflow_cast-l : goal.overflow_cast-l
+overflow_cast-l c =
     let s = c.args in
     let l = c.loop-l in
     let ok = each_line s.path_nos.now s.coords.now s.n (length s.path_nos.now) 0 c.requires.2 l.l (omega arith) (omega arith) in
@@ -34,19 +28,13 @@ overflow_add-l c =
 pub loop-l-preserved : goal.loop-l-preserved
 loop-l-preserved c =
     let s = c.args in
-    let l = c.loop-l in
-    let ok = each_line s.path_nos.now s.coords.now s.n (length s.path_nos.now) 0 c.requires.2 l.l (omega arith) (omega arith) in (
-      omega arith,
-      omega (arith, ok.numbered),
-      c.reach_line.auto.work ∙ l.invariant.2,
-      rw c.reach_line.ensures (sym (gather_turn s.path_nos.now s.coords.now (length s.path_nos.now) l.l l.work (omega arith)) ∙ l.invariant.3),
+    let l = c.loop-l in (
+      c.reach_line.auto.work ∙ l.invariant.0,
+      rw c.reach_line.ensures (sym (gather_turn s.path_nos.now s.coords.now (length s.path_nos.now) l.l l.work (omega arith)) ∙ l.invariant.1),
     )
-
-pub shape_of-work : goal.shape_of-work
-shape_of-work c = c.loop-l.invariant.2
 
 pub returns : goal.returns
 returns c =
     let s = c.args in
     let l = c.loop-l in
-    sym (gather_end s.path_nos.now s.coords.now (length s.path_nos.now) l.l l.work (omega arith)) ∙ l.invariant.3
+    sym (gather_end s.path_nos.now s.coords.now (length s.path_nos.now) l.l l.work (omega arith)) ∙ l.invariant.1

@@ -1,14 +1,10 @@
 use mathlib.Core.Path.{◌≡◌}
-use Prim.Native.Nat.{◌-◌, ◌≤◌}
+use Prim.Native.Nat.{◌-◌}
 use lib.ListN.{length}
-use Rattle.panel.specs.Limits.{most_lines}
 use Rattle.path_reach.specs.Words.{gather_from}
 use Rattle.path_reach.proofs.gather.Given as goal
 
 abbrev pub invariant-loop-l : goal.invariant-loop-l
 invariant-loop-l l =
-    (l.l ≤ length l.path_nos) × (l.l ≤ most_lines) × (length l.work ≡ length l.initial.work)
+    (length l.work ≡ length l.initial.work)
     × (gather_from l.path_nos l.coords (length l.path_nos - l.l) l.l l.work ≡ gather_from l.path_nos l.coords (length l.path_nos) 0 l.initial.work)
-
-abbrev pub decreases-loop-l : goal.decreases-loop-l
-decreases-loop-l l = length l.path_nos - l.l

@@ -5,4 +5,4 @@ use Rattle.path_reach.proofs.raise.Goals as goal
 
 pub returns : goal.returns
 unfolding raised_at
-returns c = rw c.larger-grown.ensures
+returns c = rw c.max.ensures

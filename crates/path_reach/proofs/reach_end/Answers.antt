@@ -6,6 +6,12 @@ use Rattle.panel.proofs.LimitLaws.{small}
 use Rattle.path_reach.specs.Words.{end_reach}
 use Rattle.path_reach.proofs.reach_end.Goals as goal
 
+pub overflow_sub-x : goal.overflow_sub-x
+overflow_sub-x c = omega (arith, small.edge, c.requires.1, c.tile_at-x.ensures)
+
+pub overflow_sub-y : goal.overflow_sub-y
+overflow_sub-y c = omega (arith, small.edge, c.requires.2, c.tile_at-y.ensures)
+
 pub overflow_add-x : goal.overflow_add-x
 overflow_add-x c = omega (
   arith,
@@ -29,8 +35,6 @@ returns c = rw (
   c.raise-3.ensures,
   c.raise-2.ensures,
   c.raise.ensures,
-  c.less-2.ensures,
-  c.less.ensures,
   c.tile_at-y.ensures,
   c.tile_at-x.ensures,
 )

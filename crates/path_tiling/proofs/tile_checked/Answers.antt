@@ -1,12 +1,11 @@
 -- `path_tiling::tile_checked` meets its contract: a length that fails, or the range. Assumes nothing.
 use mathlib.Core.Path.{sym, ◌∙◌}
-use borrow.Author.Tests.{not-true, not-false}
 use Rattle.panel.specs.Pieces.{pieces}
 use Rattle.path_tiling.proofs.CallLaws.{not_whole_lem, ready, called}
 use Rattle.path_tiling.proofs.tile_checked.Goals as goal
 
 pub returns-then-not-whole : goal.returns-then-not-whole
-returns-then-not-whole c = not_whole_lem _ _ _ _ (sym c.whole.ensures ∙ c.if-not-whole.true)
+returns-then-not-whole c = rw c.at.ensures (not_whole_lem _ _ _ _ (sym c.whole.ensures ∙ c.if-not-whole.true))
 
 pub tile_range-requires : goal.tile_range-requires
 tile_range-requires c =

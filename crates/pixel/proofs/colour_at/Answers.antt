@@ -1,5 +1,5 @@
 -- `pixel::colour_at` meets its contract. Assumes nothing.
-use mathlib.Core.Path.{◌≡◌, sym, ◌∙◌}
+use mathlib.Core.Path.{◌≡◌, sym, ap, ◌∙◌}
 use mathlib.Core.List.{List}
 use Prim.Native.Nat.{ℕ, ◌%◌}
 use lib.ListN.{length}
@@ -8,12 +8,12 @@ use borrow.Author.Tests.{eq-eqb, ne_eqb}
 use Rattle.panel.specs.Checks.{first_no}
 use Rattle.panel.specs.Refusals.{not_whole}
 use Rattle.panel.specs.Widths.{segment_floats}
-use Rattle.panel.specs.declared.kinds.Verdict.{Verdict}
-use Rattle.panel.specs.declared.kinds.Verdict.TheVariants.{Fine, Against}
+use Rattle.panel.specs.Verdict.{Verdict, Fine, Against, verdict_told}
 use Rattle.pixel.specs.Place.{place_at, place_checks}
-use Rattle.pixel.specs.Answers.{Paper, refused_by}
+use Rattle.pixel.specs.Answers.{Paper, refused_by, colour_paper}
 use Rattle.pixel.specs.Colour.{under_list, colour_at_of}
 use Rattle.pixel.proofs.Places.{on_tile_lem}
+use Rattle.pixel.proofs.ToldLaws.{coloured_on}
 use Rattle.pixel.proofs.colour_at.Goals as goal
 
 module _ (ws : List ℕ) (segs : List Float) (t column row : ℕ) (p : Verdict) (e : p ≡ first_no (place_checks column row)) where
@@ -30,17 +30,18 @@ module _ (ws : List ℕ) (segs : List Float) (t column row : ℕ) (p : Verdict) 
     unfolding colour_at_of
     runs r h q = q ∙ rw (sym e ∙ f, eq-eqb _ _ h)
 
-pub returns-in-Against : goal.returns-in-Against
-returns-in-Against c = off _ _ _ _ _ _ c.check_place-p.ensures _ c.in-Against.is
+pub returns-in_err-check_place : goal.returns-in_err-check_place
+returns-in_err-check_place c =
+    ap colour_paper (coloured_on _ _ c.from_residual.ensures.1) ∙ off _ _ _ _ _ _ c.check_place.ensures _ (ap verdict_told c.in_err-check_place.was)
 
 pub returns-then-segments-ne0 : goal.returns-then-segments-ne0
-returns-then-segments-ne0 c = torn _ _ _ _ _ _ c.check_place-p.ensures c.in_default.is c.if-segments-ne0.true
+returns-then-segments-ne0 c = torn _ _ _ _ _ _ c.check_place.ensures (ap verdict_told c.in_ok-check_place.was) c.if-segments-ne0.true
 
 pub colour_of-requires : goal.colour_of-requires
-colour_of-requires c = on_tile_lem _ _ (sym c.check_place-p.ensures ∙ c.in_default.is)
+colour_of-requires c = on_tile_lem _ _ (sym c.check_place.ensures ∙ ap verdict_told c.in_ok-check_place.was)
 
 pub returns : goal.returns
 returns c =
     let a = c.args in
-    runs a.words.now a.segments.now a.t a.column a.row _ c.check_place-p.ensures c.in_default.is _
+    runs a.words.now a.segments.now a.t a.column a.row _ c.check_place.ensures (ap verdict_told c.in_ok-check_place.was) _
     c.if-segments-ne0.false c.colour_of.ensures

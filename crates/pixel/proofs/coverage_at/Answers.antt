@@ -11,17 +11,17 @@ use lib.Ieee.{Float}
 use Rattle.panel.specs.Widths.{segment_floats}
 use Rattle.panel.specs.Checks.{first_no}
 use Rattle.panel.proofs.CheckLaws.{all_ok, none_fails}
-use Rattle.panel.specs.declared.kinds.Verdict.{Verdict}
-use Rattle.panel.specs.declared.kinds.Verdict.TheVariants.{Fine, Against}
+use Rattle.panel.specs.Verdict.{Verdict, Fine, Against, verdict_told}
 use Rattle.sides.specs.Tile.{tile_width, tile_height, tile_size}
 use Rattle.coverage.specs.Coverage.{pixel_of}
 use Rattle.coverage.specs.Ground.{ground_checks}
 use Rattle.coverage.specs.Fill.{fill_checks}
 use Rattle.coverage.proofs.Grounds.{ground_room}
 use Rattle.pixel.specs.Place.{place_at, place_checks}
-use Rattle.pixel.specs.Answers.{answered, refused_by}
+use Rattle.pixel.specs.Answers.{answered, refused_by, coverage_paper}
 use Rattle.pixel.specs.Coverage.{coverage_at_of}
 use Rattle.pixel.proofs.Places.{on_tile_lem}
+use Rattle.pixel.proofs.ToldLaws.{covered_on}
 use Rattle.pixel.proofs.coverage_at.Goals as goal
 
 -- what the checks say, where none fails
@@ -46,24 +46,26 @@ module _ (segs : List Float) (first n : ℕ) (eo : Bool) (z : ℤ) (xt yt : Floa
     unfolding coverage_at_of
     yes a h q = rw (sym e ∙ f, sym g ∙ h, q)
 
-pub returns-in-Against : goal.returns-in-Against
-returns-in-Against c = off _ _ _ _ _ _ _ _ _ _ c.check_place-p.ensures _ c.in-Against.is
+pub returns-in_err-check_place : goal.returns-in_err-check_place
+returns-in_err-check_place c =
+    ap coverage_paper (covered_on _ _ c.from_residual.ensures.1) ∙ off _ _ _ _ _ _ _ _ _ _ c.check_place.ensures _ (ap verdict_told c.in_err-check_place.was)
 
-pub returns-in-Against-v : goal.returns-in-Against-v
-returns-in-Against-v c = no c.args.segments.now _ _ _ _ _ _ _ _ _
-    c.check_place-p.ensures c.in_default.is _
-    c.check_fill-v.ensures _ c.in-Against-v.is
+pub returns-in_err-check_fill : goal.returns-in_err-check_fill
+returns-in_err-check_fill c =
+    ap coverage_paper (covered_on _ _ c.from_residual-in_err-check_fill.ensures.1)
+    ∙ no c.args.segments.now _ _ _ _ _ _ _ _ _ c.check_place.ensures (ap verdict_told c.in_ok-check_place.was) _
+    c.check_fill.ensures _ (ap verdict_told c.in_err-check_fill.was)
 
-pub coverage_of-area-requires : goal.coverage_of-area-requires
-coverage_of-area-requires c = checked c.args.segments.now _ _ _ _
-    (sym c.check_place-p.ensures ∙ c.in_default.is)
-    (sym c.check_fill-v.ensures ∙ c.in_default-v.is)
+pub coverage_of-requires : goal.coverage_of-requires
+coverage_of-requires c = checked c.args.segments.now _ _ _ _
+    (sym c.check_place.ensures ∙ ap verdict_told c.in_ok-check_place.was)
+    (sym c.check_fill.ensures ∙ ap verdict_told c.in_ok-check_fill.was)
 
 pub returns : goal.returns
 returns c =
     let a = c.args in
     yes a.segments.now a.first a.number a.even_odd a.backdrop a.x_tile a.y_tile a.column a.row _
-    c.check_place-p.ensures c.in_default.is _ c.check_fill-v.ensures _
-    c.in_default-v.is
-    (c.coverage_of-area.ensures ∙ ap (λ (z : ℤ). pixel_of a.segments.now a.first a.number a.even_odd z a.x_tile a.y_tile (place_at a.column a.row))
+    c.check_place.ensures (ap verdict_told c.in_ok-check_place.was) _ c.check_fill.ensures _
+    (ap verdict_told c.in_ok-check_fill.was)
+    (c.coverage_of.ensures ∙ ap (λ (z : ℤ). pixel_of a.segments.now a.first a.number a.even_odd z a.x_tile a.y_tile (place_at a.column a.row))
     (to_z-of_z w32 a.backdrop c.ranges.backdrop))

@@ -1,4 +1,4 @@
-use Prim.Native.Nat.{◌+◌, ◌-◌, ◌≤◌}
+use Prim.Native.Nat.{◌-◌, ◌≤◌}
 use mathlib.Core.Path.{◌≡◌}
 use lib.ListN.{length, drop}
 use lib.Seq.{sets}
@@ -6,7 +6,4 @@ use Rattle.ppm_read.proofs.copy.Given as goal
 
 abbrev pub invariant-loop-at : goal.invariant-loop-at
 invariant-loop-at l =
-    (l.at ≡ l.from + l.i) × (l.at ≤ length l.file) × (length l.out ≡ length l.initial.out) × (sets l.out l.i (drop l.at l.file) ≡ sets l.initial.out 0 (drop l.from l.file))
-
-abbrev pub decreases-loop-at : goal.decreases-loop-at
-decreases-loop-at l = length l.file - l.at
+    (l.from ≤ l.at) × (length l.out ≡ length l.initial.out) × (sets l.out (l.at - l.from) (drop l.at l.file) ≡ sets l.initial.out 0 (drop l.from l.file))

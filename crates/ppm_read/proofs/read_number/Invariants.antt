@@ -1,7 +1,6 @@
-use Prim.Native.Nat.{◌-◌}
 use mathlib.Core.Path.{◌≡◌}
 use mathlib.Core.Bool.{false}
-use lib.ListN.{length, drop}
+use lib.ListN.{drop}
 use Rattle.ppm_read.specs.declared.Stage.TheVariants.{Start}
 use Rattle.ppm_read.specs.Header.{number_from}
 use Rattle.ppm_read.specs.Held.{held_got}
@@ -10,6 +9,3 @@ use Rattle.ppm_read.proofs.read_number.Given as goal
 abbrev pub invariant-loop-at : goal.invariant-loop-at
 invariant-loop-at l =
     held_got (number_from l.comment l.stage (drop l.at l.file)) ≡ held_got (number_from false Start (drop l.from l.file))
-
-abbrev pub decreases-loop-at : goal.decreases-loop-at
-decreases-loop-at l = length l.file - l.at

@@ -1,14 +1,10 @@
-use Prim.Native.Nat.{◌≤◌, ◌+◌, ◌*◌, ◌-◌}
+use Prim.Native.Nat.{◌+◌, ◌*◌}
 use mathlib.Core.Path.{◌≡◌}
-use lib.ListN.{length, drop}
+use lib.ListN.{drop}
 use lib.Seq.{sets}
 use Rattle.ppm_write.specs.Bytes.{pixel_bytes}
 use Rattle.ppm_write.specs.File.{raster_of}
 use Rattle.ppm_write.proofs.put_pixels.Given as goal
 
 abbrev pub invariant-loop-i : goal.invariant-loop-i
-invariant-loop-i l =
-    (l.i ≤ length l.pixels) × (l.to ≡ l.at + pixel_bytes * l.i) × (length l.out ≡ length l.initial.out) × (sets l.out l.to (raster_of (drop l.i l.pixels)) ≡ sets l.initial.out l.at (raster_of l.pixels))
-
-abbrev pub decreases-loop-i : goal.decreases-loop-i
-decreases-loop-i l = length l.pixels - l.i
+invariant-loop-i l = sets l.out (l.at + pixel_bytes * l.i) (raster_of (drop l.i l.pixels)) ≡ sets l.initial.out l.at (raster_of l.pixels)

@@ -1,7 +1,6 @@
 -- `ppm_write::write` meets its contract: at each `return` the tests that led there say which case of
 -- `write_of` holds. Assumes nothing.
 use native.Mathlib.Omega.{arith}
-use borrow.Author.Tests.{not-true, not-false}
 use Rattle.ppm_write.proofs.Decimal.{decimal_short}
 use Rattle.ppm_write.proofs.Puts.{put_length, head_length, raster_length}
 use Rattle.ppm_write.proofs.Answers.{sides_of, area_most, file_length, size_refused, number_refused, room_refused, written}
@@ -75,8 +74,8 @@ put_head-at-requires c =
       c.if-out-size.false,
     )
 
-pub put_pixels-end-requires : goal.put_pixels-end-requires
-put_pixels-end-requires c =
+pub put_pixels-requires : goal.put_pixels-requires
+put_pixels-requires c =
     let a = c.args in
     let head = c.put_head-at.ensures in
     omega (
@@ -108,4 +107,4 @@ returns c =
     _
     _
     c.put_head-at.ensures
-    c.put_pixels-end.ensures
+    c.put_pixels.ensures

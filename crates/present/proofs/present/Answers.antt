@@ -1,10 +1,8 @@
 -- `present::present` meets its contract: at each `return` the tests that led there say which case of `present_of` holds. Assumes nothing.
 use Prim.Native.Nat.{◌≤◌, ◌-◌}
 use mathlib.Core.Path.{sym, ◌∙◌}
-use mathlib.Core.Bool.{true}
 use native.Mathlib.Omega.{arith}
 use native.Mathlib.Nat.{mul-le-mul}
-use borrow.Author.Tests.{not-true, not-false}
 use lib.ListN.{length}
 use Rattle.panel.specs.Limits.{side_most}
 use Rattle.panel.proofs.BoolLaws.{both}

@@ -1,11 +1,11 @@
 -- `present::put_rows` meets its contract. The loop's invariant: what the rows left would store from here is what all of them store.
 -- Assumes nothing.
 use Prim.Native.Nat.{ℕ, ◌+◌, ◌*◌, ◌-◌}
-use mathlib.Core.Path.{◌≡◌, refl, ap, ◌∙◌}
+use mathlib.Core.Path.{◌≡◌, ap, ◌∙◌}
 use native.Mathlib.Omega.{arith}
 use lib.ListN.{length, take, drop, length-take}
-use lib.Seq.{sets, length-sets}
-use Rattle.present.specs.Pixels.{row_bytes, row_of, rows_of}
+use lib.Seq.{sets}
+use Rattle.present.specs.Pixels.{row_bytes, rows_of}
 use Rattle.present.proofs.RowLaws.{row_there, row_room, rows_turn, rows_done}
 use Rattle.present.proofs.put_rows.Goals as goal
 
@@ -13,7 +13,7 @@ pub loop-y-init : goal.loop-y-init
 loop-y-init c =
     let a = c.args in
     let all : a.height - 0 ≡ a.height = omega arith in
-    (omega arith, refl, ap (λ (k : ℕ). rows_of a.order a.pixels.now a.screen a.width a.stride k 0 a.out.now) all)
+    ap (λ (k : ℕ). rows_of a.order a.pixels.now a.screen a.width a.stride k 0 a.out.now) all
 
 pub overflow_mul-from : goal.overflow_mul-from
 overflow_mul-from c =
@@ -62,16 +62,10 @@ put_row-requires c =
     omega (
       arith,
       length-take (from + a.width - from) (drop from a.pixels.now),
-      l.invariant.1,
+      l.auto.out,
       row_room (length a.pixels.now) a.screen a.width a.height a.stride (length a.out.now) c.requires l.y
           c.loop-y-test.true,
     )
-
-pub overflow_add-y : goal.overflow_add-y
-overflow_add-y c = omega arith
-
-pub loop-y-smaller : goal.loop-y-smaller
-loop-y-smaller c = omega arith
 
 pub loop-y-preserved : goal.loop-y-preserved
 loop-y-preserved c =
@@ -80,18 +74,11 @@ loop-y-preserved c =
     let from = l.y * a.screen in
     let wide : from + a.width - from ≡ a.width = omega arith in
     let r = c.put_row in
-    let stored = r.ensures ∙ ap (λ (k : ℕ). sets l.out (l.y * a.stride) (row_bytes a.order (take k (drop from a.pixels.now)))) wide in (
-      omega arith,
-      ap length stored ∙ length-sets l.out (l.y * a.stride) (row_bytes a.order (row_of a.pixels.now a.screen a.width l.y)) ∙ l.invariant.1,
-      rows_turn a.order a.pixels.now a.screen a.width a.stride a.height l.y l.out r.new.out _
-          c.loop-y-test.true stored l.invariant.2,
-    )
-
-pub shape_of-out : goal.shape_of-out
-shape_of-out c = c.loop-y.invariant.1
+    let stored = r.ensures ∙ ap (λ (k : ℕ). sets l.out (l.y * a.stride) (row_bytes a.order (take k (drop from a.pixels.now)))) wide in
+    rows_turn a.order a.pixels.now a.screen a.width a.stride a.height l.y l.out r.new.out _ c.loop-y-test.true stored l.invariant
 
 pub returns : goal.returns
 returns c =
     let a = c.args in
     let l = c.loop-y in
-    rows_done a.order a.pixels.now a.screen a.width a.stride a.height l.y l.out _ c.loop-y-test.false l.invariant.2
+    rows_done a.order a.pixels.now a.screen a.width a.stride a.height l.y l.out _ c.loop-y-test.false l.invariant

@@ -7,7 +7,7 @@ use native.Mathlib.Omega.{arith}
 use lib.ListN.{length}
 use Rattle.panel.specs.Paths.{end_of}
 use Rattle.strides.specs.Strides.{LastMet}
-use Rattle.strides.specs.declared.Last.{Last}
+use Rattle.strides.specs.Last.{Last}
 use Rattle.strides.proofs.Laws.{in_both}
 use Rattle.hits.specs.Steps.{hit_at}
 use Rattle.hits.specs.Notes.{Notes}
@@ -38,7 +38,7 @@ lay_steps-requires c =
       t.1,
       c.requires.2,
       c.strides_of-g.ensures,
-      subst (λ (r : Last). LastMet c.args.pace c.args.from r) c.in-Z.is c.last_of.ensures,
+      subst (λ (r : Last). LastMet c.args.pace c.args.from r) c.in-Some.is c.last_of.ensures,
       omega (arith, t.0),
       c.requires.1 t.0,
       c.requires.3,

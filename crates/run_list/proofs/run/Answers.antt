@@ -5,7 +5,7 @@ use Prim.Native.Nat.{ℕ, suc, ◌-◌, ◌+◌, ◌≤◌}
 use lib.ListN.{length}
 use lib.Ieee.{Float}
 use Rattle.panel.specs.Limits.{most_commands}
-use Rattle.panel.specs.declared.kinds.Verdict.{Verdict}
+use Rattle.panel.specs.Verdict.{Verdict}
 use Rattle.sides.specs.Tile.{tile_size}
 use Rattle.commands.specs.Moves.{Trace, ends, does, trace_of}
 use Rattle.commands.specs.Pixel.{cover_all, paint_all, Ran, ran}
@@ -14,7 +14,9 @@ use Rattle.commands.specs.declared.steps.Act.{Act}
 use Rattle.commands.proofs.Acts.{move_within}
 use Rattle.commands.proofs.Traced.{found, more, trace_past, trace_end, trace_full, trace_stop, trace_goes, left_ends, left_does}
 use Rattle.on_pixels.proofs.ActLaws.{length_cover}
-use Rattle.run_list.proofs.Lasts.{word_room, is_last, last_left}
+use Rattle.run_list.specs.Stop.{Stop}
+use Rattle.run_list.specs.Stopped.{stopped}
+use Rattle.run_list.proofs.Lasts.{handed_on, word_room, is_last, last_left}
 use Rattle.colours.specs.Layer.{meant}
 use Rattle.colours.proofs.FlatLaws.{meant_length}
 use Rattle.on_pixels.proofs.Signs.{all_covered}
@@ -53,7 +55,7 @@ returns-in_default c =
       l.invariant.2,
       l.invariant.4,
       stop a.words.now a.segments.now _ l.area (meant l.flat l.rgba) l.at l.count l.invariant.3 _ _ refl
-          (trace_past a.words.now a.segments.now l.at _ (sym c.peek_from.ensures ∙ c.in_default.is)),
+          (trace_past a.words.now a.segments.now l.at _ (sym c.in_default.ensures)),
     )
 
 pub shape_of-area-then-tag-eq-END : goal.shape_of-area-then-tag-eq-END
@@ -67,7 +69,7 @@ returns-then-tag-eq-END c =
       l.invariant.2,
       l.invariant.4,
       stop a.words.now a.segments.now _ l.area (meant l.flat l.rgba) l.at l.count l.invariant.3 _ _ refl
-          (trace_end a.words.now a.segments.now l.at _ (sym c.peek_from.ensures ∙ c.in-Word.is) _ c.if-tag-eq-END.true),
+          (trace_end a.words.now a.segments.now l.at _ (sym c.in-Some.ensures) _ c.if-tag-eq-END.true),
     )
 
 pub shape_of-area-then-count-eq-MOST_COMMANDS : goal.shape_of-area-then-count-eq-MOST_COMMANDS
@@ -81,29 +83,29 @@ returns-then-count-eq-MOST_COMMANDS c =
       l.invariant.2,
       l.invariant.4,
       stop a.words.now a.segments.now _ l.area (meant l.flat l.rgba) l.at l.count l.invariant.3 0 _ (omega arith)
-          (trace_full a.words.now a.segments.now l.at _ (sym c.peek_from.ensures ∙ c.in-Word.is) c.if-tag-eq-END.false),
+          (trace_full a.words.now a.segments.now l.at _ (sym c.in-Some.ensures) c.if-tag-eq-END.false),
     )
 
 pub overflow_add-at : goal.overflow_add-at
 overflow_add-at c =
-    let h = found c.args.words.now c.loop-tag.at _ (sym c.peek_from.ensures ∙ c.in-Word.is) in
+    let h = found c.args.words.now c.loop-tag.at _ (sym c.in-Some.ensures) in
     record { fits = omega (arith, h) }
 
-pub overflow_add-word : goal.overflow_add-word
-overflow_add-word c =
-    let h = found c.args.words.now c.loop-tag.at _ (sym c.peek_from.ensures ∙ c.in-Word.is) in
+pub overflow_add-result : goal.overflow_add-result
+overflow_add-result c =
+    let h = found c.args.words.now c.loop-tag.at _ (sym c.in-Some.ensures) in
     record { fits = omega (arith, h) }
 
 pub offset_bounds-words-at : goal.offset_bounds-words-at
 offset_bounds-words-at c =
-    let h = found c.args.words.now c.loop-tag.at _ (sym c.peek_from.ensures ∙ c.in-Word.is) in
+    let h = found c.args.words.now c.loop-tag.at _ (sym c.in-Some.ensures) in
     record { fits = omega (arith, h) }
 
 pub bounds-words-at : goal.bounds-words-at
 bounds-words-at c =
     let a = c.args in
     let l = c.loop-tag in
-    word_room a.words.now l.at _ _ (sym c.peek_from.ensures ∙ c.in-Word.is) c.ends_at.ensures c.if-tag-ends_at.true
+    word_room a.words.now l.at _ _ (sym c.in-Some.ensures) c.ends_at.ensures c.if-tag-ends_at.true
 
 pub shape_of-area-then-tag-ends_at : goal.shape_of-area-then-tag-ends_at
 shape_of-area-then-tag-ends_at c = c.loop-tag.invariant.1 ∙ sym c.requires.0
@@ -116,34 +118,35 @@ returns-then-tag-ends_at c =
       l.invariant.2,
       l.invariant.4,
       last_left a.words.now a.segments.now l.at l.count _ _ l.area (meant l.flat l.rgba) _ l.invariant.3 l.invariant.0 c.if-count-eq-MOST_COMMANDS.false
-          (l.invariant.1 ∙ sym (meant_length _ _ ∙ l.invariant.2)) (sym c.peek_from.ensures ∙ c.in-Word.is)
+          (l.invariant.1 ∙ sym (meant_length _ _ ∙ l.invariant.2)) (sym c.in-Some.ensures)
           (is_last a.words.now l.at _ _ c.ends_at.ensures c.if-tag-ends_at.true) refl,
     )
 
 pub move_at-requires : goal.move_at-requires
-move_at-requires c = found c.args.words.now c.loop-tag.at _ (sym c.peek_from.ensures ∙ c.in-Word.is)
+move_at-requires c = found c.args.words.now c.loop-tag.at _ (sym c.in-Some.ensures)
 
-pub shape_of-area-in-Refused : goal.shape_of-area-in-Refused
-shape_of-area-in-Refused c = c.loop-tag.invariant.1 ∙ sym c.requires.0
+pub shape_of-area-in_err-act : goal.shape_of-area-in_err-act
+shape_of-area-in_err-act c = c.loop-tag.invariant.1 ∙ sym c.requires.0
 
-pub returns-in-Refused : goal.returns-in-Refused
-returns-in-Refused c =
+pub returns-in_err-act : goal.returns-in_err-act
+returns-in_err-act c =
     let a = c.args in
     let l = c.loop-tag in (
       l.invariant.1,
       l.invariant.2,
       l.invariant.4,
-      stop a.words.now a.segments.now _ l.area (meant l.flat l.rgba) l.at l.count l.invariant.3 _ _
+      ap (λ (s : Stop). stopped s l.area (meant l.flat l.rgba)) (handed_on _ _ c.from_residual.ensures.1)
+          ∙ stop a.words.now a.segments.now _ l.area (meant l.flat l.rgba) l.at l.count l.invariant.3 _ _
           (more l.count l.invariant.0 c.if-count-eq-MOST_COMMANDS.false)
-          (trace_stop a.words.now a.segments.now l.at _ (sym c.peek_from.ensures ∙ c.in-Word.is) c.if-tag-eq-END.false _
-          c.op_of.ensures _ c.move_at.ensures _ _ c.in-Refused.is),
+          (trace_stop a.words.now a.segments.now l.at _ (sym c.in-Some.ensures) c.if-tag-eq-END.false _
+          c.op_of.ensures _ c.in_err-act.ensures _ _ refl),
     )
 
 pub carry_out-requires : goal.carry_out-requires
 carry_out-requires c =
     let a = c.args in
     let l = c.loop-tag in (
-      move_within _ a.words.now a.segments.now l.at _ _ (sym c.move_at.ensures ∙ c.in-Goes.is),
+      move_within _ a.words.now a.segments.now l.at _ _ (sym c.in_ok-act.ensures),
       l.invariant.1,
       l.invariant.2,
       l.invariant.4,
@@ -159,8 +162,8 @@ loop-tag-preserved c =
       e.1,
       turn a.words.now a.segments.now _ l.area (meant l.flat l.rgba) l.at l.count l.invariant.3 _ _ _ _ l.invariant.0
           c.if-count-eq-MOST_COMMANDS.false (l.invariant.1 ∙ sym (meant_length _ _ ∙ l.invariant.2))
-          (trace_goes a.words.now a.segments.now l.at _ (sym c.peek_from.ensures ∙ c.in-Word.is)
-          c.if-tag-eq-END.false _ c.op_of.ensures _ c.move_at.ensures _ _ _ c.in-Goes.is)
+          (trace_goes a.words.now a.segments.now l.at _ (sym c.in-Some.ensures)
+          c.if-tag-eq-END.false _ c.op_of.ensures _ c.in_ok-act.ensures _ _ _ refl)
           e.0 e.2,
       all_covered _ _ l.area _ e.0 l.invariant.4,
     )

@@ -1,6 +1,6 @@
 -- `screen_rows::fill_tile` meets its contract. The invariant: the tile's rows above y are written. Assumes nothing.
 use mathlib.Core.Path.{refl, sym, subst, ◌∙◌}
-use Prim.Native.Nat.{ℕ, ◌*◌, ◌-◌, ◌+◌, ◌≤◌}
+use Prim.Native.Nat.{ℕ, ◌*◌, ◌+◌, ◌≤◌}
 use Rattle.sides.specs.Tile.{tile_height}
 use Rattle.screen_rows.specs.Rows.{one_word}
 use Rattle.screen_rows.proofs.Places.{row_room, no_rows, row_more, all_rows}
@@ -9,7 +9,7 @@ use borrow.Author.Rules.{rules}
 use Rattle.screen_rows.proofs.fill_tile.Goals as goal
 
 pub loop-y-init : goal.loop-y-init
-loop-y-init c = (search rules, refl, no_rows (one_word c.args.word) c.args.width c.args.tx c.args.ty c.args.pixels.now)
+loop-y-init c = (refl, no_rows (one_word c.args.word) c.args.width c.args.tx c.args.ty c.args.pixels.now)
 
 pub fill_row-requires : goal.fill_row-requires
 fill_row-requires c =
@@ -18,25 +18,24 @@ fill_row-requires c =
       search rules,
       search rules,
       search rules,
-      row_room a.width a.tx a.ty c.loop-y.y _ c.loop-y-test.true
+      row_room a.width a.tx a.ty c.loop-y.y _ (omega arith)
           c.requires.2 (subst (λ (n : ℕ). a.width * (tile_height * a.ty + tile_height) ≤ n)
-          (sym c.loop-y.invariant.1) c.requires.3),
+          (sym c.loop-y.invariant.0) c.requires.3),
     )
 
 pub loop-y-preserved : goal.loop-y-preserved
 loop-y-preserved c =
     let a = c.args in (
-      search rules,
-      c.fill_row.auto.pixels ∙ c.loop-y.invariant.1,
+      c.fill_row.auto.pixels ∙ c.loop-y.invariant.0,
       row_more (one_word a.word) a.width
           a.tx a.ty c.loop-y.y _ c.loop-y.pixels _
-          c.loop-y-test.true c.requires.2
-          c.loop-y.invariant.2 c.fill_row.ensures,
+          (omega arith) c.requires.2
+          c.loop-y.invariant.1 c.fill_row.ensures,
     )
 
 pub shape_of-pixels : goal.shape_of-pixels
-shape_of-pixels c = c.loop-y.invariant.1
+shape_of-pixels c = c.loop-y.invariant.0
 
 pub returns : goal.returns
 returns c =
-    c.loop-y.invariant.2 ∙ all_rows (one_word c.args.word) c.args.width c.args.tx c.args.ty c.loop-y.y _ (omega arith)
+    c.loop-y.invariant.1 ∙ all_rows (one_word c.args.word) c.args.width c.args.tx c.args.ty c.loop-y.y _ (omega arith)

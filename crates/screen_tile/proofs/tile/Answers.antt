@@ -9,8 +9,10 @@ use lib.Ieee.{Float}
 use Rattle.util.specs.Constants.{zero}
 use Rattle.lists.specs.Grid.{tabulate}
 use Rattle.lists.specs.GridLaws.{mapi_replicate, get_d_tabulate}
-use Rattle.panel.specs.declared.kinds.Verdict.{Verdict}
-use Rattle.panel.specs.declared.kinds.Verdict.TheVariants.{Fine, Against}
+use Rattle.std.specs.Prelude.{Result, Ok, Err, IsErrAnd, Option, ⊤}
+use Rattle.panel.specs.Refusals.{no_of}
+use Rattle.panel.specs.declared.refusals.Refusal.{Refusal}
+use Rattle.panel.specs.Verdict.{Verdict, Fine, Against, verdict_told}
 use Rattle.sides.specs.Tile.{tile_width, tile_height, tile_size}
 use Rattle.colours.specs.Colour.{composite_of, pack_of}
 use Rattle.colours.specs.Layer.{meant}
@@ -18,7 +20,7 @@ use Rattle.commands.specs.Numbers.{start_of}
 use Rattle.commands.specs.Pixel.{point, point_of, Ran, ran, run_of}
 use Rattle.commands.specs.Alike.{same_colour}
 use Rattle.run_list.specs.Stopped.{stopped}
-use Rattle.run_list.specs.declared.Stop.{Stop}
+use Rattle.run_list.specs.Stop.{Stop, stop_told}
 use Rattle.commands.proofs.Acts.{mapi_cong}
 use Rattle.commands.proofs.Signs.{all_alike}
 use Rattle.screen_rows.specs.Rows.{in_tile, place_of, put_tile, packed, from_list}
@@ -65,6 +67,11 @@ module _ (ws : List ℕ) (segs : List Float) (t w tx ty : ℕ) (pixels : List �
 at_stop : (v s : Stop) (area : List Float) (rgba : List (List Float)) (r : Ran) → v ≡ s → stopped v area rgba ≡ r → stopped s area rgba ≡ r
 at_stop v s area rgba r e h = ap (λ (z : Stop). stopped z area rgba) (sym e) ∙ h
 
+-- a refusal that `?` hands on
+handed_on : (r : Result ⊤ Refusal) (why : Refusal) → IsErrAnd r (λ e. e ≡ why) → verdict_told r ≡ Against (no_of why)
+handed_on (Ok x) why h = absurd h
+handed_on (Err e) why h = ap (λ (e : Refusal). Against (no_of e)) h
+
 recoloured : (area fg fg' : List Float) (rgba : List (List Float)) (w tx ty : ℕ) (pixels after : List ℕ) → fg ≡ fg'
     → after ≡ put_tile (from_list (composite_of area fg rgba) w) w tx ty pixels → after ≡ put_tile (from_list (composite_of area fg' rgba) w) w tx ty pixels
 recoloured area fg fg' rgba w tx ty pixels after e h = h ∙ ap (λ (z : List Float). put_tile (from_list (composite_of area z rgba) w) w tx ty pixels) e
@@ -80,50 +87,50 @@ returns-then-ends_at c =
     (c.fill_tile.ensures ∙ put_one a.width a.tx a.ty _ px a.pixels.now c.pack.ensures) in
     (d.0, d.1, c.requires.5)
 
-pub run-v-requires : goal.run-v-requires
-run-v-requires c =
+pub run-requires : goal.run-requires
+run-requires c =
     let b = c.begin-o in
     (search rules, search rules, search rules, all_alike b.result.area _ c.same_area-area.ensures b.ensures.2)
 
 pub put_last-requires : goal.put_last-requires
 put_last-requires c =
     let p = c.requires in
-    let e = c.run-v.ensures in
+    let e = c.run.ensures in
     (p.1, p.2, p.3, p.4, e.1, e.0, e.2)
 
-pub returns-in-End : goal.returns-in-End
-returns-in-End c =
+pub returns-in-None : goal.returns-in-None
+returns-in-None c =
     let a = c.args in
     let b = c.begin-o in
     let o = b.result in
     let r = c.start_rows in
     let e = goes_on a.words.now a.segments.now a.t o.at o.count o.area b.new.px b.ensures.1 _ _ _ c.same_area-area.ensures
     (ap (λ (f : List Bool). meant f r.new.rgba) c.all_flat-flat.ensures ∙ r.ensures.1)
-    (at_stop _ _ _ _ _ c.in-End.is c.run-v.ensures.3) in
+    (at_stop _ _ _ _ _ (ap stop_told c.in_ok-last.was ∙ ap (λ (o : Option ℕ). stop_told (Ok o)) c.in-None.is) c.run.ensures.3) in
     let d = done a.words.now a.segments.now a.t a.width a.tx a.ty a.pixels.now Fine _ no_colour refl e _ refl c.put_tile.ensures in
-    (d.0, d.1, c.run-v.ensures.1)
+    (d.0, d.1, c.run.ensures.1)
 
-pub returns-in-Last : goal.returns-in-Last
-returns-in-Last c =
+pub returns-in-Some : goal.returns-in-Some
+returns-in-Some c =
     let a = c.args in
     let b = c.begin-o in
     let o = b.result in
     let r = c.start_rows in
     let e = goes_on a.words.now a.segments.now a.t o.at o.count o.area b.new.px b.ensures.1 _ _ _ c.same_area-area.ensures
     (ap (λ (f : List Bool). meant f r.new.rgba) c.all_flat-flat.ensures ∙ r.ensures.1)
-    (at_stop _ _ _ _ _ c.in-Last.is c.run-v.ensures.3) in
+    (at_stop _ _ _ _ _ (ap stop_told c.in_ok-last.was ∙ ap (λ (o : Option ℕ). stop_told (Ok o)) c.in-Some.is) c.run.ensures.3) in
     let d = done a.words.now a.segments.now a.t a.width a.tx a.ty a.pixels.now Fine _ no_colour refl e _ refl
     (recoloured _ _ _ _ a.width a.tx a.ty a.pixels.now _ c.colour.ensures c.put_last.ensures) in
-    (d.0, d.1, c.run-v.ensures.1)
+    (d.0, d.1, c.run.ensures.1)
 
-pub returns-in-Against : goal.returns-in-Against
-returns-in-Against c =
+pub returns-in_err-last : goal.returns-in_err-last
+returns-in_err-last c =
     let a = c.args in
     let b = c.begin-o in
     let o = b.result in
     let r = c.start_rows in
     let e = goes_on a.words.now a.segments.now a.t o.at o.count o.area b.new.px b.ensures.1 _ _ _ c.same_area-area.ensures
     (ap (λ (f : List Bool). meant f r.new.rgba) c.all_flat-flat.ensures ∙ r.ensures.1)
-    (at_stop _ _ _ _ _ c.in-Against.is c.run-v.ensures.3) in
+    (at_stop _ _ _ _ _ (ap stop_told c.in_err-last.was) c.run.ensures.3) in
     let d = refused a.words.now a.segments.now a.t a.width a.tx a.ty a.pixels.now _ _ no_colour refl e _ refl in
-    (d.0, d.1, c.run-v.ensures.1)
+    (handed_on _ _ c.from_residual.ensures.1 ∙ d.0, d.1, c.run.ensures.1)

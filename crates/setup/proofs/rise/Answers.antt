@@ -11,18 +11,18 @@ use Rattle.setup.proofs.rise.Goals as goal
 use Rattle.setup.proofs.rise.Goals.{After-floor}
 
 -- the columns, and the floor at the last step
-columns : (c : After-floor) → let a = c.args in float (counts_by a.left a.right a.top a.bottom).count_x ≡ sub binary32 c.apart-count_x.result one
+columns : (c : After-floor) → let a = c.args in float (counts_by a.g.left a.g.right a.g.top a.g.bottom).count_x ≡ sub binary32 c.apart-count_x.result one
 columns c =
     let a = c.args in
-    sym (columns_told a.left a.right a.top a.bottom c.apart-count_x.result c.apart.result c.requires.0 c.requires.1 c.apart-count_x.ensures c.apart.ensures)
+    sym (columns_told a.g.left a.g.right a.g.top a.g.bottom c.apart-count_x.result c.apart.result c.requires.0 c.requires.1 c.apart-count_x.ensures c.apart.ensures)
 
 floored : (c : After-floor) → let a = c.args in
-    floor_of (add binary32 (mul binary32 (mul binary32 a.m.dx a.m.idxdy) (sub binary32 (float (counts_by a.left a.right a.top a.bottom).count) one)) a.b)
+    floor_of (add binary32 (mul binary32 (mul binary32 a.m.dx a.m.idxdy) (sub binary32 (float (counts_by a.g.left a.g.right a.g.top a.g.bottom).count) one)) a.b)
     ≡ c.floor.result
 floored c =
     let a = c.args in
     ap (λ (x : Float). floor_of (add binary32 (mul binary32 (mul binary32 a.m.dx a.m.idxdy) x) a.b))
-    (sym (last_told a.left a.right a.top a.bottom c.apart-count_x.result c.apart.result c.requires.0 c.requires.1 c.apart-count_x.ensures c.apart.ensures))
+    (sym (last_told a.g.left a.g.right a.g.top a.g.bottom c.apart-count_x.result c.apart.result c.requires.0 c.requires.1 c.apart-count_x.ensures c.apart.ensures))
     ∙ sym c.floor.ensures
 
 pub returns-then-robust_err : goal.returns-then-robust_err

@@ -6,4 +6,4 @@ pub returns-in_default : goal.returns-in_default
 returns-in_default c = rw c.in_default.is (refl, refl)
 
 pub returns : goal.returns
-returns c = rw c.in-In.is c.put_short.ensures
+returns c = rw c.in-Some.is c.put_short.ensures

@@ -1,6 +1,6 @@
 use mathlib.Core.Path.{◌≡◌}
 use mathlib.Core.List.{List}
-use Prim.Native.Nat.{◌+◌, ◌-◌, ◌/◌, ◌<◌, ◌≤◌, ◌^◌}
+use Prim.Native.Nat.{◌+◌, ◌/◌, ◌<◌, ◌^◌}
 use lib.ListN.{length}
 use lib.IntN.{ℤ}
 use Rattle.lists.specs.Run.{done}
@@ -12,9 +12,6 @@ use Rattle.short_runs.proofs.count_ones.Given as goal
 
 abbrev pub invariant-loop-n : goal.invariant-loop-n
 invariant-loop-n l =
-    (l.n ≤ l.many) × (l.made + l.n < 2 ^ 32) × (length l.counts ≡ length l.initial.counts) × (length l.refs ≡ length l.initial.refs)
+    (l.made + l.n < 2 ^ 32)
     × ((bs : List ℤ) → done (st_of bs l.counts l.refs (l.made + l.n))
     ≡ first_ran (λ j. line_step l.path_nos l.coords l.paths (length l.initial.refs / ref_words) (l.line.0 + j) (l.place + j)) l.n (st_of bs l.initial.counts l.initial.refs l.made))
-
-abbrev pub decreases-loop-n : goal.decreases-loop-n
-decreases-loop-n l = l.most - l.n

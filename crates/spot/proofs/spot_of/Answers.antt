@@ -1,6 +1,5 @@
 -- `spot::spot_of` meets its contract: what passes the tests lies within one tile (`Spots.antt`). Assumes nothing.
 use Rattle.std.proofs.Common.{◌≡◌, true, sym, ◌∙◌}
-use borrow.Author.Tests.{not-false}
 use Rattle.spot.specs.Tests.{held_of}
 use Rattle.spot.proofs.Spots.{held_real, spot_met}
 use Rattle.spot.proofs.spot_of.Goals as goal

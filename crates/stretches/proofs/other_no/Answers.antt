@@ -1,6 +1,5 @@
 -- `stretches::other_no` meets its contract. Assumes nothing.
 use mathlib.Core.Path.{◌≡◌, ap, sym, ◌∙◌}
-use mathlib.Core.Bool.{true, false}
 use borrow.Author.Tests.{le-leb, lt-leb}
 use Rattle.panel.specs.Lines.{line_at}
 use Rattle.walk.specs.Lent.{reached_of}

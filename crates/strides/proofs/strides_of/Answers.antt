@@ -5,7 +5,7 @@ use Rattle.util.specs.Constants.{zero}
 use Rattle.strides.specs.Strides.{strides_of}
 use Rattle.strides.proofs.Laws.{twice_can, x0_near, y0_near, col_is, col_few, row_is, row_few, edges_few}
 use Rattle.strides.proofs.strides_of.Goals as goal
-use Rattle.strides.proofs.strides_of.Goals.{After-floor_bits-col, After-floor_bits-row, After-pick_u32-low}
+use Rattle.strides.proofs.strides_of.Goals.{After-floor_bits-col, After-floor_bits-row, After-pick-low}
 
 pub floor_bits-col-requires : goal.floor_bits-col-requires
 floor_bits-col-requires c = x0_near c.args.p c.args.b c.requires.0 c.requires.1
@@ -46,11 +46,11 @@ pub overflow_sub-col : goal.overflow_sub-col
 overflow_sub-col c =
     omega (arith, (col_bounds (goal.at.overflow_sub-col c).After-floor_bits-col).1, (edges_few c.args.p c.args.b c.requires.0 c.requires.1).0)
 
-low_bounds : (c : After-pick_u32-low) → (c.floor_bits-col.result ≤ 1262485504 + 2 ^ 21) × (1262485504 ≤ c.floor_bits-col.result + 2 ^ 21) → (c.pick_u32-low.result ≤ 1262485504 + 2 ^ 23) × (1 ≤ c.pick_u32-low.result)
+low_bounds : (c : After-pick-low) → (c.floor_bits-col.result ≤ 1262485504 + 2 ^ 21) × (1262485504 ≤ c.floor_bits-col.result + 2 ^ 21) → (c.pick-low.result ≤ 1262485504 + 2 ^ 23) × (1 ≤ c.pick-low.result)
 low_bounds c f =
     let e = (edges_few c.args.p c.args.b c.requires.0 c.requires.1).0 in
     let l = c.requires.0.left in
-    go (lt zero c.args.p.sign) c.pick_u32-low.result c.pick_u32-low.ensures f e l
+    go (lt zero c.args.p.sign) c.pick-low.result c.pick-low.ensures f e l
   where
     go : (t : Bool) (r : ℕ) {col left right : ℕ} → r ≡ cond t (1262485504 + 1262485504 + left - col) (col + 1 - right) → (col ≤ 1262485504 + 2 ^ 21) × (1262485504 ≤ col + 2 ^ 21) → right ≤ 2 ^ 20
         → left ≤ right → (r ≤ 1262485504 + 2 ^ 23) × (1 ≤ r)
@@ -59,10 +59,10 @@ low_bounds c f =
 
 pub overflow_add-low : goal.overflow_add-low
 overflow_add-low c =
-    omega (arith, (low_bounds (goal.at.overflow_add-low c).After-pick_u32-low (col_bounds (goal.at.overflow_add-low c).After-floor_bits-col)).0, (edges_few c.args.p c.args.b c.requires.0 c.requires.1).0)
+    omega (arith, (low_bounds (goal.at.overflow_add-low c).After-pick-low (col_bounds (goal.at.overflow_add-low c).After-floor_bits-col)).0, (edges_few c.args.p c.args.b c.requires.0 c.requires.1).0)
 
 pub overflow_sub-low : goal.overflow_sub-low
-overflow_sub-low c = omega (arith, (low_bounds (goal.at.overflow_sub-low c).After-pick_u32-low (col_bounds (goal.at.overflow_sub-low c).After-floor_bits-col)).1)
+overflow_sub-low c = omega (arith, (low_bounds (goal.at.overflow_sub-low c).After-pick-low (col_bounds (goal.at.overflow_sub-low c).After-floor_bits-col)).1)
 
 pub overflow_sub-top : goal.overflow_sub-top
 overflow_sub-top c =

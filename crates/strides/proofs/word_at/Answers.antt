@@ -5,7 +5,7 @@ use Rattle.strides.proofs.word_at.Goals as goal
 pub word_of-requires : goal.word_of-requires
 word_of-requires c =
     let r = c.requires in
-    omega (arith, c.pick_u32.ensures, r.base_few, r.rows_few, r.right_few)
+    omega (arith, c.pick.ensures, r.base_few, r.rows_few, r.right_few)
 
 pub returns : goal.returns
 returns c = cc

@@ -1,34 +1,40 @@
 use Prim.Native.Nat.{◌+◌}
 use native.Mathlib.Omega.{arith}
+use lib.ListN.{length-drop}
+use Rattle.std.proofs.lemmas.List.{take_rest}
 use Rattle.svg_tokens.proofs.Parts.{sign_few, run_bounds, read_is}
 use Rattle.svg_tokens.proofs.read.Goals as goal
 
-pub overflow_add-at : goal.overflow_add-at
-overflow_add-at c = let h = sign_few _ _ c.signs-k.ensures in omega (arith, h)
+pub slice_bounds-digits-count : goal.slice_bounds-digits-count
+slice_bounds-digits-count c = let h = sign_few _ _ c.signs-k.ensures in omega (arith, h)
 
-pub digits-whole-requires : goal.digits-whole-requires
-digits-whole-requires c = let h = sign_few _ _ c.signs-k.ensures in (omega (arith, h), omega arith)
+pub slice_bounds-digits-start : goal.slice_bounds-digits-start
+slice_bounds-digits-start c = let h = sign_few _ _ c.signs-k.ensures in omega (arith, h)
 
 pub overflow_add-past : goal.overflow_add-past
 overflow_add-past c =
-    let a = c.args in
-    let h = run_bounds _ (a.at + c.signs-k.result) a.s.now _ (omega arith) c.digits-whole.ensures in let g = sign_few _ _ c.signs-k.ensures
-    in omega (arith, h.1, g)
+    let h = run_bounds _ _ _ (omega arith) c.digits-whole.ensures in
+    let g = sign_few _ _ c.signs-k.ensures in
+    omega (arith, h.1, g)
 
-pub overflow_add-at-2 : goal.overflow_add-at-2
-overflow_add-at-2 c =
-    let a = c.args in
-    let h = run_bounds _ (a.at + c.signs-k.result) a.s.now _ (omega arith) c.digits-whole.ensures in let g = sign_few _ _ c.signs-k.ensures
-    in omega (arith, h.2, g, c.requires)
+pub slice_bounds-part-count : goal.slice_bounds-part-count
+slice_bounds-part-count c =
+    let s = c.args.s.now in
+    let h = run_bounds _ _ _ (omega arith) (rw take_rest at c.digits-whole.ensures) in
+    let g = sign_few _ _ c.signs-k.ensures in
+    omega (arith, h.2, g, length-drop c.signs-k.result s, c.requires)
+
+pub slice_bounds-part-start : goal.slice_bounds-part-start
+slice_bounds-part-start c = slice_bounds-part-count c
 
 pub part-requires : goal.part-requires
 part-requires c =
-    let a = c.args in
-    let h = run_bounds _ (a.at + c.signs-k.result) a.s.now _ (omega arith) c.digits-whole.ensures in let g = sign_few _ _ c.signs-k.ensures
-    in (omega (arith, h.2, g, c.requires), h.0, omega arith)
+    let h = run_bounds _ _ _ (omega arith) c.digits-whole.ensures in
+    let g = sign_few _ _ c.signs-k.ensures in
+    (h.0, omega (arith, h.1, g))
 
 pub returns : goal.returns
 returns c =
-    let a = c.args in
-    read_is a.s.now a.at _ _ _ c.requires c.signs-k.ensures c.digits-whole.ensures
-    c.part.ensures
+    let s = c.args.s.now in
+    read_is s _ _ _ _ _ c.signs-k.ensures (take_rest s c.signs-k.result) c.digits-whole.ensures
+    (take_rest s (c.signs-k.result + c.digits-whole.result.taken)) c.part.ensures

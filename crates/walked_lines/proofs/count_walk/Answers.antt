@@ -6,6 +6,8 @@ use mathlib.Core.List.{List, ◌++◌}
 use Prim.Native.Nat.{◌+◌, ◌-◌, ◌/◌}
 use native.Mathlib.Omega.{arith}
 use lib.ListN.{length}
+use Rattle.std.proofs.lemmas.Result.{err_from_is_err_and}
+use Rattle.panel.specs.Verdict.{verdict_told}
 use Rattle.panel.specs.Limits.{most_steps}
 use Rattle.panel.specs.Widths.{ref_words}
 use Rattle.acts.specs.Acts.{Act, st_of, steps_acts, run_acts, check_no, is_done, delta_of}
@@ -72,24 +74,27 @@ checked : (c : After-check_line-v) →
     let k = c.clip_to-clip.result in
     rows_acts c.rows_by-rows.result ++ steps_acts (hit_at c.args.walk.pace c.args.path) (k.imax - k.imin) k.imin
     ≡ plan_acts (plan_by d c.args.walk.pace c.args.path k) →
-    c.check_line-v.result ≡ check_no (delta_of d) (plan_acts (plan_by d c.args.walk.pace c.args.path c.clip_to-clip.result)) c.args.backs.now c.args.counts.now
+    verdict_told c.check_line-v.result ≡ check_no (delta_of d) (plan_acts (plan_by d c.args.walk.pace c.args.path c.clip_to-clip.result)) c.args.backs.now c.args.counts.now
 checked c h =
     c.check_line-v.ensures.0
     ∙ ap (λ (xs : List Act). check_no (delta_of (not c.args.walk.e.is_down)) xs c.args.backs.now c.args.counts.now) h
 
-pub returns-in-Against : goal.returns-in-Against
+pub returns-in_err-v : goal.returns-in_err-v
 unfolding most_steps
-returns-in-Against c =
+returns-in_err-v c =
     let k = c.clip_to-clip in
-    walk_refused (length c.args.refs.now / ref_words) c.args.line.0 c.args.walk c.args.path k.result k.ensures
+    let p = err_from_is_err_and c.from_residual.result c.from_residual.ensures.1 in
+    rw (p.1, p.2)
+    (walk_refused (length c.args.refs.now / ref_words) c.args.line.0 c.args.walk c.args.path k.result k.ensures
     (st_of c.args.backs.now c.args.counts.now c.args.refs.now c.args.made)
-    c.if-imin-imax.false c.if-after-refs.false _ _ c.requires.0 c.requires.1 c.check_line-v.result (checked (goal.at.returns-in-Against c).After-check_line-v (acts (goal.at.returns-in-Against c).After-rows_by-rows)) _ c.in-Against.is
+    c.if-imin-imax.false c.if-after-refs.false _ _ c.requires.0 c.requires.1 (verdict_told c.check_line-v.result)
+    (checked (goal.at.returns-in_err-v c).After-check_line-v (acts (goal.at.returns-in_err-v c).After-rows_by-rows)) _ (ap verdict_told c.in_err-v.was))
 
 pub write_line-requires : goal.write_line-requires
 unfolding most_steps
 write_line-requires c =
     let k = c.clip_to-clip in
-    let fine = c.in_default.is in
+    let fine = ap verdict_told c.in_ok-v.was in
     let room = has_room (length c.args.refs.now / ref_words) (c.args.made + (k.result.imax - k.result.imin)) c.if-after-refs.false in (
       c.requires.0,
       rows (goal.at.write_line-requires c).After-rows_by-rows,
@@ -103,7 +108,7 @@ write_line-requires c =
           (sym (acts (goal.at.write_line-requires c).After-rows_by-rows))
           (walk_fine (length c.args.refs.now / ref_words) c.args.line.0 c.args.walk c.args.path k.result k.ensures
           (st_of c.args.backs.now c.args.counts.now c.args.refs.now c.args.made)
-          c.if-imin-imax.false c.if-after-refs.false _ _ c.requires.0 c.requires.1 c.check_line-v.result (checked (goal.at.write_line-requires c).After-check_line-v (acts (goal.at.write_line-requires c).After-rows_by-rows)) fine),
+          c.if-imin-imax.false c.if-after-refs.false _ _ c.requires.0 c.requires.1 (verdict_told c.check_line-v.result) (checked (goal.at.write_line-requires c).After-check_line-v (acts (goal.at.write_line-requires c).After-rows_by-rows)) fine),
     )
 
 pub returns : goal.returns

@@ -3,10 +3,7 @@
 use mathlib.Core.Path.{refl, sym, subst}
 use native.Mathlib.Omega.{arith}
 use lib.ListN.{get_or}
-use Rattle.panel.specs.Lines.{line_at}
 use Rattle.walk.specs.Step.{Boxed}
-use Rattle.inside.specs.Inside.{InsideMet}
-use Rattle.inside.specs.declared.Inside.{Inside}
 use Rattle.within.proofs.Withins.{unclipped}
 use Rattle.within.proofs.within_at.Goals as goal
 
@@ -20,7 +17,7 @@ inside_at-requires c =
 pub returns : goal.returns
 returns c =
     let b = c.path_at-path in
-    let i = c.in-In in
+    let i = c.in_ok-pace in
     unclipped c.args.path_nos.now c.args.coords.now c.args.paths.now c.args.place c.line_at-line.result b.result i.pace i.n _
     c.line_at-line.ensures b.ensures c.if-path_no-paths.false
-    (subst (λ (r : Inside). InsideMet (line_at c.args.coords.now c.args.place) b.result r) i.is c.inside_at.ensures) refl
+    i.ensures refl

@@ -3,57 +3,35 @@
 use mathlib.Core.Path.{◌≡◌, sym, ◌∙◌}
 use Prim.Native.Nat.{◌-◌, ◌+◌}
 use native.Mathlib.Omega.{arith}
-use borrow.Author.Tests.{not-true, not-false}
 use lib.IntN.{pos}
 use Rattle.backdrop.specs.Backdrop.{row_fits}
 use Rattle.backdrop.proofs.RowLaws.{rows_fit_turn, rows_fit_end, rows_left}
 use Rattle.backdrop.proofs.rows.rows_fit.Goals as goal
-
-pub loop-y-init : goal.loop-y-init
-loop-y-init c =
-    let all_left : c.args.height - 0 ≡ c.args.height = omega arith in
-    (omega arith, rw all_left c.requires, rw all_left)
-
-pub overflow_add-end : goal.overflow_add-end
-overflow_add-end c =
-    let l = c.loop-y in
-    let a = c.args in
-    let bs = a.backdrops.now in
-    let left = rows_left bs a.width a.height l.y l.at (omega arith) in
-    omega (arith, left)
-
-pub row_fits-requires : goal.row_fits-requires
-row_fits-requires c =
-    let l = c.loop-y in
-    let a = c.args in
-    let bs = a.backdrops.now in
-    let left = rows_left bs a.width a.height l.y l.at (omega arith) in
-    (omega arith, omega (arith, left))
 
 pub returns-then-not-row_fits : goal.returns-then-not-row_fits
 returns-then-not-row_fits c =
     let l = c.loop-y in
     let a = c.args in
     let bs = a.backdrops.now in
-    let left = rows_left bs a.width a.height l.y l.at (omega arith) in
+    let left = rows_left bs a.width a.height l._y l.at (omega arith) in
     let wide : l.at + a.width - l.at ≡ a.width = omega arith in
     let row : c.row_fits.result ≡ row_fits a.width l.at (pos 0) bs = c.row_fits.ensures ∙ rw wide in
     let none = sym row ∙ c.if-not-row_fits.true in
-    sym (rw none at (rows_fit_turn bs a.width a.height l.y l.at (omega arith))) ∙ l.invariant.2
+    sym (rw none at (rows_fit_turn bs a.width a.height l._y l.at (omega arith))) ∙ l.invariant.1
 
 pub loop-y-preserved : goal.loop-y-preserved
 loop-y-preserved c =
     let l = c.loop-y in
     let a = c.args in
     let bs = a.backdrops.now in
-    let left = rows_left bs a.width a.height l.y l.at (omega arith) in
+    let left = rows_left bs a.width a.height l._y l.at (omega arith) in
     let wide : l.at + a.width - l.at ≡ a.width = omega arith in
     let row : c.row_fits.result ≡ row_fits a.width l.at (pos 0) bs = c.row_fits.ensures ∙ rw wide in
     let fine = sym row ∙ c.if-not-row_fits.false in
-    (omega arith, omega (arith, left), sym (rw fine at (rows_fit_turn bs a.width a.height l.y l.at (omega arith))) ∙ l.invariant.2)
+    (omega (arith, left), sym (rw fine at (rows_fit_turn bs a.width a.height l._y l.at (omega arith))) ∙ l.invariant.1)
 
 pub returns : goal.returns
 returns c =
     let l = c.loop-y in
     let a = c.args in
-    sym (rows_fit_end a.backdrops.now a.width a.height l.y l.at c.loop-y-test.false) ∙ l.invariant.2
+    sym (rows_fit_end a.backdrops.now a.width a.height l._y l.at (omega arith)) ∙ l.invariant.1

@@ -6,7 +6,4 @@ use Rattle.backdrop.proofs.rows.rows_fit.Given as goal
 
 abbrev pub invariant-loop-y : goal.invariant-loop-y
 invariant-loop-y l =
-    (l.y ≤ l.height) × (l.at + (l.height - l.y) * l.width ≤ length l.backdrops) × (rows_fit (l.height - l.y) l.width l.at l.backdrops ≡ rows_fit l.height l.width l.first l.backdrops)
-
-abbrev pub decreases-loop-y : goal.decreases-loop-y
-decreases-loop-y l = l.height - l.y
+    (l.at + (l.height - l._y) * l.width ≤ length l.backdrops) × (rows_fit (l.height - l._y) l.width l.at l.backdrops ≡ rows_fit l.height l.width l.first l.backdrops)

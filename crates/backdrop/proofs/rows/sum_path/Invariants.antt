@@ -7,8 +7,5 @@ use Rattle.backdrop.proofs.rows.sum_path.Given as goal
 
 abbrev pub invariant-loop-y : goal.invariant-loop-y
 invariant-loop-y l =
-    (l.y ≤ l.height) × (l.at + (l.height - l.y) * l.width ≤ length l.backdrops) × (length l.backdrops ≡ length l.initial.backdrops) × (rows_fit (l.height - l.y) l.width l.at l.backdrops ≡ true)
-    × (rows_sums (l.height - l.y) l.width l.at l.backdrops ≡ rows_sums l.height l.width l.initial.at l.initial.backdrops)
-
-abbrev pub decreases-loop-y : goal.decreases-loop-y
-decreases-loop-y l = l.height - l.y
+    (l.at + (l.height - l._y) * l.width ≤ length l.backdrops) × (length l.backdrops ≡ length l.initial.backdrops) × (rows_fit (l.height - l._y) l.width l.at l.backdrops ≡ true)
+    × (rows_sums (l.height - l._y) l.width l.at l.backdrops ≡ rows_sums l.height l.width l.initial.at l.initial.backdrops)

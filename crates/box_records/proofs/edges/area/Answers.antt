@@ -7,7 +7,7 @@ use Rattle.panel.proofs.PathLaws.{wide}
 use Rattle.box_records.proofs.edges.area.Goals as goal
 
 pub overflow_mul-result : goal.overflow_mul-result
-overflow_mul-result c = omega (arith, wide c.less.result c.less-2.result (omega arith) (omega arith))
+overflow_mul-result c = omega (arith, wide c.saturating_sub.result c.saturating_sub-2.result (omega arith) (omega arith))
 
 pub returns : goal.returns
-returns c = ap₂ (λ (a b : ℕ). a * b) c.less.ensures c.less-2.ensures
+returns c = ap₂ (λ (a b : ℕ). a * b) c.saturating_sub.ensures c.saturating_sub-2.ensures

@@ -15,8 +15,6 @@ returns c = rw (
   ne_eqb _ _ c.if-right-eq0.false,
   c.further-y1.ensures,
   c.further-x1.ensures,
-  c.less-y0.ensures,
-  c.less-2.ensures,
-  c.less-x0.ensures,
-  c.less.ensures,
+  c.before-y0.ensures,
+  c.before-x0.ensures,
 )

@@ -12,26 +12,23 @@ use Rattle.box_records.proofs.RowLaws.{sum_turn, sum_end}
 use Rattle.box_records.proofs.edges.total.Goals as goal
 
 pub loop-k-init : goal.loop-k-init
-loop-k-init c = let all : c.args.n - 0 ≡ c.args.n = omega arith in (omega arith, rw (all, zero-add), omega arith)
+loop-k-init c = let all : c.args.n - 0 ≡ c.args.n = omega arith in (rw (all, zero-add), omega arith)
 
 pub overflow_add-tiles : goal.overflow_add-tiles
 overflow_add-tiles c =
     let s = c.args in
     let l = c.loop-k in
-    let a : c.area-tiles.result ≤ 2 ^ 24 = rw (c.area-tiles.ensures, c.box_at-p.ensures) (area_most s.work.now s.m l.k 0) in
+    let a : c.area-tiles.result ≤ 2 ^ 24 = rw (c.area-tiles.ensures, c.box_at.ensures) (area_most s.work.now s.m l.k 0) in
     omega (arith, small.paths)
-
-pub loop-k-smaller : goal.loop-k-smaller
-loop-k-smaller c = omega arith
 
 pub loop-k-preserved : goal.loop-k-preserved
 loop-k-preserved c =
     let s = c.args in
     let l = c.loop-k in
-    let e : c.area-tiles.result ≡ area_of_word (box_in s.work.now s.m l.k 0) = rw (c.area-tiles.ensures, c.box_at-p.ensures) in
+    let e : c.area-tiles.result ≡ area_of_word (box_in s.work.now s.m l.k 0) = rw (c.area-tiles.ensures, c.box_at.ensures) in
     let a = area_most s.work.now s.m l.k 0 in
     let t = sum_turn (λ j. area_of_word (box_in s.work.now s.m j 0)) s.n l.k (omega arith) in
-    (omega arith, omega arith, omega arith)
+    (omega arith, omega arith)
 
 pub returns : goal.returns
 returns c =

@@ -7,7 +7,4 @@ use Rattle.box_records.specs.Told.{box_in}
 use Rattle.box_records.proofs.edges.total.Given as goal
 
 abbrev pub invariant-loop-k : goal.invariant-loop-k
-invariant-loop-k l = (l.k ≤ l.n) × (l.tiles + sum (map (λ j. area_of_word (box_in l.work l.m j 0)) (from l.k (l.n - l.k))) ≡ sum (map (λ j. area_of_word (box_in l.work l.m j 0)) (from 0 l.n))) × (l.tiles ≤ l.k * 2 ^ 24)
-
-abbrev pub decreases-loop-k : goal.decreases-loop-k
-decreases-loop-k l = l.n - l.k
+invariant-loop-k l = (l.tiles + sum (map (λ j. area_of_word (box_in l.work l.m j 0)) (from l.k (l.n - l.k))) ≡ sum (map (λ j. area_of_word (box_in l.work l.m j 0)) (from 0 l.n))) × (l.tiles ≤ l.k * 2 ^ 24)

@@ -16,10 +16,10 @@ use Rattle.box_records.proofs.records.put_records.Goals as goal
 pub loop-k-init : goal.loop-k-init
 loop-k-init c =
     let all : c.args.n - 0 ≡ c.args.n = omega arith in
-    (omega arith, refl, rw (all, zero-add), rw all)
+    (refl, rw (all, zero-add), rw all)
 
 pub put_path-requires : goal.put_path-requires
-put_path-requires c = omega (arith, c.loop-k.invariant.1)
+put_path-requires c = omega (arith, c.loop-k.invariant.0)
 
 pub overflow_cast-first : goal.overflow_cast-first
 overflow_cast-first c =
@@ -33,10 +33,7 @@ overflow_add-first c =
     let l = c.loop-k in
     let e : c.area-tiles.result ≡ area_of_word (box_in s.work.now s.m l.k 0) = rw (c.area-tiles.ensures, c.box_at-p.ensures) (area_same
     s.work.now s.m l.k l.first) in
-    omega (arith, sum_turn (λ j. area_of_word (box_in s.work.now s.m j 0)) s.n l.k (omega arith), l.invariant.2, small.tiles)
-
-pub loop-k-smaller : goal.loop-k-smaller
-loop-k-smaller c = omega arith
+    omega (arith, sum_turn (λ j. area_of_word (box_in s.work.now s.m j 0)) s.n l.k (omega arith), l.invariant.1, small.tiles)
 
 pub loop-k-preserved : goal.loop-k-preserved
 loop-k-preserved c =
@@ -49,10 +46,10 @@ loop-k-preserved c =
     let on : l.first + c.area-tiles.result ≡ end_of (box_in s.work.now s.m l.k l.first) =
     ap₂ (λ (a d : ℕ). a + d) (sym (first_is s.work.now s.m l.k l.first)) e in
     let u = put_turn (box_in s.work.now s.m) s.beams.now s.n l.k l.first l.paths (omega arith) in
-    (omega arith, c.put_path.auto.paths ∙ l.invariant.1, omega (arith, l.invariant.2), rw (on, c.put_path.ensures, b) (sym u ∙ l.invariant.3))
+    (c.put_path.auto.paths ∙ l.invariant.0, omega (arith, l.invariant.1), rw (on, c.put_path.ensures, b) (sym u ∙ l.invariant.2))
 
 pub returns : goal.returns
 returns c =
     let s = c.args in
     let l = c.loop-k in
-    sym (put_end (box_in s.work.now s.m) s.beams.now s.n l.k l.first l.paths (omega arith)) ∙ l.invariant.3
+    sym (put_end (box_in s.work.now s.m) s.beams.now s.n l.k l.first l.paths (omega arith)) ∙ l.invariant.2

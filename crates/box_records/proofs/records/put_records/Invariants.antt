@@ -1,6 +1,6 @@
 use mathlib.Core.Path.{◌≡◌}
 use mathlib.Core.List.{map}
-use Prim.Native.Nat.{◌+◌, ◌-◌, ◌*◌, ◌≤◌}
+use Prim.Native.Nat.{◌+◌, ◌-◌, ◌*◌}
 use lib.ListN.{length}
 use lib.Seq.{sets}
 use Rattle.lists.specs.Sums.{sum, from}
@@ -11,8 +11,5 @@ use Rattle.box_records.proofs.records.put_records.Given as goal
 
 abbrev pub invariant-loop-k : goal.invariant-loop-k
 invariant-loop-k l =
-    (l.k ≤ l.n) × (length l.paths ≡ length l.initial.paths) × (l.first + sum (map (λ j. area_of_word (box_in l.work l.m j 0)) (from l.k (l.n - l.k))) ≡ sum (map (λ j. area_of_word (box_in l.work l.m j 0)) (from 0 l.n)))
+    (length l.paths ≡ length l.initial.paths) × (l.first + sum (map (λ j. area_of_word (box_in l.work l.m j 0)) (from l.k (l.n - l.k))) ≡ sum (map (λ j. area_of_word (box_in l.work l.m j 0)) (from 0 l.n)))
     × (sets l.paths (l.k * path_words) (records_from (box_in l.work l.m) l.beams (l.n - l.k) l.k l.first) ≡ sets l.initial.paths 0 (records_from (box_in l.work l.m) l.beams l.n 0 0))
-
-abbrev pub decreases-loop-k : goal.decreases-loop-k
-decreases-loop-k l = l.n - l.k

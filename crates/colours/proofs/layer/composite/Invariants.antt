@@ -1,14 +1,10 @@
 use mathlib.Core.Path.{◌≡◌}
 use lib.ListN.{length}
-use Prim.Native.Nat.{◌-◌, ◌≤◌}
-use Rattle.sides.specs.Tile.{tile_height, tile_size, row_start}
+use Rattle.sides.specs.Tile.{tile_size, row_start}
 use Rattle.ranges.proofs.Turn.{Done}
 use Rattle.colours.specs.Layer.{each, meant}
 use Rattle.colours.proofs.layer.composite.Given as goal
 
 abbrev pub invariant-loop-y : goal.invariant-loop-y
 invariant-loop-y l =
-    (l.y ≤ tile_height) × (length l.rgba ≡ tile_size) × Done (each l.area l.fg) 0 (row_start l.y) (meant l.initial.flat l.initial.rgba) (meant l.flat l.rgba)
-
-abbrev pub decreases-loop-y : goal.decreases-loop-y
-decreases-loop-y l = tile_height - l.y
+    (length l.rgba ≡ tile_size) × Done (each l.area l.fg) 0 (row_start l.y) (meant l.initial.flat l.initial.rgba) (meant l.flat l.rgba)

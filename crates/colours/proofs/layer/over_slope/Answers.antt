@@ -8,14 +8,14 @@ pub returns-then-flat-y : goal.returns-then-flat-y
 returns-then-flat-y c =
     let a = c.args in
     let p = c.requires in (
-      changed_length (onto a.area.now a.fg _) _ _ a.rgba.now _ p.1 c.lay_on_row.ensures,
-      ends_flat a.area.now a.fg a.y a.flat.now a.rgba.now _ p.1 p.0 _ c.if-flat-y.true refl c.lay_on_row.ensures,
+      changed_length (onto a.area.now a.fg _) _ _ a.rgba.now _ p.1 c.row.ensures,
+      ends_flat a.area.now a.fg a.y a.flat.now a.rgba.now _ p.1 p.0 _ c.if-flat-y.true refl c.row.ensures,
     )
 
 pub returns-else-flat-y : goal.returns-else-flat-y
 returns-else-flat-y c =
     let a = c.args in
     let p = c.requires in (
-      changed_length (each a.area.now a.fg) _ _ a.rgba.now _ p.1 c.lay_row.ensures,
-      not_flat a.area.now a.fg a.y a.flat.now a.rgba.now _ p.1 p.0 c.if-flat-y.false c.lay_row.ensures,
+      changed_length (each a.area.now a.fg) _ _ a.rgba.now _ p.1 c.row-else-flat-y.ensures,
+      not_flat a.area.now a.fg a.y a.flat.now a.rgba.now _ p.1 p.0 c.if-flat-y.false c.row-else-flat-y.ensures,
     )

@@ -1,33 +1,41 @@
 -- `commands::steps::fill_move` meets its contract. Assumes nothing.
-use mathlib.Core.Path.{◌≡◌, sym, ap, ◌∙◌}
+use mathlib.Core.Path.{◌≡◌, ap, ◌∙◌}
 use mathlib.Core.List.{List}
 use Prim.Native.Nat.{ℕ, ◌+◌}
 use lib.ListN.{get_or}
 use lib.Ieee.{Float}
-use Rattle.panel.specs.declared.kinds.Verdict.{Verdict}
-use Rattle.panel.specs.declared.kinds.Verdict.TheVariants.{Fine, Against}
+use Rattle.panel.specs.Verdict.{Verdict}
 use Rattle.coverage.specs.Ground.{ground_of}
 use Rattle.commands.specs.Numbers.{fill_words}
 use Rattle.commands.specs.Moves.{count_of, on_ground, fill_move}
 use Rattle.commands.specs.declared.steps.Act.TheVariants.{Fill}
-use Rattle.commands.specs.declared.steps.Move.TheVariants.{Refused, Goes}
+use Rattle.std.specs.Prelude.{Result, Ok, Err, IsErrAnd}
+use Rattle.panel.specs.declared.refusals.Refusal.{Refusal}
+use Rattle.panel.specs.Refusals.{no_of}
+use Rattle.commands.specs.declared.steps.Act.{Act}
+use Rattle.commands.specs.Move.{Move, Refused, Goes, move_told}
 use Rattle.commands.proofs.steps.fill_move.Goals as goal
 
-module _ (ws : List ℕ) (segs : List Float) (at : ℕ) (v : Verdict) (e : v ≡ ground_of segs (get_or ws (at + 2) 0) (count_of (get_or ws (at + 1) 0))) where
-  stops : (k : ℕ) → v ≡ Against k → Refused k ≡ fill_move ws segs at
-  unfolding fill_move
-  stops k f = ap (λ (x : Verdict). on_ground x (Goes (Fill (get_or ws (at + 1) 0) (get_or ws (at + 2) 0) (get_or ws (at + 3) 0)) (at + fill_words))) (sym f ∙ e)
+module _ (ws : List ℕ) (segs : List Float) (at : ℕ) where
+  ends : Move
+  ends = Goes (Fill (get_or ws (at + 1) 0) (get_or ws (at + 2) 0) (get_or ws (at + 3) 0)) (at + fill_words)
 
-  goes : v ≡ Fine → Goes (Fill (get_or ws (at + 1) 0) (get_or ws (at + 2) 0) (get_or ws (at + 3) 0)) (at + fill_words) ≡ fill_move ws segs at
-  unfolding fill_move
-  goes f = ap (λ (x : Verdict). on_ground x (Goes (Fill (get_or ws (at + 1) 0) (get_or ws (at + 2) 0) (get_or ws (at + 3) 0)) (at + fill_words))) (sym f ∙ e)
+  -- whatever the ground's answer
+  by_ground : (v : Verdict) → v ≡ ground_of segs (get_or ws (at + 2) 0) (count_of (get_or ws (at + 1) 0)) → on_ground v ends ≡ fill_move ws segs at
+  unfolding fill_move ends
+  by_ground v e = ap (λ (x : Verdict). on_ground x ends) e
 
-pub returns-in-Against : goal.returns-in-Against
-returns-in-Against c =
+handed_on : (r : Result (Act × ℕ) Refusal) (why : Refusal) → IsErrAnd r (λ e. e ≡ why) → move_told r ≡ Refused (no_of why)
+handed_on (Ok x) why h = absurd h
+handed_on (Err e) why h = ap (λ (e : Refusal). Refused (no_of e)) h
+
+pub returns-in_err-ground : goal.returns-in_err-ground
+returns-in_err-ground c =
     let a = c.args in
-    stops a.words.now a.segments.now a.at _ c.ground-v.ensures _ c.in-Against.is
+    handed_on _ _ c.from_residual.ensures.1 ∙ by_ground a.words.now a.segments.now a.at _ c.in_err-ground.ensures
 
 pub returns : goal.returns
+unfolding ends
 returns c =
     let a = c.args in
-    goes a.words.now a.segments.now a.at _ c.ground-v.ensures c.in_default.is
+    by_ground a.words.now a.segments.now a.at _ c.in_ok-ground.ensures

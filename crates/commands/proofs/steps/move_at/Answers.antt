@@ -1,7 +1,7 @@
 -- `commands::steps::move_at` meets its contract: an arm for each kind of command. Assumes nothing.
 use mathlib.Core.Path.{◌≡◌, refl, sym, ap, ◌∙◌}
 use mathlib.Core.List.{List}
-use Prim.Native.Nat.{ℕ, ◌+◌, ◌-◌, ◌≤◌, ◌<◌}
+use Prim.Native.Nat.{ℕ, ◌-◌, ◌≤◌, ◌<◌}
 use native.Mathlib.Omega.{arith}
 use lib.ListN.{length}
 use lib.Ieee.{Float}
@@ -11,8 +11,8 @@ use Rattle.commands.specs.Numbers.{words_of}
 use Rattle.commands.specs.Moves.{whole_move, move_of}
 use Rattle.commands.specs.declared.steps.Op.{Op}
 use Rattle.commands.specs.declared.steps.Op.TheVariants.{Fill, Solid, Color, Jump, Unknown}
-use Rattle.commands.specs.declared.steps.Move.{Move}
-use Rattle.commands.specs.declared.steps.Move.TheVariants.{Refused}
+use Rattle.commands.specs.Move.{Move}
+use Rattle.commands.specs.Move.{Refused}
 use Rattle.commands.proofs.steps.move_at.Goals as goal
 
 module _ (ws : List ℕ) (segs : List Float) (at : ℕ) (o : Op) (size : ℕ) (e : size ≡ words_of o) where
@@ -27,46 +27,43 @@ module _ (ws : List ℕ) (segs : List Float) (at : ℕ) (o : Op) (size : ℕ) (e
 
 pub returns-then-words-at : goal.returns-then-words-at
 returns-then-words-at c =
-    short c.args.words.now c.args.segments.now c.args.at c.args.op _ c.words_of-size.ensures c.if-words-at.true
+    short c.args.words.now c.args.segments.now c.args.at c.args.op _ c.words.ensures c.if-words-at.true
 
 pub fill_move-requires : goal.fill_move-requires
-fill_move-requires c = omega (arith, c.words_of-size.ensures ∙ ap words_of c.in-Fill.is)
+fill_move-requires c = omega (arith, c.words.ensures ∙ ap words_of c.in-Fill.is)
 
 pub bounds-words-at : goal.bounds-words-at
-bounds-words-at c = omega (arith, c.words_of-size.ensures ∙ ap words_of c.in-Color.is)
+bounds-words-at c = omega (arith, c.words.ensures ∙ ap words_of c.in-Color.is)
 
 pub bounds-words-at-in-Jump : goal.bounds-words-at-in-Jump
-bounds-words-at-in-Jump c = omega (arith, c.words_of-size.ensures ∙ ap words_of c.in-Jump.is)
-
-pub overflow_cast-next : goal.overflow_cast-next
-overflow_cast-next c = omega (arith, c.shared_slice_known-in-Jump-1.given (c.args.at + 1))
+bounds-words-at-in-Jump c = omega (arith, c.words.ensures ∙ ap words_of c.in-Jump.is)
 
 pub returns-in-Fill : goal.returns-in-Fill
 unfolding whole_move
 returns-in-Fill c =
-    arm c.args.words.now c.args.segments.now c.args.at c.args.op _ c.words_of-size.ensures Fill _
+    arm c.args.words.now c.args.segments.now c.args.at c.args.op _ c.words.ensures Fill _
     c.if-words-at.false c.in-Fill.is c.fill_move.ensures
 
 pub returns-in-Solid : goal.returns-in-Solid
 unfolding whole_move
 returns-in-Solid c =
-    arm c.args.words.now c.args.segments.now c.args.at c.args.op _ c.words_of-size.ensures Solid _
+    arm c.args.words.now c.args.segments.now c.args.at c.args.op _ c.words.ensures Solid _
     c.if-words-at.false c.in-Solid.is refl
 
 pub returns-in-Color : goal.returns-in-Color
 unfolding whole_move
 returns-in-Color c =
-    arm c.args.words.now c.args.segments.now c.args.at c.args.op _ c.words_of-size.ensures Color _
+    arm c.args.words.now c.args.segments.now c.args.at c.args.op _ c.words.ensures Color _
     c.if-words-at.false c.in-Color.is refl
 
 pub returns-in-Jump : goal.returns-in-Jump
 unfolding whole_move
 returns-in-Jump c =
-    arm c.args.words.now c.args.segments.now c.args.at c.args.op _ c.words_of-size.ensures Jump _
+    arm c.args.words.now c.args.segments.now c.args.at c.args.op _ c.words.ensures Jump _
     c.if-words-at.false c.in-Jump.is refl
 
 pub returns-in-Unknown : goal.returns-in-Unknown
 unfolding whole_move
 returns-in-Unknown c =
-    arm c.args.words.now c.args.segments.now c.args.at c.args.op _ c.words_of-size.ensures Unknown _
+    arm c.args.words.now c.args.segments.now c.args.at c.args.op _ c.words.ensures Unknown _
     c.if-words-at.false c.in-Unknown.is refl

@@ -1,7 +1,7 @@
 -- `coverage::area::add_segments` meets its contract. The invariant: the first j segments are done. Assumes nothing.
 use mathlib.Core.Path.{◌≡◌, refl, sym, ap, ◌∙◌}
 use mathlib.Core.List.{List}
-use Prim.Native.Nat.{ℕ, ◌-◌, ◌+◌}
+use Prim.Native.Nat.{ℕ, ◌+◌}
 use native.Mathlib.Numerals.{add-one}
 use lib.ListN.{length}
 use lib.Ieee.{Float, nan}
@@ -13,7 +13,6 @@ use Rattle.coverage.specs.Coverage.{area_after}
 use Rattle.panel.specs.declared.segments.Segment.{Segment}
 use Rattle.one_row.specs.declared.Way.{Way}
 use native.Mathlib.Omega.{arith}
-use borrow.Author.Rules.{rules}
 use Rattle.coverage.proofs.area.add_segments.Goals as goal
 
 none : (segs : List Float) (first : ℕ) (xt yt : Float) (l : List Float) → l ≡ mapi (area_after segs first xt yt 0) l
@@ -30,21 +29,20 @@ turn segs first xt yt j l₀ l m s w p q inv e =
     ∙ ap (λ (n : ℕ). mapi (area_after segs first xt yt n) l₀) (sym (add-one j))
 
 pub loop-j-init : goal.loop-j-init
-loop-j-init c = (search rules, refl, none c.args.segments.now c.args.first c.args.xt c.args.yt _)
+loop-j-init c = (refl, none c.args.segments.now c.args.first c.args.xt c.args.yt _)
 
 pub loop-j-preserved : goal.loop-j-preserved
 loop-j-preserved c = (
-  search rules,
-  ap length c.add_segment.ensures ∙ length_mapi _ _ ∙ c.loop-j.invariant.1,
+  ap length c.add_segment.ensures ∙ length_mapi _ _ ∙ c.loop-j.invariant.0,
   turn c.args.segments.now c.args.first
-      c.args.xt c.args.yt c.loop-j.j _ _ _ _ _ c.segment_at.ensures
-      c.way_of.ensures c.loop-j.invariant.2 c.add_segment.ensures,
+      c.args.xt c.args.yt c.loop-j.j _ _ _ _ _ c.segment_at-s.ensures
+      c.way_of.ensures c.loop-j.invariant.1 c.add_segment.ensures,
 )
 
 pub shape_of-area : goal.shape_of-area
-shape_of-area c = c.loop-j.invariant.1
+shape_of-area c = c.loop-j.invariant.0
 
 pub returns : goal.returns
 returns c =
-    c.loop-j.invariant.2 ∙ ap (λ (m : ℕ). mapi (area_after c.args.segments.now c.args.first c.args.xt c.args.yt m) c.args.area.now)
+    c.loop-j.invariant.1 ∙ ap (λ (m : ℕ). mapi (area_after c.args.segments.now c.args.first c.args.xt c.args.yt m) c.args.area.now)
     (omega arith)

@@ -1,12 +1,8 @@
 use mathlib.Core.Path.{◌≡◌}
-use Prim.Native.Nat.{◌-◌, ◌≤◌}
 use lib.ListN.{length}
 use Rattle.lists.specs.Grid.{mapi}
 use Rattle.coverage.specs.Coverage.{area_after}
 use Rattle.coverage.proofs.area.add_segments.Given as goal
 
 abbrev pub invariant-loop-j : goal.invariant-loop-j
-invariant-loop-j l = (l.j ≤ l.n) × (length l.area ≡ length l.initial.area) × (l.area ≡ mapi (area_after l.segments l.first l.xt l.yt l.j) l.initial.area)
-
-abbrev pub decreases-loop-j : goal.decreases-loop-j
-decreases-loop-j l = l.n - l.j
+invariant-loop-j l = (length l.area ≡ length l.initial.area) × (l.area ≡ mapi (area_after l.segments l.first l.xt l.yt l.j) l.initial.area)

@@ -1,5 +1,4 @@
 -- `coverage::area::finish_all` meets its contract. The invariant: the pixels below i are done. Assumes nothing.
-use Prim.Native.Nat.{◌-◌}
 use lib.Ieee.{nan}
 use Rattle.sides.specs.Tile.{tile_size}
 use Rattle.coverage.specs.Coverage.{finish_of}
@@ -9,15 +8,15 @@ use borrow.Author.Rules.{rules}
 use Rattle.coverage.proofs.area.finish_all.Goals as goal
 
 pub loop-i-init : goal.loop-i-init
-loop-i-init c = (search rules, begun (λ k x. finish_of _ x) nan _)
+loop-i-init c = begun (λ k x. finish_of _ x) nan _
 
 pub loop-i-preserved : goal.loop-i-preserved
 loop-i-preserved c =
     let l = c.loop-i in
-    (search rules, turned (λ k x. finish_of c.args.eo x) nan 0 l.i _ l.area _ (search rules) l.invariant.1 c.finish.ensures)
+    turned (λ k x. finish_of c.args.eo x) nan 0 l.i _ l.area _ (search rules) l.invariant c.finish.ensures
 
 pub shape_of-area : goal.shape_of-area
-shape_of-area c = c.loop-i.invariant.1.0
+shape_of-area c = c.loop-i.invariant.0
 
 pub returns : goal.returns
-returns c = ended (λ k x. finish_of c.args.eo x) nan tile_size c.loop-i.i _ _ c.loop-i.invariant.1 c.requires (omega arith)
+returns c = ended (λ k x. finish_of c.args.eo x) nan tile_size c.loop-i.i _ _ c.loop-i.invariant c.requires (omega arith)

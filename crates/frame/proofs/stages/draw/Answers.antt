@@ -1,8 +1,9 @@
 -- `frame::stages::draw` meets its contract: by what counting answers.
 -- Assumes nothing.
-use mathlib.Core.Path.{sym, ◌∙◌}
+use mathlib.Core.Path.{sym, ap, ◌∙◌}
 use lib.IntN.{pos}
 use Rattle.ranges.proofs.RangeLaws.{cleared_all}
+use Rattle.path_count.specs.Counted.{counted_told}
 use Rattle.frame.proofs.FrameLaws.{drawn_no, drawn_on}
 use Rattle.frame.proofs.stages.draw.Goals as goal
 
@@ -23,43 +24,43 @@ place-requires c =
           ∙ c.requires.1 ∙ sym words,
     )
 
-pub shape_of-backdrops-in-Done : goal.shape_of-backdrops-in-Done
-shape_of-backdrops-in-Done c = c.backdrops-in-Done-1.given
+pub shape_of-backdrops-in-Ok : goal.shape_of-backdrops-in-Ok
+shape_of-backdrops-in-Ok c = c.backdrops-in-Ok-1.given
     ∙ c.backdrops-2-1.given
     ∙ c.backdrops-1.given
 
-pub shape_of-stored-in-Done : goal.shape_of-stored-in-Done
-shape_of-stored-in-Done c = c.stored-in-Done-1.given
+pub shape_of-stored-in-Ok : goal.shape_of-stored-in-Ok
+shape_of-stored-in-Ok c = c.stored-in-Ok-1.given
     ∙ c.stored-2-1.given
     ∙ c.stored-1.given
 
-pub returns-in-Done : goal.returns-in-Done
-returns-in-Done c =
+pub returns-in-Ok : goal.returns-in-Ok
+returns-in-Ok c =
     let k = c.count_checked in
     drawn_on _ _ _ _ _ _ _ _ _ _ _
-    (c.clear_backdrops.ensures ∙ cleared_all (pos 0)
+    (c.clear.ensures ∙ cleared_all (pos 0)
     c.args.backdrops.now)
-    (c.clear_words.ensures ∙ cleared_all 0
+    (c.clear-2.ensures ∙ cleared_all 0
     c.args.stored.now)
-    c.end_of-end.ensures k.result _ _ _ k.ensures
-    _ _ c.in-Done.is
+    c.end_of-end.ensures (counted_told k.result) _ _ _ k.ensures
+    _ _ (ap counted_told c.in-Ok.is)
     c.place.ensures
 
-pub shape_of-backdrops-in-Refused : goal.shape_of-backdrops-in-Refused
-shape_of-backdrops-in-Refused c = c.backdrops-2-1.given
+pub shape_of-backdrops-in-Err : goal.shape_of-backdrops-in-Err
+shape_of-backdrops-in-Err c = c.backdrops-2-1.given
     ∙ c.backdrops-1.given
 
-pub shape_of-stored-in-Refused : goal.shape_of-stored-in-Refused
-shape_of-stored-in-Refused c = c.stored-2-1.given
+pub shape_of-stored-in-Err : goal.shape_of-stored-in-Err
+shape_of-stored-in-Err c = c.stored-2-1.given
     ∙ c.stored-1.given
 
-pub returns-in-Refused : goal.returns-in-Refused
-returns-in-Refused c =
+pub returns-in-Err : goal.returns-in-Err
+returns-in-Err c =
     let k = c.count_checked in
-    drawn_no _ _ _ _ _ _ _ _ _ _ _
-    (c.clear_backdrops.ensures ∙ cleared_all
+    rw (c.refuses.ensures, c.at.ensures) (drawn_no _ _ _ _ _ _ _ _ _ _ _
+    (c.clear.ensures ∙ cleared_all
     (pos 0) c.args.backdrops.now)
-    (c.clear_words.ensures ∙ cleared_all 0
+    (c.clear-2.ensures ∙ cleared_all 0
     c.args.stored.now) c.end_of-end.ensures
-    k.result _ _ _ k.ensures
-    _ _ _ c.in-Refused.is
+    (counted_told k.result) _ _ _ k.ensures
+    _ _ _ (ap counted_told c.in-Err.is))

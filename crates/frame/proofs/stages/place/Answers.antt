@@ -1,43 +1,44 @@
 -- `frame::stages::place` meets its contract: by what each stage answers.
 -- Assumes nothing.
+use mathlib.Core.Path.{ap}
+use Rattle.panel.specs.Answer.{answer_told}
 use Rattle.frame.proofs.FrameLaws.{summed_no, handed_no, tiled_no, all_done}
 use Rattle.frame.proofs.stages.place.Goals as goal
 
 -- the paths are checked for as many backdrops as tiles
-pub backdrop_checked-summed-requires : goal.backdrop_checked-summed-requires
-backdrop_checked-summed-requires c = rw c.requires.1 c.requires.0
+pub backdrop_checked-requires : goal.backdrop_checked-requires
+backdrop_checked-requires c = rw c.requires.1 c.requires.0
 
-pub returns-in-Refused : goal.returns-in-Refused
-returns-in-Refused c =
-    let b = c.backdrop_checked-summed in
-    summed_no _ _ _ _ _ _ _ _ _ b.result _ b.ensures _ _ c.in-Refused.is
+pub returns-in-Err : goal.returns-in-Err
+returns-in-Err c =
+    let b = c.backdrop_checked in
+    rw c.refuses.ensures (summed_no _ _ _ _ _ _ _ _ _ (answer_told b.result) _ b.ensures _ _ (ap answer_told c.in-Err.is))
 
-pub returns-in-Refused-handed : goal.returns-in-Refused-handed
-returns-in-Refused-handed c =
-    let b = c.backdrop_checked-summed in
-    let h = c.hand_out-handed in
-    handed_no _ _ _ _ _ _ _ _ _ b.result _ b.ensures c.in_default.is _ c.slots_of-room.ensures
-    h.result _ _ h.ensures _ _ c.in-Refused-handed.is
+pub returns-in-Err-hand_out : goal.returns-in-Err-hand_out
+returns-in-Err-hand_out c =
+    let b = c.backdrop_checked in
+    let h = c.hand_out in
+    rw c.refuses-in-Err-hand_out.ensures
+    (handed_no _ _ _ _ _ _ _ _ _ (answer_told b.result) _ b.ensures (ap answer_told c.in_default.is) _ c.slots_of-room.ensures
+    (answer_told h.result) _ _ h.ensures _ _ (ap answer_told c.in-Err-hand_out.is))
 
 -- hand-out leaves as many tiles
 pub tile_checked-tiled-requires : goal.tile_checked-tiled-requires
-tile_checked-tiled-requires c = rw c.stored-1.given
-    c.requires.0
+tile_checked-tiled-requires c = rw c.stored-1.given c.requires.0
 
-pub returns-in-Refused-tiled : goal.returns-in-Refused-tiled
-returns-in-Refused-tiled c =
-    let b = c.backdrop_checked-summed in
-    let h = c.hand_out-handed in
+pub returns-in-Err-tiled : goal.returns-in-Err-tiled
+returns-in-Err-tiled c =
+    let b = c.backdrop_checked in
+    let h = c.hand_out in
     let t = c.tile_checked-tiled in
-    tiled_no _ _ _ _ _ _ _ _ _ b.result _ b.ensures c.in_default.is _
-    c.slots_of-room.ensures
-    h.result _ _ h.ensures c.in_default-handed.is t.result _ t.ensures _ _ c.in-Refused-tiled.is
+    rw c.refuses-in-Err-tiled.ensures
+    (tiled_no _ _ _ _ _ _ _ _ _ (answer_told b.result) _ b.ensures (ap answer_told c.in_default.is) _ c.slots_of-room.ensures
+    (answer_told h.result) _ _ h.ensures (ap answer_told c.in_default-hand_out.is) (answer_told t.result) _ t.ensures _ _ (ap answer_told c.in-Err-tiled.is))
 
 pub returns : goal.returns
 returns c =
-    let b = c.backdrop_checked-summed in
-    let h = c.hand_out-handed in
+    let b = c.backdrop_checked in
+    let h = c.hand_out in
     let t = c.tile_checked-tiled in
-    all_done _ _ _ _ _ _ _ _ _ b.result _ b.ensures c.in_default.is _
-    c.slots_of-room.ensures
-    h.result _ _ h.ensures c.in_default-handed.is t.result _ t.ensures c.in_default-tiled.is
+    all_done _ _ _ _ _ _ _ _ _ (answer_told b.result) _ b.ensures (ap answer_told c.in_default.is) _ c.slots_of-room.ensures
+    (answer_told h.result) _ _ h.ensures (ap answer_told c.in_default-hand_out.is) (answer_told t.result) _ t.ensures (ap answer_told c.in_default-tiled.is)

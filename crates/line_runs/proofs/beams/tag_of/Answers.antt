@@ -5,5 +5,5 @@ use Rattle.line_runs.proofs.beams.tag_of.Goals as goal
 pub returns-then-path-paths : goal.returns-then-path-paths
 returns-then-path-paths c = c.beam_at.ensures
 
-pub returns : goal.returns
-returns c = no_path c.args.paths.now _ c.if-path-paths.false
+pub returns-else-path-paths : goal.returns-else-path-paths
+returns-else-path-paths c = no_path c.args.paths.now _ c.if-path-paths.false

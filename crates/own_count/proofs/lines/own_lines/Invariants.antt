@@ -1,6 +1,5 @@
 use mathlib.Core.Path.{◌≡◌}
-use Prim.Native.Nat.{◌+◌, ◌-◌, ◌≤◌, ◌<◌, ◌^◌}
-use lib.ListN.{length}
+use Prim.Native.Nat.{◌+◌, ◌≤◌, ◌<◌, ◌^◌}
 use Rattle.lists.specs.Run.{done}
 use Rattle.panel.specs.Limits.{most_lines}
 use Rattle.own_count.specs.Own.{own_to}
@@ -9,8 +8,5 @@ use Rattle.own_count.proofs.lines.own_lines.Given as goal
 
 abbrev pub invariant-loop-l : goal.invariant-loop-l
 invariant-loop-l l =
-    ((l.l ≤ length l.path_nos) × (l.l ≤ most_lines)) × (length l.work ≡ length l.initial.work) × (own_to l.path_nos l.coords l.paths l.n l.l ≡ done (view_of l.n l.work l.made))
+    (l.l ≤ most_lines) × (own_to l.path_nos l.coords l.paths l.n l.l ≡ done (view_of l.n l.work l.made))
     × StartsNoted l.path_nos l.coords l.paths l.n l.work (l.n + l.n) l.l × (l.made < 2 ^ 32)
-
-abbrev pub decreases-loop-l : goal.decreases-loop-l
-decreases-loop-l l = length l.path_nos - l.l

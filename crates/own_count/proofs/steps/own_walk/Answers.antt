@@ -1,6 +1,8 @@
 -- `own_count::steps::own_walk` meets its contract.
 -- Assumes nothing.
-use Prim.Native.Nat.{◌-◌}
+use mathlib.Core.Path.{ap}
+use Rattle.std.proofs.lemmas.Result.{err_from_is_err_and}
+use Rattle.panel.specs.Verdict.{verdict_told}
 use Rattle.panel.specs.Limits.{most_steps}
 use Rattle.walked_lines.proofs.Lines.{left, clipped, not_far}
 use Rattle.own_count.proofs.Shown.{kept_refl}
@@ -24,24 +26,28 @@ returns-then-made-k c = (
   kept_refl _ _,
 )
 
-pub own_acts-v-requires : goal.own_acts-v-requires
+pub own_acts-requires : goal.own_acts-requires
 unfolding most_steps
-own_acts-v-requires c = (
+own_acts-requires c = (
   c.requires.0,
   c.requires.1,
   clipped c.args.walk c.args.path c.clip_to-clip.result c.clip_to-clip.ensures c.requires.2.wide (not_far c.clip_to-clip.result.imin c.clip_to-clip.result.imax c.if-imin-imax.false),
 )
 
-pub returns-in-Against : goal.returns-in-Against
+pub returns-in_err-own_acts : goal.returns-in_err-own_acts
 unfolding most_steps
-returns-in-Against c = (
-  (λ l. own_refused l c.args.walk c.args.path c.clip_to-clip.result c.clip_to-clip.ensures c.args.n c.args.work.now c.args.made c.if-imin-imax.false c.if-made-k.false _ _ c.own_acts-v.ensures _ c.in-Against.is),
-  c.own_acts-v.ensures.above,
-)
+returns-in_err-own_acts c =
+    let p = err_from_is_err_and c.from_residual.result c.from_residual.ensures.1 in
+    rw (p.1, p.2) (
+      λ l. own_refused l c.args.walk c.args.path c.clip_to-clip.result c.clip_to-clip.ensures c.args.n c.args.work.now c.args.made c.if-imin-imax.false c.if-made-k.false _ _
+          c.own_acts.ensures _ (ap verdict_told c.in_err-own_acts.was),
+      c.own_acts.ensures.above,
+    )
 
 pub returns : goal.returns
 unfolding most_steps
 returns c = (
-  (λ l. own_done l c.args.walk c.args.path c.clip_to-clip.result c.clip_to-clip.ensures c.args.n c.args.work.now c.args.made c.if-imin-imax.false c.if-made-k.false _ _ c.own_acts-v.ensures c.in_default.is),
-  c.own_acts-v.ensures.above,
+  λ l. own_done l c.args.walk c.args.path c.clip_to-clip.result c.clip_to-clip.ensures c.args.n c.args.work.now c.args.made c.if-imin-imax.false c.if-made-k.false _ _
+      c.own_acts.ensures (ap verdict_told c.in_ok-own_acts.was),
+  c.own_acts.ensures.above,
 )

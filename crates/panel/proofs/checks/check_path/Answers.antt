@@ -2,7 +2,7 @@
 -- Assumes nothing.
 use mathlib.Core.Path.{◌≡◌, sym, ◌∙◌}
 use mathlib.Core.Bool.{true, false}
-use borrow.Author.Tests.{le-leb, lt-leb, not-true, not-false}
+use borrow.Author.Tests.{le-leb, lt-leb}
 use Rattle.panel.specs.Paths.{box_fits}
 use Rattle.panel.proofs.PathLaws.{box_fits_lem}
 use Rattle.panel.proofs.checks.check_path.Goals as goal

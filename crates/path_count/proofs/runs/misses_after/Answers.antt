@@ -6,8 +6,5 @@ use Rattle.path_count.proofs.runs.misses_after.Goals as goal
 pub returns-then-hit : goal.returns-then-hit
 returns-then-hit c = rw c.if-hit.true
 
-pub returns-then-misses-lt-TRIES : goal.returns-then-misses-lt-TRIES
-returns-then-misses-lt-TRIES c = rw c.if-hit.false (omega (arith, c.if-misses-lt-TRIES.true))
-
-pub returns-else-misses-lt-TRIES : goal.returns-else-misses-lt-TRIES
-returns-else-misses-lt-TRIES c = rw c.if-hit.false (omega (arith, c.if-misses-lt-TRIES.false))
+pub returns-else-hit : goal.returns-else-hit
+returns-else-hit c = rw c.if-hit.false (omega arith)

@@ -1,5 +1,4 @@
 use mathlib.Core.Path.{◌≡◌}
-use Prim.Native.Nat.{◌-◌, ◌≤◌}
 use lib.ListN.{length}
 use Rattle.pixel.specs.Shares.{lanes}
 use Rattle.pixel.proofs.Shares.{share_here, counts_here, FilledTo}
@@ -7,8 +6,5 @@ use Rattle.pixel.proofs.lanes.four.Given as goal
 
 abbrev pub invariant-loop-i : goal.invariant-loop-i
 invariant-loop-i l =
-    (l.i ≤ lanes) × (length l.shares ≡ lanes) × (length l.tests ≡ lanes) × FilledTo (share_here l.segments l.k l.xt l.yt l.column l.row) l.i l.shares
+    (length l.shares ≡ lanes) × (length l.tests ≡ lanes) × FilledTo (share_here l.segments l.k l.xt l.yt l.column l.row) l.i l.shares
     × FilledTo (counts_here l.segments l.k l.xt l.yt l.column l.row) l.i l.tests
-
-abbrev pub decreases-loop-i : goal.decreases-loop-i
-decreases-loop-i l = lanes - l.i

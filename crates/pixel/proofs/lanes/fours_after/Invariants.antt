@@ -1,12 +1,9 @@
 use mathlib.Core.Path.{◌≡◌}
-use Prim.Native.Nat.{◌-◌, ◌*◌, ◌≤◌}
+use Prim.Native.Nat.{◌*◌}
 use Rattle.coverage.specs.Coverage.{area_after}
 use Rattle.pixel.specs.Place.{place_at}
 use Rattle.pixel.specs.Shares.{lanes}
 use Rattle.pixel.proofs.lanes.fours_after.Given as goal
 
 abbrev pub invariant-loop-j : goal.invariant-loop-j
-invariant-loop-j l = (l.j ≤ l.m) × (l.a ≡ area_after l.segments l.first l.xt l.yt (l.j * lanes) (place_at l.column l.row) l.start)
-
-abbrev pub decreases-loop-j : goal.decreases-loop-j
-decreases-loop-j l = l.m - l.j
+invariant-loop-j l = l.a ≡ area_after l.segments l.first l.xt l.yt (l.j * lanes) (place_at l.column l.row) l.start

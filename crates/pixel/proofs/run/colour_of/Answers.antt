@@ -4,8 +4,8 @@ use mathlib.Core.List.{List}
 use Prim.Native.Nat.{ℕ, suc, ◌-◌, ◌+◌, ◌≤◌}
 use lib.Ieee.{Float}
 use Rattle.panel.specs.Limits.{most_commands}
-use Rattle.panel.specs.declared.kinds.Verdict.{Verdict}
-use Rattle.panel.specs.declared.kinds.Verdict.TheVariants.{Fine, Against}
+use Rattle.panel.specs.Verdict.{Verdict}
+use Rattle.panel.specs.Verdict.{Fine, Against}
 use Rattle.colours.specs.Colour.{pack_of}
 use Rattle.commands.specs.Numbers.{start_of}
 use Rattle.commands.specs.Moves.{Trace, ends, does, trace_of}
@@ -14,10 +14,11 @@ use Rattle.commands.specs.declared.steps.Act.{Act}
 use Rattle.commands.proofs.Acts.{move_within}
 use Rattle.commands.proofs.Traced.{found, more, trace_past, trace_end, trace_full, trace_stop, trace_goes}
 use Rattle.pixel.specs.Place.{place_at}
-use Rattle.pixel.specs.Answers.{answered, refused_by}
+use Rattle.pixel.specs.Answers.{answered, refused_by, colour_paper}
 use Rattle.pixel.specs.Held.{colours_of, nothing_held, held_after}
 use Rattle.pixel.specs.Colour.{under_list}
 use Rattle.pixel.specs.declared.kinds.Held.{Held}
+use Rattle.pixel.proofs.ToldLaws.{coloured_on}
 use Rattle.pixel.proofs.Left.{left, left_does, left_starts}
 use native.Mathlib.Omega.{arith}
 use borrow.Author.Rules.{rules}
@@ -56,14 +57,14 @@ returns-in_default c =
     let a = c.args in
     let l = c.loop-tag in
     stops a.words.now a.segments.now a.t (place_at a.column a.row) l.p l.at l.count l.invariant.1 _ _ refl
-    (trace_past a.words.now a.segments.now l.at _ (sym c.peek_from.ensures ∙ c.in_default.is))
+    (trace_past a.words.now a.segments.now l.at _ (sym c.in_default.ensures))
 
 pub returns-then-tag-eq-END : goal.returns-then-tag-eq-END
 returns-then-tag-eq-END c =
     let a = c.args in
     let l = c.loop-tag in
     over a.words.now a.segments.now a.t (place_at a.column a.row) l.p l.at l.count l.invariant.1 _ _ refl
-    (trace_end a.words.now a.segments.now l.at _ (sym c.peek_from.ensures ∙ c.in-Word.is) _ c.if-tag-eq-END.true)
+    (trace_end a.words.now a.segments.now l.at _ (sym c.in-Some.ensures) _ c.if-tag-eq-END.true)
     c.pack.ensures
 
 pub returns-then-count-eq-MOST_COMMANDS : goal.returns-then-count-eq-MOST_COMMANDS
@@ -71,30 +72,29 @@ returns-then-count-eq-MOST_COMMANDS c =
     let a = c.args in
     let l = c.loop-tag in
     stops a.words.now a.segments.now a.t (place_at a.column a.row) l.p l.at l.count l.invariant.1 0 _ (omega arith)
-    (trace_full a.words.now a.segments.now l.at _ (sym c.peek_from.ensures ∙ c.in-Word.is) c.if-tag-eq-END.false)
+    (trace_full a.words.now a.segments.now l.at _ (sym c.in-Some.ensures) c.if-tag-eq-END.false)
 
 pub move_at-requires : goal.move_at-requires
 move_at-requires c = found c.args.words.now
     c.loop-tag.at _
-    (sym c.peek_from.ensures ∙ c.in-Word.is)
+    (sym c.in-Some.ensures)
 
-pub returns-in-Refused : goal.returns-in-Refused
-returns-in-Refused c =
+pub returns-in_err-act : goal.returns-in_err-act
+returns-in_err-act c =
     let a = c.args in
     let l = c.loop-tag in
-    stops a.words.now a.segments.now a.t (place_at a.column a.row) l.p l.at l.count l.invariant.1 _ _
+    ap colour_paper (coloured_on _ _ c.from_residual.ensures.1)
+    ∙ stops a.words.now a.segments.now a.t (place_at a.column a.row) l.p l.at l.count l.invariant.1 _ _
     (more l.count l.invariant.0 c.if-count-eq-MOST_COMMANDS.false)
-    (trace_stop a.words.now a.segments.now l.at _
-    (sym c.peek_from.ensures
-    ∙ c.in-Word.is)
-    c.if-tag-eq-END.false _ c.op_of.ensures _ c.move_at.ensures _ _ c.in-Refused.is)
+    (trace_stop a.words.now a.segments.now l.at _ (sym c.in-Some.ensures)
+    c.if-tag-eq-END.false _ c.op_of.ensures _ c.in_err-act.ensures _ _ refl)
 
 pub carry_out-p-requires : goal.carry_out-p-requires
 carry_out-p-requires c = (
   move_within _ c.args.words.now
       c.args.segments.now
       c.loop-tag.at _ _
-      (sym c.move_at.ensures ∙ c.in-Goes.is),
+      (sym c.in_ok-act.ensures),
   c.requires.0,
   c.requires.1,
 )
@@ -107,8 +107,7 @@ loop-tag-preserved c =
       turn a.words.now a.segments.now a.t (place_at a.column a.row) l.p l.at l.count l.invariant.1 _ _ _ l.invariant.0
           c.if-count-eq-MOST_COMMANDS.false
           (trace_goes a.words.now a.segments.now l.at _
-          (sym c.peek_from.ensures
-          ∙ c.in-Word.is)
+          (sym c.in-Some.ensures)
           c.if-tag-eq-END.false _ c.op_of.ensures _
-          c.move_at.ensures _ _ _ c.in-Goes.is) c.carry_out-p.ensures,
+          c.in_ok-act.ensures _ _ _ refl) c.carry_out-p.ensures,
     )

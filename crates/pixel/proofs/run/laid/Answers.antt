@@ -4,4 +4,4 @@ use Rattle.pixel.proofs.run.laid.Goals as goal
 
 pub returns : goal.returns
 unfolding laid_on
-returns c = rw (c.over-px.ensures, c.colour.ensures)
+returns c = rw (c.over.ensures, c.colour.ensures)

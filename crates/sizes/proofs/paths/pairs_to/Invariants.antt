@@ -1,10 +1,6 @@
 use mathlib.Core.Path.{◌≡◌}
-use Prim.Native.Nat.{◌-◌, ◌≤◌}
 use Rattle.sizes.specs.Words.{pairs_to}
 use Rattle.sizes.proofs.paths.pairs_to.Given as goal
 
 abbrev pub invariant-loop-k : goal.invariant-loop-k
-invariant-loop-k l = (l.k ≤ l.n) × (l.pairs ≡ pairs_to l.paths l.cols l.rows l.k)
-
-abbrev pub decreases-loop-k : goal.decreases-loop-k
-decreases-loop-k l = l.n - l.k
+invariant-loop-k l = l.pairs ≡ pairs_to l.paths l.cols l.rows l.k

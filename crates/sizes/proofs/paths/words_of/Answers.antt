@@ -20,9 +20,6 @@ few c =
     let a = c.args in
     pairs_most a.paths.now a.cols a.rows most_tiles (checked a.paths.now most_tiles c.requires.0) (path_count a.paths.now) (omega arith)
 
-pub overflow_add-result : goal.overflow_add-result
-overflow_add-result c = record { fits = rw (c.region_pairs.ensures, c.pairs_to-pairs.ensures) (omega (arith, few c, c.requires.1)) }
-
 pub overflow_mul-result : goal.overflow_mul-result
 overflow_mul-result c = record { fits = rw (c.region_pairs.ensures, c.pairs_to-pairs.ensures) (omega (arith, few c, c.requires.1)) }
 

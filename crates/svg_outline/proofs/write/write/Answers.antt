@@ -1,5 +1,4 @@
 -- `svg_outline::write` meets its contract: the lines to come from here bring what the whole brings. Assumes nothing.
-use Prim.Native.Nat.{◌-◌}
 use native.Mathlib.Omega.{arith}
 use lib.ListN.{length}
 use Rattle.svg_outline.proofs.Texts.{place_past, begins, fits, again, last_fits, ended}

@@ -3,8 +3,8 @@
 use mathlib.Core.Path.{◌≡◌, ap, ◌∙◌}
 use mathlib.Core.Bool.{true, false, not}
 use mathlib.Core.List.{List}
-use Prim.Native.Nat.{ℕ, ◌+◌, ◌-◌, ◌≤◌, ◌<◌}
-use native.Mathlib.Nat.{not-suc-le-zero}
+use Prim.Native.Nat.{ℕ, ◌+◌, ◌≤◌, ◌<◌}
+use native.Mathlib.Nat.{le_refl}
 use native.Mathlib.Omega.{arith}
 use lib.ListN.{length, get_or}
 use lib.IntN.{ℤ, pos}
@@ -21,24 +21,6 @@ first_of : (backs ours : List ℤ) (r : ℕ) → r ≤ length backs → (r < len
 unfolding first_back_fault
 first_of backs ours r h e f = first_is (back_fault backs ours) (length backs) r h e f
 
-pub loop-t-init : goal.loop-t-init
-loop-t-init c = (omega arith, λ i h. absurd (not-suc-le-zero h))
-
-pub offset_bounds-backs-t : goal.offset_bounds-backs-t
-offset_bounds-backs-t c = omega (arith, c.loop-t-test.true, c.requires)
-
-pub bounds-backs-t : goal.bounds-backs-t
-bounds-backs-t c = c.loop-t-test.true
-
-pub overflow_add-n : goal.overflow_add-n
-overflow_add-n c = omega (arith, c.loop-t-test.true, c.requires)
-
-pub offset_bounds-work-n : goal.offset_bounds-work-n
-offset_bounds-work-n c = omega (arith, c.loop-t-test.true, c.requires)
-
-pub bounds-work-n : goal.bounds-work-n
-bounds-work-n c = omega (arith, c.loop-t-test.true, c.requires)
-
 -- whether the tile's backdrop is at fault
 at : (c : After-same_back) → back_fault c.args.backs.now (view_of (length c.args.backs.now) c.args.work.now 0).backs c.loop-t.t ≡ not c.same_back.result
 at c = back_fault_lem c.args.backs.now c.args.work.now c.loop-t.t c.same_back.result c.requires c.loop-t-test.true
@@ -46,20 +28,14 @@ at c = back_fault_lem c.args.backs.now c.args.work.now c.loop-t.t c.same_back.re
 
 pub returns-then-not-same_back : goal.returns-then-not-same_back
 returns-then-not-same_back c =
-    first_of c.args.backs.now (view_of (length c.args.backs.now) c.args.work.now 0).backs c.loop-t.t c.loop-t.invariant.0 (λ h. at ((goal.at.returns-then-not-same_back c).After-same_back) ∙ ap not c.if-not-same_back.true) c.loop-t.invariant.1
-
-pub overflow_add-t : goal.overflow_add-t
-overflow_add-t c = omega (arith, c.loop-t-test.true)
-
-pub loop-t-smaller : goal.loop-t-smaller
-loop-t-smaller c = omega (arith, c.loop-t-test.true)
+    first_of c.args.backs.now (view_of (length c.args.backs.now) c.args.work.now 0).backs c.loop-t.t (omega (arith, c.loop-t-test.true)) (λ h. at ((goal.at.returns-then-not-same_back c).After-same_back) ∙ ap not c.if-not-same_back.true) c.loop-t.invariant
 
 pub loop-t-preserved : goal.loop-t-preserved
-loop-t-preserved c = (
-  omega (arith, c.loop-t-test.true),
-  fine_more (back_fault c.args.backs.now (view_of (length c.args.backs.now) c.args.work.now 0).backs) c.loop-t.t c.loop-t.invariant.1 (at ((goal.at.loop-t-preserved c).After-same_back) ∙ ap not c.if-not-same_back.false),
-)
+loop-t-preserved c =
+    fine_more (back_fault c.args.backs.now (view_of (length c.args.backs.now) c.args.work.now 0).backs) c.loop-t.t c.loop-t.invariant (at ((goal.at.loop-t-preserved c).After-same_back) ∙ ap not c.if-not-same_back.false)
 
 pub returns : goal.returns
-returns c = first_of c.args.backs.now (view_of (length c.args.backs.now) c.args.work.now 0
-    ).backs c.loop-t.t c.loop-t.invariant.0 (λ h. absurd (omega (arith, c.loop-t-test.false))) c.loop-t.invariant.1
+returns c =
+    let n = length c.args.backs.now in
+    let all : c.loop-t.t ≡ n = omega arith in
+    first_of c.args.backs.now (view_of n c.args.work.now 0).backs n (le_refl n) (λ h. absurd (omega arith)) (rw all at c.loop-t.invariant)

@@ -1,29 +1,21 @@
 -- `tile_check::call::looked` meets its contract.
 -- Assumes nothing.
-use mathlib.Core.Path.{◌∙◌, subst}
-use lib.ListN.{length}
-use Rattle.own_count.specs.View.{OwnMet}
+use Rattle.std.proofs.Common.{Ok}
+use Rattle.std.proofs.lemmas.Result.{err_from_is_err_and}
+use Rattle.tile_check.specs.Checked.{checked_told}
 use Rattle.tile_check.proofs.CallLaws.{looked_refused, looked_done}
 use Rattle.tile_check.proofs.call.looked.Goals as goal
 
-pub look-requires : goal.look-requires
-look-requires c =
-    let m = subst (OwnMet c.args.path_nos.now c.args.coords.now c.args.paths.now (length c.args.counts.now) c.own_count-own.new.work) c.in-Done.is c.own_count-own.ensures in (
-      m.0,
-      m.1,
-      c.requires.0,
-      c.requires.1,
-      c.requires.2,
-      c.requires.3,
-      c.own_count-own.auto.work ∙ c.requires.4,
-    )
+pub returns-in_err-made : goal.returns-in_err-made
+returns-in_err-made c =
+    let a = c.args in
+    let r = err_from_is_err_and c.from_residual.result c.from_residual.ensures.1 in
+    rw (r.1, r.2) (looked_refused a.path_nos.now a.coords.now a.paths.now a.refs.now a.counts.now a.backs.now a.stored.now a.room c.own_count.new.work _ _
+    (rw c.in_err-made.was at c.own_count.ensures))
 
-pub returns-in-Refused : goal.returns-in-Refused
-returns-in-Refused c = looked_refused c.args.path_nos.now c.args.coords.now c.args.paths.now c.args.refs.now c.args.counts.now
-    c.args.backs.now c.args.stored.now c.args.room c.own_count-own.new.work _ _ (subst (OwnMet c.args.path_nos.now c.args.coords.now c.args.paths.now (length c.args.counts.now) c.own_count-own.new.work) c.in-Refused.is c.own_count-own.ensures)
-
-pub returns-in-Done : goal.returns-in-Done
-returns-in-Done c =
-    let m = subst (OwnMet c.args.path_nos.now c.args.coords.now c.args.paths.now (length c.args.counts.now) c.own_count-own.new.work) c.in-Done.is c.own_count-own.ensures in
-    looked_done c.args.path_nos.now c.args.coords.now
-    c.args.paths.now c.args.refs.now c.args.counts.now c.args.backs.now c.args.stored.now c.args.room c.own_count-own.new.work _ c.look.result m.0 c.look.ensures
+pub returns : goal.returns
+returns c =
+    let a = c.args in
+    let m = rw c.in_ok-made.was at c.own_count.ensures in
+    looked_done a.path_nos.now a.coords.now a.paths.now a.refs.now a.counts.now a.backs.now a.stored.now a.room c.own_count.new.work _
+    (checked_told (Ok c.look.result)) m.0 c.look.ensures

@@ -18,11 +18,6 @@ use Rattle.tile_check.proofs.RoomLaws.{noted_most}
 use Rattle.tile_check.proofs.WorkLaws.{made_most, step_below, slice_below}
 use Rattle.tile_check.proofs.refs.first_ref.Goals as goal
 
-pub note_refs-f-requires : goal.note_refs-f-requires
-note_refs-f-requires c =
-    let p = c.requires in
-    (p.0, omega (arith, p.1), p.2, p.3, p.4, p.5)
-
 pub meeting-g-requires : goal.meeting-g-requires
 meeting-g-requires c =
     let x = c.args in

@@ -18,11 +18,6 @@ pub returns-then-b-tiles : goal.returns-then-b-tiles
 returns-then-b-tiles c = rest_back (view_of (length c.args.counts.now) c.args.work.now c.args.made) c.args.lent c.args.counts.now c.args.backs.now c.args.stored.now c.args.room c.first_count-c.result (c.first_count-c.ensures ∙ counts_in c.args.counts.now c.args.work.now c.args.made) c.if-c-tiles.false c.first_back-b.result (c.first_back-b.ensures ∙ backs_in c.args.backs.now
     c.args.work.now (length c.args.counts.now) c.args.made c.requires.0) (omega (arith, c.if-b-tiles.true, c.requires.0))
 
-pub first_slots-met-requires : goal.first_slots-met-requires
-first_slots-met-requires c =
-    let p = c.requires in
-    (omega arith, omega (arith, p.3), omega (arith, p.2), p.1)
-
 pub returns-then-s-tiles : goal.returns-then-s-tiles
 returns-then-s-tiles c = rest_slots (view_of (length c.args.counts.now) c.args.work.now c.args.made) c.args.lent c.args.counts.now c.args.backs.now c.args.stored.now c.args.room c.first_count-c.result (c.first_count-c.ensures ∙ counts_in c.args.counts.now c.args.work.now c.args.made) c.if-c-tiles.false c.first_back-b.result (c.first_back-b.ensures ∙ backs_in c.args.backs.now c.args.work.now (length c.args.counts.now) c.args.made c.requires.0) (omega (
   arith,

@@ -1,37 +1,33 @@
 -- `walk::choose::cut` meets its contract. Assumes nothing.
-use Prim.Native.Nat.{ℕ, zero-le}
+use Prim.Native.Nat.{ℕ, suc, zero, ◌<◌}
 use native.Mathlib.Omega.{arith}
 use mathlib.Core.Path.{◌≡◌, refl}
-use mathlib.Core.Bool.{true, false}
-use lib.IntN.{ℤ, pos, negsuc, nat_abs}
-use lib.Signed.{lt_z, non_neg}
-use lib.Dec.{T}
-use borrow.Author.Tests.{le-ltb}
+use lib.IntN.{ℤ, pos, negsuc}
+use lib.Signed.{mag}
+use borrow.Author.Tests.{lt-ltb}
 use mir.Syntax.{w32}
-use mir.Val.{SFits, Fits}
+use mir.Val.{Fits}
 use mir.Facts.{to_z-of_z}
+use Rattle.std.specs.Int.{int_max}
 use Rattle.walk.specs.Num.{cut_of}
 use Rattle.walk.proofs.choose.cut.Goals as goal
+use Rattle.walk.proofs.choose.cut.Goals.{After-max}
 
-below : (v : ℤ) → lt_z v (pos 0) ≡ true → 0 ≡ cut_of v
+most : (v : ℤ) → int_max v (pos 0) ≡ pos (cut_of v)
 unfolding cut_of
-below (pos n) h = cc (le-ltb n 0 zero-le)
-below (negsuc n) h = refl
+most (pos zero) = refl
+most (pos (suc n)) = rw (lt-ltb 0 (suc n) (omega arith))
+most (negsuc n) = refl
 
-above : (v : ℤ) → lt_z v (pos 0) ≡ false → nat_abs v ≡ cut_of v
-unfolding cut_of
-above (pos n) h = refl
-above (negsuc n) h = cc
+is : (c : After-max) → c.max.result ≡ pos (cut_of c.args.v)
+is c = rw (to_z-of_z c.ranges.v, most c.args.v) at c.max.ensures.value
 
-fit : (v : ℤ) → SFits w32 v → lt_z v (pos 0) ≡ false → T (non_neg v) × Fits w32 (nat_abs v)
-fit (pos n) s h = (tt, omega (arith, s.sfits))
-fit (negsuc n) s h = let z : ◌≡◌ {A = ℕ} 0 1 = cc in absurd (omega arith)
-
-pub returns-then-v-lt0 : goal.returns-then-v-lt0
-returns-then-v-lt0 c = let e = to_z-of_z c.ranges.v in below c.args.v (rw e at c.if-v-lt0.true)
+below : (z : ℤ) (n : ℕ) → z ≡ pos n → mag z < 2147483648 → Fits w32 n
+below z n e h = let l : n < 2147483648 = rw e at h in record { fits = omega arith }
 
 pub overflow_cast-result : goal.overflow_cast-result
-overflow_cast-result c = let e = to_z-of_z c.ranges.v in rw e (fit c.args.v c.ranges.v (rw e at c.if-v-lt0.false))
+overflow_cast-result c =
+    rw (to_z-of_z {w = w32} {z = c.max.result} (record { sfits = c.max.type_inv }), is c) (tt, below _ _ (is c) c.max.type_inv)
 
-pub returns-else-v-lt0 : goal.returns-else-v-lt0
-returns-else-v-lt0 c = let e = to_z-of_z c.ranges.v in rw e (above c.args.v (rw e at c.if-v-lt0.false))
+pub returns : goal.returns
+returns c = rw (to_z-of_z {w = w32} {z = c.max.result} (record { sfits = c.max.type_inv }), is (goal.at.returns c).After-max) refl

@@ -1,28 +1,28 @@
 -- `walk_steps::checks::note_step` meets its contract.
 -- Assumes nothing.
 use mathlib.Core.Bool.{not, cond}
-use mathlib.Core.Path.{◌≡◌, refl, sym, ap, ◌∙◌}
+use mathlib.Core.Path.{◌≡◌, refl, sym, ap, ap₂, ◌∙◌}
 use native.Mathlib.Omega.{arith}
 use Prim.Native.Nat.{ℕ, ◌+◌, ◌<◌}
 use lib.ListN.{length, get_or}
 use lib.IntN.{pos, ◌+ℤ◌}
-use Rattle.panel.specs.declared.kinds.Verdict.{Verdict}
+use Rattle.panel.specs.Verdict.{Verdict}
 use Rattle.walk.specs.Step.{step_of}
-use Rattle.walk.specs.declared.step.Step.TheVariants.{Tile}
+use Rattle.walk.specs.Stepped.{Tile}
 use Rattle.panel.specs.Signed.{in_i32}
-use Rattle.acts.specs.Acts.{on, delta_of, check_no, step_acts}
+use Rattle.acts.specs.Acts.{on, delta_of}
 use Rattle.acts.proofs.Signs.{told}
 use Rattle.acts.proofs.Laws.{check_off, check_full, check_passes}
 use Rattle.hits.specs.Steps.{hit_at}
-use Rattle.walk_steps.specs.Checks.{z_of, word_by, noted_of, noted_by}
-use Rattle.walk_steps.specs.declared.checks.Seen.{Seen}
-use Rattle.walk_steps.specs.declared.checks.Noted.TheVariants.{Passed}
+use Rattle.walk_steps.specs.Checks.{z_of, word_by, noted_of}
+use Rattle.walk_steps.specs.Noted.{Passed}
 use Rattle.walk.proofs.Tiles.{step_told, tile_in_lem}
 use Rattle.hits.proofs.StepLaws.{hit_off, hit_on, next_below}
 use Rattle.hits.proofs.NoteLaws.{none_leaves}
-use Rattle.walk_steps.proofs.CheckLaws.{noted_by_lem}
+use Rattle.std.proofs.lemmas.Result.{err_from_is_err_and}
+use Rattle.walk_steps.proofs.CheckLaws.{seen_passed, seen_against}
 use Rattle.walk_steps.proofs.checks.note_step.Goals as goal
-use Rattle.walk_steps.proofs.checks.note_step.Goals.{After-crosses-marks, After-leaves, After-next_if-q, After-word_of-word, In-Tile}
+use Rattle.walk_steps.proofs.checks.note_step.Goals.{After-crosses-marks, After-leaves, After-next_if-q, After-word_of-word, In-Some}
 
 pub returns-in_default : goal.returns-in_default
 returns-in_default c =
@@ -31,31 +31,31 @@ returns-in_default c =
     (check_off _ _ _ _ _ (hit_off the_args.pace the_args.path the_args.i (sym c.step_by.ensures ∙ c.in_default.is)))
 
 -- the step is on its tile
-fell : (c : In-Tile) →
+fell : (c : In-Some) →
     let the_args = c.args in
-    step_of the_args.pace the_args.path the_args.i ≡ Tile c.in-Tile.tile c.in-Tile.x c.in-Tile.field-2 c.in-Tile.z
-fell c = sym c.step_by.ensures ∙ c.in-Tile.is
+    step_of the_args.pace the_args.path the_args.i ≡ Tile c.in-Some.tile c.in-Some.x c.in-Some.field-0-2 c.in-Some.z
+fell c = sym c.step_by.ensures ∙ c.in-Some.is
 
 -- which is lent
-below : (c : In-Tile) → c.in-Tile.tile.0 < length c.args.counts.now
+below : (c : In-Some) → c.in-Some.tile.0 < length c.args.counts.now
 below c =
     let the_args = c.args in
     omega (arith, (tile_in_lem the_args.pace the_args.path the_args.i _ _ _ _ (fell c)).1, c.requires.0.within)
 
 pub bounds-counts-t : goal.bounds-counts-t
-bounds-counts-t c = below (goal.at.bounds-counts-t c).In-Tile
+bounds-counts-t c = below (goal.at.bounds-counts-t c).In-Some
 
 pub returns-then-counts-t-ge-MOST_COUNT : goal.returns-then-counts-t-ge-MOST_COUNT
 returns-then-counts-t-ge-MOST_COUNT c =
     let the_args = c.args in
     let the_pre = c.requires in
     ap (λ (v : Verdict). noted_of v (z_of the_args.pace the_args.i) (word_by (hit_at the_args.pace the_args.path the_args.i)))
-    (check_full _ _ _ _ _ _ _ (hit_on the_args.pace the_args.path the_args.i _ _ _ _ (fell (goal.at.returns-then-counts-t-ge-MOST_COUNT c).In-Tile) the_args.last_z _ the_pre.2 refl) c.if-counts-t-ge-MOST_COUNT.true)
+    (check_full _ _ _ _ _ _ _ (hit_on the_args.pace the_args.path the_args.i _ _ _ _ (fell (goal.at.returns-then-counts-t-ge-MOST_COUNT c).In-Some) the_args.last_z _ the_pre.2 refl) c.if-counts-t-ge-MOST_COUNT.true)
 
 pub crosses-marks-requires : goal.crosses-marks-requires
 crosses-marks-requires c =
     let the_args = c.args in
-    (step_told the_args.pace the_args.path the_args.i _ _ _ _ (fell (goal.at.crosses-marks-requires c).In-Tile)).within.col_most
+    (step_told the_args.pace the_args.path the_args.i _ _ _ _ (fell (goal.at.crosses-marks-requires c).In-Some)).within.col_most
 
 -- the tile that is marked, or the step's own, is lent
 next : (c : After-next_if-q) → c.next_if-q.result < length c.args.backs.now
@@ -65,7 +65,7 @@ next c =
     omega (
       arith,
       c.next_if-q.ensures,
-      next_below the_args.pace the_args.path the_args.i _ _ _ _ (sym c.step_by.ensures ∙ c.in-Tile.is) the_args.last_z c.crosses-marks.result
+      next_below the_args.pace the_args.path the_args.i _ _ _ _ (sym c.step_by.ensures ∙ c.in-Some.is) the_args.last_z c.crosses-marks.result
           c.crosses-marks.ensures,
       the_pre.0.within,
       the_pre.0.paired,
@@ -82,17 +82,17 @@ bounds-backs-q c = next (goal.at.bounds-backs-q c).After-next_if-q
 -- where the step falls, and whether it marks
 hit : (c : After-crosses-marks) →
     let the_args = c.args in
-    hit_at the_args.pace the_args.path the_args.i ≡ on c.in-Tile.tile.0 c.crosses-marks.result
+    hit_at the_args.pace the_args.path the_args.i ≡ on c.in-Some.tile.0 c.crosses-marks.result
 hit c =
     let the_args = c.args in
     let the_pre = c.requires in
-    hit_on the_args.pace the_args.path the_args.i _ _ _ _ (sym c.step_by.ensures ∙ c.in-Tile.is) the_args.last_z c.crosses-marks.result the_pre.2 c.crosses-marks.ensures
+    hit_on the_args.pace the_args.path the_args.i _ _ _ _ (sym c.step_by.ensures ∙ c.in-Some.is) the_args.last_z c.crosses-marks.result the_pre.2 c.crosses-marks.ensures
 
 -- what `leaves` says of the backdrop itself
 said : (c : After-leaves) →
     let the_args = c.args in
     let the_crosses = c.crosses-marks in
-    c.leaves.result ≡ not (in_i32 (get_or the_args.backs.now (cond the_crosses.result (c.in-Tile.tile.0 + 1) c.in-Tile.tile.0) (pos 0) +ℤ delta_of the_args.up))
+    c.leaves.result ≡ not (in_i32 (get_or the_args.backs.now (cond the_crosses.result (c.in-Some.tile.0 + 1) c.in-Some.tile.0) (pos 0) +ℤ delta_of the_args.up))
 said c =
     let the_args = c.args in
     let the_next_if = c.next_if-q in
@@ -101,28 +101,32 @@ said c =
 
 pub word_of-word-requires : goal.word_of-word-requires
 word_of-word-requires c =
-    omega (arith, below (goal.at.word_of-word-requires c).In-Tile, c.requires.0.few)
+    omega (arith, below (goal.at.word_of-word-requires c).In-Some, c.requires.0.few)
 
 pub check_step-requires : goal.check_step-requires
 check_step-requires c = (c.requires.0, c.requires.1, c.requires.2)
 
 -- the word is the step's
-word : (c : After-word_of-word) → hit_at c.args.pace c.args.path c.args.i ≡ on c.in-Tile.tile.0 c.crosses-marks.result →
+word : (c : After-word_of-word) → hit_at c.args.pace c.args.path c.args.i ≡ on c.in-Some.tile.0 c.crosses-marks.result →
     c.word_of-word.result ≡ word_by (hit_at c.args.pace c.args.path c.args.i)
 word c h = c.word_of-word.ensures ∙ ap word_by (sym h)
 
+pub returns-in_err-z : goal.returns-in_err-z
+returns-in_err-z c =
+    let p = err_from_is_err_and c.from_residual.result c.from_residual.ensures.1 in
+    let v = seen_against _ _ _ (sym c.in_err-z.ensures) in
+    rw (p.1, p.2) (ap (λ (x : Verdict). noted_of x (z_of c.args.pace c.args.i) (word_by (hit_at c.args.pace c.args.path c.args.i))) (sym v))
+
 pub returns-then-leaves : goal.returns-then-leaves
 returns-then-leaves c =
-    let v = check_no (delta_of c.args.up) (step_acts (hit_at c.args.pace c.args.path c.args.i) c.args.i) c.args.backs.now c.args.counts.now in
-    c.noted_of.ensures
-    ∙ ap (λ (x : Seen). noted_by x c.word_of-word.result) c.check_step.ensures
-    ∙ noted_by_lem v (z_of c.args.pace c.args.i) c.word_of-word.result
-    ∙ ap (noted_of v (z_of c.args.pace c.args.i)) (word (goal.at.returns-then-leaves c).After-word_of-word (hit (goal.at.returns-then-leaves c).After-crosses-marks))
+    let v = seen_passed _ _ _ (sym c.in_ok-z.ensures) in
+    ap₂ Passed v.1 (word (goal.at.returns-then-leaves c).After-word_of-word (hit (goal.at.returns-then-leaves c).After-crosses-marks))
+    ∙ ap (λ (x : Verdict). noted_of x (z_of c.args.pace c.args.i) (word_by (hit_at c.args.pace c.args.path c.args.i))) (sym v.0)
 
 pub returns : goal.returns
 returns c =
     let h = hit (goal.at.returns c).After-crosses-marks in
-    ap (λ z. Passed z c.word_of-word.result) (sym (step_told c.args.pace c.args.path c.args.i _ _ _ _ (fell ((goal.at.returns c).In-Tile))).is_z)
+    ap (λ z. Passed z c.word_of-word.result) (sym (step_told c.args.pace c.args.path c.args.i _ _ _ _ (fell ((goal.at.returns c).In-Some))).is_z)
     ∙ ap (Passed (z_of c.args.pace c.args.i)) (word (goal.at.returns c).After-word_of-word h)
     ∙ ap (λ (v : Verdict). noted_of v (z_of c.args.pace c.args.i) (word_by (hit_at c.args.pace c.args.path c.args.i)))
     (check_passes _ _ _ _ _ _ _ h c.leaves.result c.if-counts-t-ge-MOST_COUNT.false (said (goal.at.returns c).After-leaves)

@@ -4,6 +4,7 @@ use mathlib.Core.Path.{refl, sym, ◌∙◌, subst}
 use Prim.Native.Nat.{ℕ, ◌-◌, ◌≤◌}
 use native.Mathlib.Omega.{arith}
 use lib.ListN.{length}
+use Rattle.std.proofs.lemmas.Result.{err_from_is_err_and}
 use Rattle.acts.proofs.Laws.{steps_halves, check_goes, check_stops}
 use Rattle.hits.specs.Steps.{hit_at}
 use Rattle.hits.specs.Notes.{note_words, Notes}
@@ -16,9 +17,9 @@ middle : (c : After-noted_to-mid) → let m = c.noted_to-mid.result in (c.args.i
 middle c =
     subst (λ (m : ℕ). (c.args.imin ≤ m) × (m ≤ c.args.imax) × (m - c.args.imin ≤ note_words)) (sym c.noted_to-mid.ensures) (noted_end c.args.imin c.args.imax c.requires.1)
 
-pub note_steps-v-requires : goal.note_steps-v-requires
-note_steps-v-requires c =
-    let m = middle (goal.at.note_steps-v-requires c).After-noted_to-mid in (
+pub note_steps-requires : goal.note_steps-requires
+note_steps-requires c =
+    let m = middle (goal.at.note_steps-requires c).After-noted_to-mid in (
       c.requires.0,
       λ h. omega (arith, m.1, c.requires.2 (omega (arith, h, m.1))),
       c.requires.3,
@@ -26,13 +27,14 @@ note_steps-v-requires c =
       c.requires.4,
     )
 
-pub returns-in_default : goal.returns-in_default
-returns-in_default c =
-    let the_note_steps = c.note_steps-v in
-    let m = middle (goal.at.returns-in_default c).After-noted_to-mid in (
-      check_stops _ _ _ _ (steps_halves (hit_at c.args.pace c.args.path) c.args.imin c.noted_to-mid.result
-          c.args.imax m.0 m.1) _ _ the_note_steps.result _ refl the_note_steps.ensures.0 _ c.in_default.is,
-      λ e. absurd (not_fine _ (sym c.in_default.is ∙ e)),
+pub returns-in_err-note_steps : goal.returns-in_err-note_steps
+returns-in_err-note_steps c =
+    let p = err_from_is_err_and c.from_residual.result c.from_residual.ensures.1 in
+    let m = middle (goal.at.returns-in_err-note_steps c).After-noted_to-mid in
+    rw (p.1, p.2) (
+      check_stops _ _ _ _ (steps_halves (hit_at c.args.pace c.args.path) c.args.imin c.noted_to-mid.result c.args.imax m.0 m.1) _ _ _ _ refl
+          c.in_err-note_steps.ensures.0 _ refl,
+      λ e. absurd (not_fine _ e),
     )
 
 pub check_steps-requires : goal.check_steps-requires
@@ -42,11 +44,10 @@ check_steps-requires c =
 
 pub returns : goal.returns
 returns c =
-    let the_noted_to = c.noted_to-mid in
-    let the_note_steps = c.note_steps-v in
+    let n = c.in_ok-note_steps.ensures in
     let m = middle (goal.at.returns c).After-noted_to-mid in (
-      c.check_steps.ensures ∙ check_goes _ _ _ _ (steps_halves (hit_at c.args.pace c.args.path) c.args.imin the_noted_to.result c.args.imax m.0 m.1) _ _
-          the_note_steps.result _ refl the_note_steps.ensures.0 c.in-Fine.is,
-      λ e. subst (λ (n : ℕ). Notes (hit_at c.args.pace c.args.path) c.args.imin (n - c.args.imin) the_note_steps.new.notes
-          (length c.args.backs.now)) the_noted_to.ensures (the_note_steps.ensures.1 c.in-Fine.is),
+      c.check_steps.ensures
+          ∙ check_goes _ _ _ _ (steps_halves (hit_at c.args.pace c.args.path) c.args.imin c.noted_to-mid.result c.args.imax m.0 m.1) _ _ _ _ refl n.0 refl,
+      λ e. subst (λ (k : ℕ). Notes (hit_at c.args.pace c.args.path) c.args.imin (k - c.args.imin) c.note_steps.new.notes (length c.args.backs.now))
+          c.noted_to-mid.ensures (n.1 refl),
     )

@@ -1,8 +1,0 @@
--- `ppm_read::digit` meets its contract, by the stage. Assumes nothing.
-use Rattle.ppm_read.proofs.digit.Goals as goal
-
-pub returns-in-Gap : goal.returns-in-Gap
-returns-in-Gap c = rw c.in-Gap.is
-
-pub returns-in-Digits : goal.returns-in-Digits
-returns-in-Digits c = rw (c.in-Digits.is, c.grown.ensures)

@@ -1,5 +1,0 @@
-use Rattle.svg_outline.proofs.Draws.{to_line}
-use Rattle.svg_outline.proofs.strokes.line_to.Goals as goal
-
-pub returns : goal.returns
-returns c = (to_line c.args.h _ _ _ _ c.moved.ensures c.put-at.ensures.0, c.put-at.ensures.1)
