@@ -1,5 +1,5 @@
 -- Whole numbers as floats, and floats as whole numbers from 0 up. Definitions only.
-use Rattle.std.specs.Prelude.{ℕ, Bool, ◌&&◌, ℤ, pos, negsuc, Float}
+use Rattle.std.specs.Prelude.{ℕ, Bool, true, false, ◌&&◌, ℤ, pos, negsuc, Float}
 use Rattle.std.specs.Int.Signed.{le_z, lt_z}
 use Rattle.std.specs.Float.{binary32}
 use Rattle.std.specs.Float.Ieee.{of_int, to_signed}
@@ -12,6 +12,10 @@ float n = of_int binary32 (pos n)
 unfoldable pub cut_of : ℤ → ℕ
 cut_of (pos n) = n
 cut_of (negsuc n) = 0
+
+unfoldable pub neg_of : ℤ → Bool
+neg_of (pos n) = false
+neg_of (negsuc n) = true
 
 -- lo <= v < hi
 unfoldable pub inside_of : ℤ → ℕ → ℕ → Bool
