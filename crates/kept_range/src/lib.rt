@@ -6,14 +6,13 @@ ghost use Rattle.std.specs.Prelude.{◌≡◌, ◌+◌, ◌*◌, ◌≤◌, ◌<
 ghost use Rattle.panel.specs.Paths.{path_at, path_count};
 ghost use Rattle.panel.specs.Widths.{line_floats};
 ghost use Rattle.walked_lines.specs.Line.{Lent};
-ghost use Rattle.ranges.specs.Ranges.{copied_of};
 ghost use Rattle.new_lines.specs.Recounted.{recounted_told};
 ghost use Rattle.kept_range.specs.Kept.{tiles_in, out_of, redrawn_of};
 
 use new_lines::{RecountRefused, count_lines};
 use panel::kinds::Path;
 use panel::paths::path_at;
-use ranges::clear;
+use ranges::{clear, copy};
 
 // How many tiles a path has whose box is in order.
 pub fn tiles_in(p: Path) -> usize
@@ -21,17 +20,6 @@ pub fn tiles_in(p: Path) -> usize
     ensures { result ≡ tiles_in p }
 {
     ((p.x1 - p.x0) as usize) * ((p.y1 - p.y0) as usize)
-}
-
-// The n from a on, from b on in another slice.
-fn copy<T: Copy + Drop>(from: &[T], a: usize, to: &mut [T], b: usize, n: usize)
-    requires { (a + n ≤ length «from».now) × (b + n ≤ length to.old) }
-    ensures { (d : T) → to.new ≡ copied_of d «from».now a b n to.old }
-{
-    // a loop: copy_from_slice compiles to memmove, which the archive may not need
-    for i in 0..n {
-        to[b + i] = from[a + i];
-    }
 }
 
 // The range is kept and zeroed, and the lines are counted; where one is refused, the range gets back

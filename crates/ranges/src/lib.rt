@@ -19,5 +19,8 @@ pub fn copy<T: Copy + Drop>(from: &[T], a: usize, to: &mut [T], b: usize, n: usi
     requires { (a + n ≤ length «from».now) × (b + n ≤ length to.old) }
     ensures { (d : T) → to.new ≡ copied_of d «from».now a b n to.old }
 {
-    to[b..b + n].copy_from_slice(&from[a..a + n]);
+    // a loop: copy_from_slice compiles to memmove, which the archive may not need
+    for i in 0..n {
+        to[b + i] = from[a + i];
+    }
 }
