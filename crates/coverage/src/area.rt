@@ -13,7 +13,6 @@ use one_row::{up_to_one, way_of};
 use one_segment::add_segment;
 use panel::segments::segment_at;
 use sides::TILE_SIZE;
-use tile_rows::rows::Rows;
 
 // The n segments from the first on, in order. Room for a segment's rows is made once, as it would be cleared for each.
 pub fn add_segments(area: &mut [f32], segments: &[f32], first: usize, n: usize, xt: f32, yt: f32)
@@ -21,10 +20,9 @@ pub fn add_segments(area: &mut [f32], segments: &[f32], first: usize, n: usize, 
     ensures { area.new ≡ mapi (area_after segments.now first xt yt n) area.old }
 {
     let tables = Tables::new();
-    let mut rows = Rows::new();
     for j in 0..n {
         let s = segment_at(segments, first + j);
-        add_segment(area, way_of(s, xt), yt, &tables, &mut rows);
+        add_segment(area, way_of(s, xt), yt, &tables);
     }
 }
 

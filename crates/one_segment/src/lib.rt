@@ -117,13 +117,14 @@ pub fn add_rows(area: &mut [f32], w: Way, rows: &Rows)
     }
 }
 
-// All rows of a segment: their numbers first, in the room lent, then the rows.
-pub fn add_all(area: &mut [f32], w: Way, yt: f32, rows: &mut Rows)
+// All rows of a segment: their numbers first, then the rows.
+pub fn add_all(area: &mut [f32], w: Way, yt: f32)
     requires { length area.old ≡ tile_size }
     ensures { area.new ≡ mapi (step_way w yt) area.old }
 {
+    let mut rows = Rows::new();
     rows.put(w, yt);
-    add_rows(area, w, rows);
+    add_rows(area, w, &rows);
 }
 
 // The rows from .. to of a segment. Where its parts may lie is guessed once, before the rows: the addresses of the span's
@@ -139,7 +140,7 @@ pub fn add_few(area: &mut [f32], w: Way, yt: f32, from: usize, to: usize, tables
 }
 
 // A segment. One that has no y_edge goes through its own rows only, where the guess at them is right.
-pub fn add_segment(area: &mut [f32], w: Way, yt: f32, tables: &Tables, rows: &mut Rows)
+pub fn add_segment(area: &mut [f32], w: Way, yt: f32, tables: &Tables)
     requires { length area.old ≡ tile_size }
     ensures { area.new ≡ mapi (step_way w yt) area.old }
 {
@@ -156,5 +157,5 @@ pub fn add_segment(area: &mut [f32], w: Way, yt: f32, tables: &Tables, rows: &mu
             return;
         }
     }
-    add_all(area, w, yt, rows)
+    add_all(area, w, yt)
 }
