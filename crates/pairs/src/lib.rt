@@ -52,7 +52,7 @@ fn covers(even_odd: bool, b: i32) -> bool
     ensures { result ≡ covers even_odd b }
 {
     if even_odd {
-        last_bit(b.unsigned_abs()) == 1
+        last_bit(float32::size_of(b)) == 1
     } else {
         b != 0
     }
