@@ -23,14 +23,14 @@ const NARROW: u32 = 8;
 const MANY: usize = MOST_PATHS as usize;
 
 // Numbers of paths: the first `len` of those there are listed.
-#[derive(Drop)]
+#[derive(Clone, Copy)]
 pub struct Listing {
     len: usize,
     numbers: [u32; MANY],
 }
 
 // A row's paths, a wide block's, and a narrow block's.
-#[derive(Drop)]
+#[derive(Clone, Copy)]
 pub struct Listings {
     row: Listing,
     wide: Listing,
