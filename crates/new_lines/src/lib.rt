@@ -14,7 +14,7 @@ use hits::NOTE_ROOM;
 use panel::kinds::{LineNo, Refused, Running};
 use panel::refusals::Refusal;
 use panel::widths::LINE_FLOATS;
-use path_count::{Stopped, count_batch};
+use path_count::count_batch;
 use stretches::{other_no, stretch};
 
 // A recount that is refused: why, the item's number (the path's, or the line's own number), and the references made
@@ -24,19 +24,6 @@ pub struct RecountRefused {
     pub why: Refusal,
     pub item: u32,
     pub made: u32,
-}
-
-// A line of a batch is refused by its own number.
-impl From<Stopped> for RecountRefused {
-    ghost from_gives = { λ s r. r ≡ record { why = s.why; item = s.item; made = s.running.refs } };
-
-    fn from(s: Stopped) -> Self {
-        RecountRefused {
-            why: s.why,
-            item: s.item,
-            made: s.running.refs,
-        }
-    }
 }
 
 // Before the first line no reference is made.
@@ -100,7 +87,16 @@ pub fn count_lines(
             counts,
             refs,
         );
-        let s = t?;
+        let s = match t {
+            Ok(s) => s,
+            Err(stopped) => {
+                return Err(RecountRefused {
+                    why: stopped.why,
+                    item: stopped.item,
+                    made: stopped.running.refs,
+                });
+            }
+        };
         made = s.refs;
         k += n as usize;
     }

@@ -64,7 +64,9 @@ pub fn count_walk(
     }
     let rows = rows_by(path, clip);
     let v = check_line(rows, up, pace, path, imin, imax, backs, counts, notes);
-    v?;
+    if let Err(why) = v {
+        return Err(why);
+    }
     write_line(
         rows, up, pace, path, imin, imax, line, made, notes, backs, counts, refs,
     );

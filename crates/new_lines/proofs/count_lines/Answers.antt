@@ -15,7 +15,6 @@ use Rattle.walked_lines.specs.Line.{Lent}
 use Rattle.path_count.specs.Count.{paper_of, made_of, told_of}
 use Rattle.path_count.specs.Runs.{batch_from, from_told}
 use Rattle.path_count.specs.Counted.{Counted, counted_told}
-use Rattle.std.proofs.lemmas.Result.{err_from_is_err_and}
 use Rattle.panel.specs.Refusals.{no_of}
 use Rattle.new_lines.specs.Own.{own_step, lines_told}
 use Rattle.new_lines.proofs.OwnLaws.{own_other, other_part}
@@ -95,18 +94,16 @@ said c =
     (batch_from (get_or a.line_nos.now s.k 0) (part_to_end a.path_nos.now s.k i) (part_to_end a.coords.now (s.k * line_floats) i) a.paths.now
     (s.auto.refs i / ref_words) 0 c.stretch-n.result (st_of s.backs s.counts s.refs s.made)))
 
-pub returns-in_err-s : goal.returns-in_err-s
-returns-in_err-s c =
+pub returns-in-Err : goal.returns-in-Err
+returns-in-Err c =
     let a = c.args in
     let s = c.loop-k in
     let t = c.count_batch-t in
-    let e = c.in_err-s.field-0.0 in
-    let p = err_from_is_err_and c.from_residual.result c.from_residual.ensures.1 in
-    rw (p.1, p.2)
-    (told_refused a.line_nos.now (get_or a.line_nos.now s.k 0) c.stretch-n.result t.new.backs t.new.counts t.new.refs e.running.refs (batch_of (λ j. own_step a.path a.path_nos.now a.coords.now a.paths.now (length a.refs.now / ref_words) (get_or a.line_nos.now j 0) j) (s.k + c.stretch-n.result) (length a.path_nos.now - (s.k + c.stretch-n.result))) (no_of e.why) e.item e.running.lines (batch_from (get_or a.line_nos.now s.k 0) (drop s.k a.path_nos.now) (drop (s.k * line_floats) a.coords.now) a.paths.now (length a.refs.now / ref_words) 0 c.stretch-n.result (st_of s.backs s.counts s.refs s.made))
-    (sym (ap (λ (x : Counted). told_of (paper_of x) (st_of t.new.backs t.new.counts t.new.refs (made_of x))) (ap counted_told c.in_err-s.was)) ∙ said (goal.at.returns-in_err-s c).After-count_batch-t)
+    let e = c.in-Err.stopped in
+    told_refused a.line_nos.now (get_or a.line_nos.now s.k 0) c.stretch-n.result t.new.backs t.new.counts t.new.refs e.running.refs (batch_of (λ j. own_step a.path a.path_nos.now a.coords.now a.paths.now (length a.refs.now / ref_words) (get_or a.line_nos.now j 0) j) (s.k + c.stretch-n.result) (length a.path_nos.now - (s.k + c.stretch-n.result))) (no_of e.why) e.item e.running.lines (batch_from (get_or a.line_nos.now s.k 0) (drop s.k a.path_nos.now) (drop (s.k * line_floats) a.coords.now) a.paths.now (length a.refs.now / ref_words) 0 c.stretch-n.result (st_of s.backs s.counts s.refs s.made))
+    (sym (ap (λ (x : Counted). told_of (paper_of x) (st_of t.new.backs t.new.counts t.new.refs (made_of x))) (ap counted_told c.in-Err.is)) ∙ said (goal.at.returns-in-Err c).After-count_batch-t)
     ∙ sym (stretch_first a.path a.line_nos.now a.path_nos.now a.coords.now a.paths.now (length a.refs.now / ref_words) s.k c.stretch-n.result c.requires.1 c.stretch-n.ensures.order _ _ refl refl (st_of s.backs s.counts s.refs s.made) c.stretch-n.ensures.lent)
-    ∙ s.invariant.2)
+    ∙ s.invariant.2
 
 pub overflow_add-k : goal.overflow_add-k
 overflow_add-k c = omega (arith, c.well_formed, c.stretch-n.ensures.lent)
@@ -121,8 +118,8 @@ loop-k-preserved c =
     let t = c.count_batch-t in (
       c.stretch-n.ensures.lent,
       t.auto.notes ∙ s.invariant.1,
-      told_done a.line_nos.now (get_or a.line_nos.now s.k 0) c.stretch-n.result t.new.backs t.new.counts t.new.refs c.in_ok-s.s.refs (batch_of (λ j. own_step a.path a.path_nos.now a.coords.now a.paths.now (length a.refs.now / ref_words) (get_or a.line_nos.now j 0) j) (s.k + c.stretch-n.result) (length a.path_nos.now - (s.k + c.stretch-n.result))) c.in_ok-s.s.lines (batch_from (get_or a.line_nos.now s.k 0) (drop s.k a.path_nos.now) (drop (s.k * line_floats) a.coords.now) a.paths.now (length a.refs.now / ref_words) 0 c.stretch-n.result (st_of s.backs s.counts s.refs s.made))
-          (sym (ap (λ (x : Counted). told_of (paper_of x) (st_of t.new.backs t.new.counts t.new.refs (made_of x))) (ap counted_told c.in_ok-s.was)) ∙ said (goal.at.loop-k-preserved c).After-count_batch-t)
+      told_done a.line_nos.now (get_or a.line_nos.now s.k 0) c.stretch-n.result t.new.backs t.new.counts t.new.refs c.in-Ok.s.refs (batch_of (λ j. own_step a.path a.path_nos.now a.coords.now a.paths.now (length a.refs.now / ref_words) (get_or a.line_nos.now j 0) j) (s.k + c.stretch-n.result) (length a.path_nos.now - (s.k + c.stretch-n.result))) c.in-Ok.s.lines (batch_from (get_or a.line_nos.now s.k 0) (drop s.k a.path_nos.now) (drop (s.k * line_floats) a.coords.now) a.paths.now (length a.refs.now / ref_words) 0 c.stretch-n.result (st_of s.backs s.counts s.refs s.made))
+          (sym (ap (λ (x : Counted). told_of (paper_of x) (st_of t.new.backs t.new.counts t.new.refs (made_of x))) (ap counted_told c.in-Ok.is)) ∙ said (goal.at.loop-k-preserved c).After-count_batch-t)
           ∙ sym (stretch_first a.path a.line_nos.now a.path_nos.now a.coords.now a.paths.now (length a.refs.now / ref_words) s.k c.stretch-n.result c.requires.1 c.stretch-n.ensures.order _ _ refl refl (st_of s.backs s.counts s.refs s.made) c.stretch-n.ensures.lent)
           ∙ s.invariant.2,
     )

@@ -1,11 +1,10 @@
 -- `stretches::stretch` meets its contract. The invariant: the lines so far are of the path, and numbered one after the other.
 -- Assumes nothing.
-use mathlib.Core.Path.{◌≡◌, sym, ap, ◌∙◌}
-use Prim.Native.Nat.{ℕ, ◌+◌}
+use mathlib.Core.Path.{sym, ap, ◌∙◌}
+use Prim.Native.Nat.{ℕ, ◌+◌, ◌-◌}
 use native.Mathlib.Nat.{add-zero}
 use native.Mathlib.Omega.{arith}
 use lib.ListN.{get_or}
-use Rattle.stretches.specs.Stretches.{Stretch}
 use Rattle.stretches.proofs.StretchLaws.{in_order_none, in_order_more}
 use Rattle.stretches.proofs.stretch.Goals as goal
 
@@ -13,10 +12,10 @@ pub bounds-line_nos-k : goal.bounds-line_nos-k
 bounds-line_nos-k c = omega (arith, c.requires.0, c.requires.1)
 
 pub overflow_cast-first : goal.overflow_cast-first
-overflow_cast-first c = omega (arith, c.type_inv.line_nos c.args.k)
+overflow_cast-first c = omega (arith, c.shared_slice_known-1.given c.args.k)
 
 pub loop-n-init : goal.loop-n-init
-loop-n-init c = (omega (arith, c.requires.0), in_order_none c.args.path c.args.line_nos.now c.args.path_nos.now c.args.k, omega (arith, c.type_inv.line_nos c.args.k))
+loop-n-init c = (omega (arith, c.requires.0), in_order_none c.args.path c.args.line_nos.now c.args.path_nos.now c.args.k, omega (arith, c.shared_slice_known-1.given c.args.k))
 
 pub overflow_add-at : goal.overflow_add-at
 overflow_add-at c = omega (arith, c.loop-n.invariant.0, c.well_formed)
@@ -44,7 +43,7 @@ pub bounds-line_nos-at : goal.bounds-line_nos-at
 bounds-line_nos-at c = omega (arith, c.if-at-path_nos.false, c.requires.1)
 
 pub overflow_cast-line_nos : goal.overflow_cast-line_nos
-overflow_cast-line_nos c = omega (arith, c.type_inv.line_nos (c.args.k + c.loop-n.n))
+overflow_cast-line_nos c = omega (arith, c.shared_slice_known-in-loop-n-2-1.given (c.args.k + c.loop-n.n))
 
 pub returns-then-line_nos-at : goal.returns-then-line_nos-at
 returns-then-line_nos-at c =
@@ -58,19 +57,19 @@ returns-then-line_nos-at c =
           ∙ sym (ap (λ (m : ℕ). get_or a.line_nos.now a.k 0 + m) z ∙ add-zero (get_or a.line_nos.now a.k 0)));
     }
 
+pub loop-n-smaller : goal.loop-n-smaller
+loop-n-smaller c = omega (arith, c.loop-n-test.true)
+
 pub loop-n-preserved : goal.loop-n-preserved
 loop-n-preserved c =
     let a = c.args in
     let i = c.loop-n.invariant in (
       omega (arith, c.if-at-path_nos.false),
       in_order_more a.path a.line_nos.now a.path_nos.now a.k c.loop-n.n i.1 c.if-path_nos-at.false c.if-line_nos-at.false,
-      omega (arith, c.if-line_nos-at.false, c.type_inv.line_nos (a.k + c.loop-n.n)),
+      omega (arith, c.if-line_nos-at.false, c.shared_slice_known-in-loop-n-2-1.given (a.k + c.loop-n.n)),
     )
 
 pub returns : goal.returns
 returns c =
     let i = c.loop-n.invariant in
-    let e : c.loop-n.n ≡ 65536 = omega (arith, c.loop-n-test.false, c.loop-n.auto.n-end) in
-    let s : Stretch c.args.path c.args.line_nos.now c.args.path_nos.now c.args.k c.loop-n.n =
-    record { lent = i.0; order = i.1; fits = i.2; other = λ z q. omega (arith, z, e) } in
-    rw e at s
+    record { lent = i.0; order = i.1; fits = i.2; other = λ z e. omega (arith, z, c.loop-n-test.false) }

@@ -6,7 +6,6 @@ use mathlib.Core.List.{List, ◌++◌}
 use Prim.Native.Nat.{◌+◌, ◌-◌, ◌/◌}
 use native.Mathlib.Omega.{arith}
 use lib.ListN.{length}
-use Rattle.std.proofs.lemmas.Result.{err_from_is_err_and}
 use Rattle.panel.specs.Verdict.{verdict_told}
 use Rattle.panel.specs.Limits.{most_steps}
 use Rattle.panel.specs.Widths.{ref_words}
@@ -79,22 +78,20 @@ checked c h =
     c.check_line-v.ensures.0
     ∙ ap (λ (xs : List Act). check_no (delta_of (not c.args.walk.e.is_down)) xs c.args.backs.now c.args.counts.now) h
 
-pub returns-in_err-v : goal.returns-in_err-v
+pub returns-in-Err : goal.returns-in-Err
 unfolding most_steps
-returns-in_err-v c =
+returns-in-Err c =
     let k = c.clip_to-clip in
-    let p = err_from_is_err_and c.from_residual.result c.from_residual.ensures.1 in
-    rw (p.1, p.2)
-    (walk_refused (length c.args.refs.now / ref_words) c.args.line.0 c.args.walk c.args.path k.result k.ensures
+    walk_refused (length c.args.refs.now / ref_words) c.args.line.0 c.args.walk c.args.path k.result k.ensures
     (st_of c.args.backs.now c.args.counts.now c.args.refs.now c.args.made)
     c.if-imin-imax.false c.if-after-refs.false _ _ c.requires.0 c.requires.1 (verdict_told c.check_line-v.result)
-    (checked (goal.at.returns-in_err-v c).After-check_line-v (acts (goal.at.returns-in_err-v c).After-rows_by-rows)) _ (ap verdict_told c.in_err-v.was))
+    (checked (goal.at.returns-in-Err c).After-check_line-v (acts (goal.at.returns-in-Err c).After-rows_by-rows)) _ (ap verdict_told c.in-Err.is)
 
 pub write_line-requires : goal.write_line-requires
 unfolding most_steps
 write_line-requires c =
     let k = c.clip_to-clip in
-    let fine = ap verdict_told c.in_ok-v.was in
+    let fine = ap verdict_told c.in_default.is in
     let room = has_room (length c.args.refs.now / ref_words) (c.args.made + (k.result.imax - k.result.imin)) c.if-after-refs.false in (
       c.requires.0,
       rows (goal.at.write_line-requires c).After-rows_by-rows,
