@@ -2,6 +2,7 @@
 use mathlib.Core.Path.{◌≡◌, refl, sym, ap, ◌∙◌}
 use mathlib.Core.Bool.{true, false}
 use mathlib.Core.List.{List, [], ◌∷◌, ◌++◌, append-nil}
+use mathlib.Core.Logic.{◌≢◌}
 use Prim.Native.Nat.{ℕ, zero, suc, ◌+◌, ◌≤◌, ◌<◌, ◌^◌}
 use native.Mathlib.Nat.{not-suc-le-zero, le_of_suc-le-suc, zero-add}
 use native.Mathlib.Numerals.{add-one}
@@ -19,6 +20,10 @@ use Rattle.panel.specs.Answer.{Answer}
 use Rattle.panel.specs.Answer.{Done}
 use Rattle.panel.proofs.KindLaws.{paper_once}
 use Rattle.hand_out.specs.HandOut.{word_for, hand, Out, out_of, hand_checks, hand_out_of}
+
+pub stored_some : (n f : ℕ) → n ≢ 0 → word_for n f ≡ not32 f
+stored_some zero f h = absurd (h refl)
+stored_some (suc n) f h = refl
 
 pub length_hand : (f : ℕ) (ns : List ℕ) → length (hand f ns) ≡ length ns
 length_hand f [] = refl

@@ -1,2 +1,3 @@
 -- What the proofs of several functions share. Assumes nothing.
+pub mod Signs
 pub mod Loops

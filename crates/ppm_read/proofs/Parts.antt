@@ -29,11 +29,17 @@ next_place : (from at : ℕ) → from ≤ at → at + 1 - from ≡ (at - from) +
 next_place from at k = omega arith
 
 -- a turn of the loop that copies: what is left to store is that of the next place on
-pub copy_turn : (file out end : List ℕ) (from at : ℕ) → from ≤ at → at < length file
+pub copy_turn : (file out end : List ℕ) (i at : ℕ) → at < length file
+    → sets out i (drop at file) ≡ end
+    → sets (set out i (get_or file at 0)) (i + 1) (drop (at + 1) file) ≡ end
+copy_turn file out end i at h e =
+    rw (add-one i, add-one at) (sym (ap (sets out i) (drop-cons file at 0 h)) ∙ e)
+
+-- the same where the place is told by the reader's
+pub copy_turn_from : (file out end : List ℕ) (from at : ℕ) → from ≤ at → at < length file
     → sets out (at - from) (drop at file) ≡ end
     → sets (set out (at - from) (get_or file at 0)) (at + 1 - from) (drop (at + 1) file) ≡ end
-copy_turn file out end from at k h e =
-    rw (next_place from at k, add-one (at - from), add-one at) (sym (ap (sets out (at - from)) (drop-cons file at 0 h)) ∙ e)
+copy_turn_from file out end from at k h e = rw (next_place from at k) (copy_turn file out end (at - from) at h e)
 
 pub copy_done : (file out end : List ℕ) (i at : ℕ) → length file ≤ at → sets out i (drop at file) ≡ end → out ≡ end
 copy_done file out end i at h e = sym (ap (sets out i) (drop_of_length-le file h)) ∙ e

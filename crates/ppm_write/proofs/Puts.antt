@@ -3,11 +3,12 @@
 use mathlib.Core.Path.{◌≡◌, refl, sym, ap, ◌∙◌}
 use mathlib.Core.List.{List, [], ◌∷◌, ◌++◌}
 use Prim.Native.Nat.{ℕ, ◌+◌, ◌*◌, ◌/◌, ◌%◌, ◌≤◌, ◌<◌}
+use native.Mathlib.Numerals.{add-one}
 use native.Mathlib.Omega.{arith}
-use lib.ListN.{length, length-append, set, drop, drop_of_length-le}
-use lib.Seq.{sets, length-sets}
+use lib.ListN.{length, length-append, set, get_or, drop, drop_of_length-le}
+use lib.Seq.{sets, length-sets, drop-cons}
 use Rattle.ppm_write.specs.Bytes.{ten, pixel_bytes, magic, newline, largest, fixed_bytes}
-use Rattle.ppm_write.specs.File.{digit, digits_of, decimal, field_of, head_of, raster_of}
+use Rattle.ppm_write.specs.File.{digit, digits_of, decimal, field_of, head_of, red_of, green_of, blue_of, raster_of}
 use Rattle.ppm_write.specs.Write.{Put}
 use Rattle.ppm_write.proofs.Decimal.{decimal_one, decimal_more, length_one, length_more}
 use Rattle.ppm_write.proofs.Stores.{sets_append, sets_more}
@@ -35,6 +36,11 @@ put_length {out} {out'} {bs} {at} p = ap length p.bytes ∙ length-sets out at b
 pub raster_length : (ps : List ℕ) → length (raster_of ps) ≡ pixel_bytes * length ps
 raster_length [] = refl
 raster_length (p ∷ ps) = omega (arith, raster_length ps)
+
+-- the bytes from pixel i on are those of pixel i, then those from the next on
+pub raster_from : (ps : List ℕ) (i : ℕ) → i < length ps
+    → raster_of (drop i ps) ≡ red_of (get_or ps i 0) ∷ green_of (get_or ps i 0) ∷ blue_of (get_or ps i 0) ∷ raster_of (drop (i + 1) ps)
+raster_from ps i h = rw (add-one i, drop-cons ps i 0 h)
 
 pub pixels_done : (ps out end : List ℕ) (to i : ℕ) → length ps ≤ i
     → sets out to (raster_of (drop i ps)) ≡ end

@@ -1,7 +1,7 @@
 -- The loops over a row's pixels and over rows: one turn of each, and its end. Which case of the definition holds. Assumes nothing.
-use mathlib.Core.Path.{◌≡◌}
+use mathlib.Core.Path.{◌≡◌, refl}
 use mathlib.Core.Bool.{true, false, ◌&&◌}
-use mathlib.Core.List.{List}
+use mathlib.Core.List.{List, [], ◌∷◌}
 use Prim.Native.Nat.{ℕ, suc, ◌+◌, ◌-◌, ◌*◌, ◌/◌, ◌%◌, ◌≤◌, ◌<◌}
 use native.Mathlib.Nat.{add-mul, mul_comm, mul-le-mul_right, div-mul-le_self}
 use native.Mathlib.Omega.{arith}
@@ -16,6 +16,10 @@ use Rattle.present.specs.Pixels.{bytes_each, row_bytes, row_of, rows_of}
 use Rattle.present.specs.Present.{whole_of, size_of, left_of, present_of, RowsFit}
 
 -- ---- rows
+
+pub row_length : (order : ℕ) (ps : List ℕ) → length (row_bytes order ps) ≡ bytes_each * length ps
+row_length order [] = refl
+row_length order (p ∷ ps) = omega (arith, row_length order ps)
 
 module _ (n screen w h stride room : ℕ) (f : RowsFit n screen w h stride room) (y : ℕ) (g : y < h) where
   -- row y lies within the pixels
