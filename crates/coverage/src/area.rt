@@ -14,7 +14,7 @@ use one_segment::add_segment;
 use panel::segments::segment_at;
 use sides::TILE_SIZE;
 
-// The n segments from the first on, in order. Room for a segment's rows is made once, as it would be cleared for each.
+// The n segments from the first on, in order. The two tables are made once and lent, as they would be written for each.
 pub fn add_segments(area: &mut [f32], segments: &[f32], first: usize, n: usize, xt: f32, yt: f32)
     requires { (length area.old ≡ tile_size) × (segment_floats * (first + n) ≤ length segments.now) }
     ensures { area.new ≡ mapi (area_after segments.now first xt yt n) area.old }

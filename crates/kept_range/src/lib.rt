@@ -2,7 +2,7 @@
 // refused they get back what they held.
 #![tactic(auto)]
 
-ghost use Rattle.std.specs.Prelude.{◌≡◌, ◌+◌, ◌*◌, ◌≤◌, ◌<◌, length};
+ghost use Rattle.std.specs.Prelude.{◌≡◌, ◌*◌, ◌≤◌, ◌<◌, length};
 ghost use Rattle.panel.specs.Paths.{path_at, path_count};
 ghost use Rattle.panel.specs.Widths.{line_floats};
 ghost use Rattle.walked_lines.specs.Line.{Lent};
