@@ -44,18 +44,18 @@ pub fn relative(c: u8) -> bool
     b'a' <= c
 }
 
-// What a group of a letter's numbers draws.
-#[tactic(auto, using(std::proofs::lemmas::Bool::Decides::nat_tests), unfolding(crate::specs::Outline::kind_of, svg_path::specs::Chars::is_move, svg_path::specs::Chars::is_quad, svg_path::specs::Chars::is_close))]
+// What a group of a letter's numbers draws. By `svg_path`'s tests: letters alone make a table, and `act` a call for each token.
+#[tactic(auto, using(std::proofs::lemmas::Bool::Decides::nat_tests), unfolding(crate::specs::Outline::kind_of))]
 fn kind_at(c: u8) -> Kind
     ensures { result ≡ kind_of c }
 {
     match c {
-        b'M' | b'm' => Kind::Move,
+        _ if movement(c) => Kind::Move,
         b'L' | b'l' => Kind::Line,
         b'H' | b'h' => Kind::Across,
         b'V' | b'v' => Kind::Upright,
-        b'Q' | b'q' => Kind::Curved,
-        b'Z' | b'z' => Kind::Close,
+        _ if quad(c) => Kind::Curved,
+        _ if close(c) => Kind::Close,
         _ => Kind::Rest,
     }
 }
