@@ -14,7 +14,7 @@ use hits::NOTE_ROOM;
 use panel::kinds::{LineNo, Refused, Running};
 use panel::refusals::Refusal;
 use panel::widths::LINE_FLOATS;
-use path_count::count_batch;
+use path_count::{Stopped, count_batch};
 use stretches::{other_no, stretch};
 
 // A recount that is refused: why, the item's number (the path's, or the line's own number), and the references made
@@ -24,6 +24,19 @@ pub struct RecountRefused {
     pub why: Refusal,
     pub item: u32,
     pub made: u32,
+}
+
+// A line of a batch is refused by its own number.
+impl From<Stopped> for RecountRefused {
+    ghost from_gives = { λ s r. r ≡ record { why = s.why; item = s.item; made = s.running.refs } };
+
+    fn from(s: Stopped) -> Self {
+        RecountRefused {
+            why: s.why,
+            item: s.item,
+            made: s.running.refs,
+        }
+    }
 }
 
 // Before the first line no reference is made.
@@ -101,4 +114,21 @@ pub fn count_lines(
         k += n as usize;
     }
     Ok(made)
+}
+
+#[cfg(test)]
+mod tests {
+    use super::*;
+
+    #[test]
+    fn a_stopped_batch_as_a_recount(rt: HostRuntime) {
+        let r = RecountRefused::from(Stopped {
+            why: Refusal::Coordinate,
+            item: 7,
+            running: Running { lines: 2, refs: 5 },
+        });
+        assert!(rt; r.why == Refusal::Coordinate);
+        assert_eq!(rt; r.item, 7);
+        assert_eq!(rt; r.made, 5);
+    }
 }
